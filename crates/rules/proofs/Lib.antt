@@ -1,0 +1,8 @@
+-- Laws of the definitions that code and theorems use.
+pub mod Tests
+pub mod Binds
+pub mod LineLaws
+pub mod CellLaws
+pub mod RunLaws
+pub mod PieceLaws
+pub mod Accepted

@@ -1,0 +1,32 @@
+-- Records cut into pieces: nothing is lost. Assumes nothing.
+use mathlib.Core.Path.{_≡_}
+use mathlib.Core.Bool.{Bool, true, false, not, _&&_}
+use mathlib.Core.List.{List, [], _∷_, _++_}
+use lib.Dec.{T}
+use Rattle.rules.specs.Lines.{Code, Record}
+use Rattle.rules.specs.Parts.{heads, Pieces, pieces}
+use Rattle.rules.specs.Combine.{joined}
+use Rattle.rules.proofs.Tests.{Known, holds, fails, known, is-true, not-false, and-left, and-right}
+
+-- no record of this code
+unfoldable pub noneHeads : Code → List Record → Bool
+noneHeads d [] = true
+noneHeads d (r ∷ rs) = not (heads d r) && noneHeads d rs
+
+-- nothing is lost where records are cut into pieces, one of code d last and none before
+abbrev whole : Pieces → List Record
+whole p = p .waiting ++ joined (p .cut)
+
+pieces-step : (c d : Code) (r : Record) (rs qs : List Record) → whole (pieces c d qs) ≡ rs → T (not (heads d r)) → Known (heads c r)
+    → whole (pieces c d (r ∷ qs)) ≡ r ∷ rs
+unfolding pieces joined
+pieces-step c d r rs qs ih n (holds e) = rw (e, ih)
+pieces-step c d r rs qs ih n (fails e) = rw (e, not-false (heads d r) n, ih)
+
+pub pieces-joined : (c d : Code) (rs : List Record) (t : Record) → T (heads d t) → T (not (heads c t)) → T (noneHeads d rs)
+    → whole (pieces c d (rs ++ (t ∷ []))) ≡ rs
+unfolding pieces joined noneHeads
+pieces-joined c d [] t h k n = rw (not-false (heads c t) k, is-true (heads d t) h)
+pieces-joined c d (r ∷ rs) t h k n =
+    pieces-step c d r rs (rs ++ (t ∷ [])) (pieces-joined c d rs t h k (and-right (not (heads d r)) (noneHeads d rs) n))
+    (and-left (not (heads d r)) (noneHeads d rs) n) (known (heads c r))

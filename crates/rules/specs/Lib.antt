@@ -1,0 +1,19 @@
+-- Document 01 as definitions that compute, section by section. Read in this order.
+pub mod Bytes
+pub mod Outcome
+pub mod Lines
+pub mod Cells
+pub mod Numbers
+pub mod Dates
+pub mod TypeCodes
+pub mod Grammar
+pub mod Records
+pub mod Totals
+pub mod Order
+pub mod Verdict
+pub mod Parts
+pub mod Combine
+pub mod Split
+pub mod Writer
+pub mod Answers
+pub mod Examples
