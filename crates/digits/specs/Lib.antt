@@ -1,0 +1,4 @@
+-- What the code's structs and answers mean in the rules' terms.
+pub mod Kinds
+pub mod Reading
+pub mod Put
