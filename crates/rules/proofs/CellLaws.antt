@@ -1,13 +1,13 @@
 -- A line's cells from its first on. Assumes nothing.
 use mathlib.Core.Path.{_≡_, refl, _∙_}
 use mathlib.Core.Bool.{Bool, not, _&&_}
-use mathlib.Core.List.{List, [], _∷_, _++_}
+use mathlib.Core.List.{[], _∷_, _++_}
 use Prim.Native.Nat.{ℕ, suc, _+_}
 use native.Mathlib.Nat.{add-zero, suc-add, add-suc}
 use lib.Dec.{T, eqb}
 use lib.ListN.{length}
 use Rattle.rules.specs.Bytes.{Bytes, comma, slash, all}
-use Rattle.rules.specs.Cells.{Cell, atComma, atSlash, atLineEnd, cellsFrom, lengthened}
+use Rattle.rules.specs.Cells.{atComma, atSlash, atLineEnd, cellsFrom, lengthened}
 use Rattle.rules.proofs.Tests.{not-false, and-left, and-right}
 
 -- a byte that ends no cell

@@ -2,12 +2,12 @@
 use Prim.Native.Nat.{ℕ}
 use Prim.Native.Char.{code}
 use Prim.Native.String.{String}
-use mathlib.Core.Bool.{Bool, true, false, _&&_}
+use mathlib.Core.Bool.{Bool, true, _&&_}
 use mathlib.Core.List.{List, [], _∷_, _++_}
 use lib.Dec.{T}
 use lib.ListN.{replicate}
 use Rattle.rules.specs.Bytes.{Bytes, LF, blank, isEmpty, all, sameBytes, startsWith, oneOf, trimmedBefore, trimmed}
-use Rattle.rules.specs.Outcome.{Outcome, refused, fine, moved}
+use Rattle.rules.specs.Outcome.{refused, fine, moved}
 use Rattle.rules.specs.Lines.{longerLine, longerFirst, linesOf, begins, codeIn, codeOf, lineBefore, recordsOf, recordSize, lineBytes, recordBytes, fileRecords}
 use Rattle.rules.specs.Cells.{lengthened, cellsFrom, cellsOf, leadingBlanks}
 use Rattle.rules.specs.Numbers.{digits, numberFrom, withoutSign, signed, decimalWithin, decimal, totalBytes}
@@ -15,7 +15,7 @@ use Rattle.rules.specs.Dates.{daysOf, isDate, isTime}
 use Rattle.rules.specs.TypeCodes.{classOf, typeClass}
 use Rattle.rules.specs.Grammar.{fieldsOf, isCurrency, isUnsigned, isSigned, isLength, fundsOf, pairs, pairsOf, pieceOf, judged, andThen, takeNext}
 use Rattle.rules.specs.Records.{behind, taken, pastSlash, takenTo, walkCells, walkLines, walkRecord, the}
-use Rattle.rules.specs.Totals.{Summary, _⊞_, amountOf, sumOf, adding, ofRecord, boundedFrom, rightTotal, rightCount, rightRecords, sumWithin, balanced}
+use Rattle.rules.specs.Totals.{_⊞_, amountOf, sumOf, adding, ofRecord, boundedFrom, rightTotal, rightCount, rightRecords, sumWithin, balanced}
 use Rattle.rules.specs.Order.{among}
 use Rattle.rules.specs.Verdict.{notLonger, allAllowed, coded, goodLine, goodLines, noneLonger, inOrder, readRecord, limitGiven, limitBehind, ownLines, stateBehind, settled, step, run, judge}
 use Rattle.rules.specs.Parts.{pieces, groupPieces, headerIn, groupsIn, fieldsIn, firstFields, receiverOf}

@@ -1,5 +1,5 @@
 -- Document 01, "Order (001)": which record may come next, and which group and account are open. Assumes nothing.
-use mathlib.Core.Bool.{Bool, true, false, cond, not, _||_}
+use mathlib.Core.Bool.{Bool, true, false, cond, _||_}
 use mathlib.Core.List.{List, [], _∷_}
 use Rattle.rules.specs.Lines.{Code, fileHeader, groupHeader, accountHeader, detail, accountTrailer, groupTrailer, fileTrailer, continuation, sameCode}
 use Rattle.rules.specs.Totals.{Summary, noSummary, _⊞_}

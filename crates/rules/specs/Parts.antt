@@ -1,13 +1,13 @@
 -- Document 01, "Parts": the groups, accounts and details of a file, in file order, and the calls that hand one out. Assumes nothing.
 use Prim.Native.Nat.{ℕ, zero, suc, _+_}
-use mathlib.Core.Bool.{Bool, true, false, cond}
-use mathlib.Core.List.{List, [], _∷_, _++_}
+use mathlib.Core.Bool.{Bool, false, cond}
+use mathlib.Core.List.{List, [], _∷_}
 use mathlib.Core.Option.{Option, none, some}
 use Rattle.rules.specs.Bytes.{Bytes, slash, isEmpty, just}
 use Rattle.rules.specs.Numbers.{number, withoutSign}
 use Rattle.rules.specs.Outcome.{Outcome, refused, fine, _>>=_, _>>_, orElse}
-use Rattle.rules.specs.Lines.{Line, Code, groupHeader, accountHeader, detail, accountTrailer, groupTrailer, fileTrailer, begins, Record, recordSize, recordBytes, fileRecords}
-use Rattle.rules.specs.Grammar.{Kind, ultimateReceiver, detailType, amount, text}
+use Rattle.rules.specs.Lines.{Code, groupHeader, accountHeader, detail, accountTrailer, groupTrailer, fileTrailer, begins, Record, recordSize, recordBytes, fileRecords}
+use Rattle.rules.specs.Grammar.{ultimateReceiver, detailType, amount, text}
 use Rattle.rules.specs.Records.{Field, the, walkRecord}
 use Rattle.rules.specs.Verdict.{judge}
 

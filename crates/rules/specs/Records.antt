@@ -1,7 +1,7 @@
 -- Document 01, "fields left to right, where the walk stops at the first fault found": 7, 8 and 9. Places are counted from the record's start,
 -- so that a record means the same wherever it stands. Assumes nothing.
 use Prim.Native.Nat.{ℕ, _+_}
-use mathlib.Core.Bool.{Bool, true, false, cond}
+use mathlib.Core.Bool.{cond}
 use mathlib.Core.List.{List, [], _∷_, _++_}
 use lib.Dec.{eqb}
 use lib.ListN.{length}

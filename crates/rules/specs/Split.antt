@@ -1,10 +1,10 @@
 -- Document 01, "Split (name, file)": header lines, the matching groups, a fresh 99. Assumes nothing.
 use Prim.Native.Nat.{ℕ}
-use mathlib.Core.Bool.{Bool, true, false, cond, _&&_}
+use mathlib.Core.Bool.{Bool, cond, _&&_}
 use mathlib.Core.List.{List, [], _∷_, _++_}
 use lib.ListN.{length}
 use Rattle.rules.specs.Bytes.{Bytes, between, clean, sameBytes}
-use Rattle.rules.specs.Outcome.{Outcome, refused, fine, _>>=_, _>>_, check}
+use Rattle.rules.specs.Outcome.{Outcome, _>>=_, _>>_, check}
 use Rattle.rules.specs.Lines.{Record}
 use Rattle.rules.specs.Verdict.{judge}
 use Rattle.rules.specs.Parts.{headerIn, groupsIn, receiverOf}

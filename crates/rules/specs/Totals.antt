@@ -1,13 +1,13 @@
 -- Document 01, "Totals and counts": what a record adds, and what a trailer must say: 10, then 14, 11, 12, 13. Assumes nothing.
 use Prim.Native.Nat.{ℕ, _+_}
-use mathlib.Core.Bool.{Bool, true, false, cond, _||_}
+use mathlib.Core.Bool.{cond, _||_}
 use mathlib.Core.List.{List, [], _∷_}
 use lib.Dec.{leb, eqb}
 use lib.ListN.{length}
 use Rattle.rules.specs.Numbers.{Sum, zeroSum, _⊕_, asSum, signed, number, magnitudes, equals, most, withinMost}
-use Rattle.rules.specs.Outcome.{Outcome, refused, fine, _>>=_, _>>_, check}
+use Rattle.rules.specs.Outcome.{Outcome, fine, _>>=_, _>>_, check}
 use Rattle.rules.specs.Lines.{Code, fileHeader, groupHeader, accountHeader, detail, accountTrailer, groupTrailer, fileTrailer, continuation, sameCode, Record}
-use Rattle.rules.specs.Grammar.{Kind, amount, statusAmount, total, count, records, sameKind}
+use Rattle.rules.specs.Grammar.{amount, statusAmount, total, count, records, sameKind}
 use Rattle.rules.specs.Records.{Field, the}
 
 -- ---- what records add

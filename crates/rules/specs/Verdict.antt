@@ -1,8 +1,7 @@
 -- Document 01, "Refusals by number": a file's verdict, in the order given there. Assumes nothing.
 use Prim.Native.Nat.{ℕ, suc, _+_}
-use mathlib.Core.Bool.{Bool, true, false, cond, not}
+use mathlib.Core.Bool.{cond, not}
 use mathlib.Core.List.{List, [], _∷_}
-use mathlib.Core.Option.{Option, none, some}
 use lib.Dec.{leb}
 use lib.ListN.{length}
 use Rattle.rules.specs.Bytes.{Bytes, allowed, isEmpty}
