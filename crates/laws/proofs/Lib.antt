@@ -1,0 +1,27 @@
+-- The laws of document 01's definitions. Read in this order.
+pub mod Lists
+pub mod Codes
+pub mod Pieces
+pub mod Envelopes
+pub mod Shape
+pub mod Summaries
+pub mod Counts
+pub mod Steps
+pub mod Runs
+pub mod Controls
+pub mod WholeLines
+pub mod Kept
+pub mod Fields
+pub mod Walks
+pub mod Refusals
+pub mod Fresh99
+pub mod Sums
+pub mod Groups
+pub mod Assembly
+pub mod Calls
+pub mod CombineSplit
+pub mod Demand3
+pub mod Slices
+pub mod ForCode
+pub mod FileTheorems
+pub mod CallTheorems

@@ -1,0 +1,2 @@
+-- The words of the theorems.
+pub mod Words
