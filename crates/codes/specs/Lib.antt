@@ -1,0 +1,2 @@
+-- What the codes stand for.
+pub mod Meanings

@@ -1,0 +1,3 @@
+-- Laws of cutting and judging fields.
+pub mod Cutting
+pub mod Arms

@@ -1,0 +1,2 @@
+-- Lengths that the code finds.
+pub mod Lengths

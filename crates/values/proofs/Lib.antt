@@ -1,0 +1,4 @@
+-- Laws of the tests that the code makes.
+pub mod Shapes
+pub mod Numerals
+pub mod Types

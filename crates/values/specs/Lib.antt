@@ -1,0 +1,2 @@
+-- What the enums and structs of src/ stand for.
+pub mod Meanings

@@ -1,0 +1,3 @@
+-- What the wants and answers of src/ stand for.
+pub mod Wants
+pub mod Takes
