@@ -1,0 +1,28 @@
+-- Parts of a record, from a to e, in two forms. Assumes nothing.
+use Prim.Native.Nat.{ℕ, zero, suc, _+_, _-_, _≤_, _<_}
+use mathlib.Core.Path.{_≡_, ap, sym, _∙_}
+use mathlib.Core.List.{[], _∷_}
+use native.Mathlib.Nat.{suc-add, zero-add}
+use native.Mathlib.Omega.{arith}
+use lib.ListN.{take, drop, getD}
+use lib.Seq.{slice, take-take, drop-drop, getD-drop, getD-take, take-nil}
+use Rattle.rules.specs.Bytes.{Bytes}
+
+pub take-drop : (a k : ℕ) (l : Bytes) → take k (drop a l) ≡ drop a (take (a + k) l)
+take-drop zero k l = ap (λ (n : ℕ). take n l) (sym (zero-add k))
+take-drop (suc a) k [] = take-nil k ∙ sym (ap (λ (l : Bytes). drop (suc a) l) (take-nil (suc a + k)))
+take-drop (suc a) k (x ∷ xs) = take-drop a k xs ∙ ap (λ (n : ℕ). drop (suc a) (take n (x ∷ xs))) (sym (suc-add a k))
+
+-- as the code lends it
+pub part-slice : (a e : ℕ) (s : Bytes) → a ≤ e → take (e - a) (drop a s) ≡ slice a e s
+part-slice a e s h = let q : a + (e - a) ≡ e = omega arith in take-drop a (e - a) s ∙ ap (λ (n : ℕ). slice a n s) q
+
+module _ (s : Bytes) (a e k : ℕ) (h : a + k ≤ e) where
+  pub part-front : take k (slice a e s) ≡ slice a (a + k) s
+  part-front = take-drop a k (take e s) ∙ ap (λ (l : Bytes). drop a l) (take-take (a + k) e s h)
+
+  pub part-back : drop (suc k) (slice a e s) ≡ slice (a + k + 1) e s
+  part-back = let q : a + suc k ≡ a + k + 1 = omega arith in drop-drop (suc k) a (take e s) ∙ ap (λ (n : ℕ). slice n e s) q
+
+pub part-get : (s : Bytes) (a e k : ℕ) → a + k < e → getD (slice a e s) k 0 ≡ getD s (a + k) 0
+part-get s a e k h = getD-drop a (take e s) k 0 ∙ getD-take e s (a + k) 0 h
