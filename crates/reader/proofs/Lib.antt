@@ -1,0 +1,8 @@
+-- The reader's answers, by the cases of its code.
+pub mod Ordering
+pub mod Balancing
+pub mod Places
+pub mod Growing
+pub mod Settles
+pub mod Agreeing
+pub mod Steps

@@ -1,0 +1,58 @@
+-- What the answers for one record say. Assumes nothing.
+use Prim.Native.Nat.{ℕ, _+_, _≤_, _<_}
+use mathlib.Core.Path.{_≡_}
+use lib.ListN.{length}
+use Rattle.rules.specs.Bytes.{Bytes}
+use Rattle.rules.specs.Outcome.{refused, fine}
+use Rattle.rules.specs.Numbers.{most, magnitudes}
+use Rattle.rules.specs.Lines.{Code, linesOf, recordSize}
+use Rattle.rules.specs.Verdict.{mostBytes, step}
+use Rattle.digits.specs.Kinds.{sumMeant}
+use Rattle.lines.specs.Cut.{firstRecord}
+use Rattle.kept.specs.declared.Kept.{Kept}
+use Rattle.kept.specs.Keeping.{Within}
+use Rattle.reader.specs.Meanings.{stateMeant, Held}
+use Rattle.reader.specs.Stepping.{settledK}
+use Rattle.reader.specs.declared.state.State.{State}
+use Rattle.reader.specs.declared.record.Settled.{Settled}
+use Rattle.reader.specs.declared.record.Settled.the-variants as settled
+use Rattle.reader.specs.declared.record.Stepped.{Stepped}
+use Rattle.reader.specs.declared.record.Stepped.the-variants as stepped
+
+-- ---- behind a record's fields
+
+-- what is known there of its n lines and of what was kept
+pub record Settling (s : State) (rec : Bytes) (n : ℕ) (k : Kept) : Type 0 where
+  pub held : Held s
+  pub count : n ≡ length (linesOf rec)
+  pub some-line : 0 < n
+  pub room : s .file .records .0 + n ≤ mostBytes
+  pub sums : s .file .total .0 + s .file .total .1 + magnitudes (sumMeant (k .sum)) ≤ most
+  pub kept : Within (length rec) (s .file .total .0 + s .file .total .1) k
+
+abbrev pub SettledIs : Settled → State → Bytes → Code → ℕ → Kept → Type 0
+SettledIs (settled.Refused m p) s rec c n k = (settledK (stateMeant s) (linesOf rec) c k ≡ refused m (p .0)) × (p .0 ≤ length rec)
+SettledIs (settled.Next t) s rec c n k = (settledK (stateMeant s) (linesOf rec) c k ≡ fine (stateMeant t)) × Held t × (t .file .records .0 ≡ s .file .records .0 + n)
+
+-- ---- the record in front of the rest of a file
+
+-- refused, at a place in it or at most 3 bytes behind
+pub record Stopped (s : State) (rest : Bytes) (k p : ℕ) : Type 0 where
+  pub stops : step (stateMeant s) (firstRecord (linesOf rest)) ≡ refused k p
+  pub some-byte : 0 < length rest
+  pub within : p ≤ length rest + 3
+
+-- accepted: the state behind it, and how many bytes it has
+pub record Passed (s : State) (rest : Bytes) (t : State) (size : ℕ) : Type 0 where
+  pub steps : step (stateMeant s) (firstRecord (linesOf rest)) ≡ fine (stateMeant t)
+  pub extent : size ≡ recordSize (firstRecord (linesOf rest))
+  pub some-byte : 0 < size
+  pub fits : size ≤ length rest
+  pub held : Held t
+  pub lines : t .file .records .0 ≤ s .file .records .0 + size
+
+-- or nothing is left
+abbrev pub StepIs : Stepped → State → Bytes → Type 0
+StepIs stepped.End s rest = length rest ≡ 0
+StepIs (stepped.Refused k p) s rest = Stopped s rest k (p .0)
+StepIs (stepped.Next t size) s rest = Passed s rest t size

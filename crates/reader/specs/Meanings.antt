@@ -1,0 +1,88 @@
+-- What the reader's summaries, states and verdicts say in document 01's terms. Assumes nothing.
+use Prim.Native.Nat.{ℕ, _+_, _≤_}
+use mathlib.Core.Path.{_≡_, ap, ap₂}
+use native.Mathlib.Omega.{arith}
+use Rattle.rules.specs.Outcome.{Outcome, refused, fine}
+use Rattle.rules.specs.Numbers.{most}
+use Rattle.rules.specs.Totals as totals
+use Rattle.rules.specs.Verdict as verdict
+use Rattle.digits.specs.Kinds.{sumMeant}
+use Rattle.reader.specs.Expecting.{expectedMeant}
+use Rattle.reader.specs.declared.Summary.{Summary}
+use Rattle.reader.specs.declared.state.State.{State}
+use Rattle.reader.specs.declared.Verdict.{Verdict}
+use Rattle.reader.specs.declared.Verdict.the-variants.{Accepted, Refused}
+
+-- ---- meanings
+
+-- the summary of no records
+abbrev pub nothingYet : Summary
+nothingYet = record { total = record { 0 = 0; 1 = 0 }; groups = 0; accounts = 0; details = 0; records = record { 0 = 0 } }
+
+abbrev pub summaryMeant : Summary → totals.Summary
+summaryMeant s =
+    record { sum = sumMeant (s .total); groups = s .groups; accounts = s .accounts; details = s .details; lines = s .records .0 }
+
+abbrev pub stateMeant : State → verdict.State
+stateMeant s =
+    record {
+      expected = expectedMeant (s .expected);
+      limit = s .limit;
+      file = summaryMeant (s .file);
+      group = summaryMeant (s .group);
+      account = summaryMeant (s .account);
+    }
+
+abbrev pub verdictMeant : Verdict → Outcome totals.Summary
+verdictMeant (Accepted s) = fine (summaryMeant s)
+verdictMeant (Refused n p) = refused n (p .0)
+
+-- ---- what keeps sums and counts in range
+
+-- no number is beyond the largest sum
+pub record Small (s : Summary) : Type 0 where
+  pub pluses : s .total .0 ≤ most
+  pub minuses : s .total .1 ≤ most
+  pub groups : s .groups ≤ most
+  pub accounts : s .accounts ≤ most
+  pub details : s .details ≤ most
+  pub records : s .records .0 ≤ most
+
+-- no number of the one is beyond the other's
+pub record Below (a b : Summary) : Type 0 where
+  pub pluses : a .total .0 ≤ b .total .0
+  pub minuses : a .total .1 ≤ b .total .1
+  pub groups : a .groups ≤ b .groups
+  pub accounts : a .accounts ≤ b .accounts
+  pub details : a .details ≤ b .details
+  pub records : a .records .0 ≤ b .records .0
+
+-- no more groups, accounts and details than lines
+pub record Counted (s : Summary) : Type 0 where
+  pub groups : s .groups ≤ s .records .0
+  pub accounts : s .accounts ≤ s .records .0
+  pub details : s .details ≤ s .records .0
+
+-- between two records: the magnitudes are within the bound, and the open group and account are parts of the file
+pub record Held (s : State) : Type 0 where
+  pub bound : s .file .total .0 + s .file .total .1 ≤ most
+  pub counted : Counted (s .file)
+  pub group : Below (s .group) (s .file)
+  pub account : Below (s .account) (s .file)
+
+-- ---- one verdict
+
+-- the summary with this meaning
+abbrev summaryOf : totals.Summary → Summary
+summaryOf m =
+    record { total = record { 0 = m .sum .pluses; 1 = m .sum .minuses }; groups = m .groups; accounts = m .accounts; details = m .details; records = record { 0 = m .lines } }
+
+-- two verdicts with the same meaning are the same
+pub one-verdict : (v w : Verdict) → verdictMeant v ≡ verdictMeant w → v ≡ w
+one-verdict (Accepted s) (Accepted t) e = let z : summaryMeant s ≡ summaryMeant t = cc in ap (λ (m : totals.Summary). Accepted (summaryOf m)) z
+one-verdict (Accepted s) (Refused n p) e = let z : _≡_ {A = ℕ} 0 1 = cc in absurd (omega arith)
+one-verdict (Refused n p) (Accepted t) e = let z : _≡_ {A = ℕ} 0 1 = cc in absurd (omega arith)
+one-verdict (Refused n p) (Refused m q) e =
+    let y : n ≡ m = cc in
+    let z : p .0 ≡ q .0 = cc in
+    ap₂ (λ (a b : ℕ). Refused a (record { 0 = b })) y z
