@@ -6,6 +6,7 @@ use lib.ListN.{length, take, drop}
 use Rattle.rules.specs.Bytes.{Bytes}
 use Rattle.rules.specs.Outcome.{refused, fine}
 use Rattle.rules.specs.Lines.{recordBytes, fileRecords}
+use Rattle.rules.specs.Numbers.{magnitudes, most}
 use Rattle.rules.specs.Totals.{Summary}
 use Rattle.rules.specs.Verdict.{judge}
 use Rattle.rules.specs.Parts.{groupsIn, groupPieces, accountPieces, detailPieces, Piece, groupAt, accountAt, detailPieceAt, Detail, detailIn, detailAt}
@@ -53,6 +54,10 @@ totals-nest file s h = totals-of file (is-file file s h)
 -- the summary is what its records add up to
 pub summary-adds-up : (file : Bytes) (s : Summary) → judge file ≡ fine s → s ≡ summaryOfAll (fileRecords file)
 summary-adds-up file s h = summary-is file s h
+
+-- its magnitudes are within the bound of 10
+pub magnitudes-bounded : (file : Bytes) (s : Summary) → judge file ≡ fine s → magnitudes (s .sum) ≤ most
+magnitudes-bounded file s h = rw (summary-is file s h) (decomposed file s h .bounded)
 
 -- its number of groups is the number of the file's groups
 pub groups-counted : (file : Bytes) (s : Summary) → judge file ≡ fine s → s .groups ≡ length (groupsIn file)

@@ -1,0 +1,3 @@
+-- Laws that belong to no one call.
+pub mod Signs
+pub mod Reading

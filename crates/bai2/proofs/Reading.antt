@@ -1,0 +1,39 @@
+-- The reader's verdict in figures. Assumes nothing.
+use Prim.Native.Nat.{ℕ, _+_, _≤_}
+use mathlib.Core.Path.{_≡_, refl, sym, ap, _∙_}
+use lib.IntN.{ℤ, pos}
+use mir.Syntax.{w64}
+use mir.Val.{toZ, ofZ}
+use Rattle.rules.specs.Bytes.{Bytes}
+use Rattle.rules.specs.Outcome.{refused, fine}
+use Rattle.rules.specs.Numbers.{asInteger, most}
+use Rattle.rules.specs.Verdict.{judge}
+use Rattle.rules.specs.Answers.{ReadAnswer, readAnswer, read}
+use Rattle.laws.proofs.FileTheorems.{magnitudes-bounded}
+use Rattle.digits.specs.Kinds.{sumMeant}
+use Rattle.digits.specs.declared.kinds.Place.{Place}
+use Rattle.reader.specs.Meanings.{summaryMeant, verdictMeant}
+use Rattle.reader.specs.declared.Summary.{Summary}
+use Rattle.reader.specs.declared.Verdict.{Verdict}
+use Rattle.reader.specs.declared.Verdict.the-variants.{Accepted, Refused}
+use Rattle.bai2.proofs.Signs.{difference-kept}
+
+module _ (file : Bytes) (v : Verdict) (promised : verdictMeant v ≡ judge file) where
+  judged-fine : (s : Summary) → v ≡ Accepted s → judge file ≡ fine (summaryMeant s)
+  judged-fine s e = sym promised ∙ ap verdictMeant e
+
+  -- an accepted file's sum fits a signed number
+  pub total-fits : (s : Summary) → v ≡ Accepted s → s .total .0 + s .total .1 ≤ most
+  total-fits s e = magnitudes-bounded file (summaryMeant s) (judged-fine s e)
+
+  -- the figures of an accepted file; the total is stored as bits
+  pub accepted-figures : (s : Summary) (n : ℤ) → v ≡ Accepted s → n ≡ asInteger (sumMeant (s .total))
+      → record { number = 0; place = 0; total = toZ w64 (ofZ w64 n); groups = s .groups; accounts = s .accounts; details = s .details; records = s .records .0 } ≡ read file
+  unfolding read readAnswer
+  accepted-figures s n e t = rw (judged-fine s e, t, difference-kept (s .total .0) (s .total .1) (total-fits s e))
+
+  -- the figures of a refused one
+  pub refused-figures : (n : ℕ) (p : Place) → v ≡ Refused n p
+      → record { number = n; place = p .0; total = pos 0; groups = 0; accounts = 0; details = 0; records = 0 } ≡ read file
+  unfolding read readAnswer
+  refused-figures n p e = rw (sym promised ∙ ap verdictMeant e)

@@ -1,0 +1,68 @@
+// The calls for C: numbers and byte slices in, numbers out. include/bai2.h declares them.
+use digits::kinds::Place;
+use digits::kinds::Units;
+use reader::Verdict;
+ghost use mathlib.Core.Path.{_≡_};
+ghost use Prim.Native.Nat.{_+_, _≤_};
+ghost use Rattle.rules.specs.Numbers.{asInteger, most};
+ghost use Rattle.rules.specs.Answers.{read};
+ghost use Rattle.digits.specs.Kinds.{sumMeant};
+ghost use Rattle.bai2.specs.Answers.{readMeant};
+
+// What reading a file answers.
+#[repr(C)]
+pub struct ReadAnswer {
+    pub number: u64,
+    pub place: u64,
+    pub total: i64,
+    pub groups: u64,
+    pub accounts: u64,
+    pub details: u64,
+    pub records: u64,
+}
+
+// A sum as one signed number.
+fn total_of(sum: Units) -> i64
+    requires { ⌜ sum .0 + sum .1 ≤ most ⌝ }
+    ensures { λ r. ⌜ r ≡ asInteger (sumMeant sum) ⌝ }
+{
+    let pluses = sum.0;
+    let minuses = sum.1;
+    if pluses < minuses {
+        return -((minuses - pluses) as i64);
+    }
+    (pluses - minuses) as i64
+}
+
+// A file's summary, or its refusal.
+#[no_mangle]
+pub extern "C" fn bai2_read(file: &[u8]) -> ReadAnswer
+    ensures { λ r. ⌜ readMeant r ≡ read (now (file .entry)) ⌝ }
+{
+    match reader::read(file) {
+        Verdict::Accepted(s) => {
+            let total = s.total;
+            let records = s.records;
+            return ReadAnswer {
+                number: 0,
+                place: 0,
+                total: total_of(total),
+                groups: s.groups,
+                accounts: s.accounts,
+                details: s.details,
+                records: records.0,
+            };
+        }
+        Verdict::Refused(number, place) => {
+            return ReadAnswer {
+                number,
+                place: place.0 as u64,
+                total: 0,
+                groups: 0,
+                accounts: 0,
+                details: 0,
+                records: 0,
+            };
+        }
+    }
+}
