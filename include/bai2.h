@@ -1,5 +1,7 @@
 /* bai2.h: judge, cut, split, combine and write BAI2 (version 2) cash files.
 
+   This version's libbai2.a has bai2_read. The other calls are declared here as they will be.
+
    HOW TO CALL
    Every call takes byte slices, each a pointer and a length, and answers numbers. No call
    allocates, keeps anything between calls, or writes anywhere but into `out`.

@@ -1,0 +1,182 @@
+/* Stands in for the library: the oracle under the library's names, so that the harness itself can be
+   tested. Each -D switch plants one bug that the harness must find:
+   BUG_88_NOT_COUNTED, BUG_DEBIT_SUBTRACTED, BUG_TEXT_CUT, BUG_ZERO_DROPPED, BUG_PLACE_OFF.
+   With STAND_IN defined as a weak attribute it answers only the calls that the library lacks. */
+#include <stdlib.h>
+#include <string.h>
+
+#include "oracle.h"
+
+#ifndef STAND_IN
+#define STAND_IN
+#endif
+
+#if defined BUG_88_NOT_COUNTED || defined BUG_DEBIT_SUBTRACTED
+/* The next line that begins with `code`, from `at` on; the file's length where there is none. */
+static size_t next_line(const uint8_t *file, size_t length, size_t at, const char *code)
+{
+    size_t size = strlen(code);
+    for (; at + size <= length; at++)
+        if ((at == 0 || file[at - 1] == '\n') && memcmp(file + at, code, size) == 0)
+            return at;
+    return length;
+}
+#endif
+
+/* The verdict, with a bug where one is planted. */
+STAND_IN bai2_summary bai2_read(const uint8_t *file, size_t file_length)
+{
+    bai2_summary s = oracle_read(file, file_length);
+#ifdef BUG_88_NOT_COUNTED
+    for (size_t at = 0; s.number == 0 && (at = next_line(file, file_length, at, "88,")) < file_length; at++)
+        s.records--;
+#endif
+#ifdef BUG_DEBIT_SUBTRACTED
+    for (size_t at = 0; s.number == 0 && (at = next_line(file, file_length, at, "16,4")) < file_length; at++)
+        s.total -= 2 * strtoll((const char *)file + at + 7, NULL, 10);
+#endif
+#ifdef BUG_PLACE_OFF
+    if (s.number == 8)
+        s.place++;
+#endif
+    return s;
+}
+
+/* As the oracle. */
+STAND_IN bai2_part bai2_group(const uint8_t *file, size_t file_length, uint64_t group)
+{
+    return oracle_group(file, file_length, group);
+}
+
+/* As the oracle. */
+STAND_IN bai2_part bai2_account(const uint8_t *file, size_t file_length, uint64_t group, uint64_t account)
+{
+    return oracle_account(file, file_length, group, account);
+}
+
+/* As the oracle, with a bug where one is planted. */
+STAND_IN bai2_detail bai2_detail_of(const uint8_t *file, size_t file_length,
+                           uint64_t group, uint64_t account, uint64_t detail)
+{
+    bai2_detail d = oracle_detail_of(file, file_length, group, account, detail);
+#ifdef BUG_TEXT_CUT
+    const uint8_t *slash = d.text_length == 0 ? NULL : memchr(file + d.text_start, '/', d.text_length);
+    if (slash != NULL)
+        d.text_length = (uint64_t)(slash - file) - d.text_start;
+#endif
+    return d;
+}
+
+/* As the oracle, with a bug where one is planted. */
+STAND_IN bai2_answer bai2_split(const uint8_t *name, size_t name_length,
+                       const uint8_t *file, size_t file_length,
+                       uint8_t *out, size_t out_length)
+{
+#ifdef BUG_ZERO_DROPPED
+    for (; name_length > 1 && name_length <= 76 && name[0] == '0'; name_length--)
+        name++;
+#endif
+    return oracle_split(name, name_length, file, file_length, out, out_length);
+}
+
+/* As the oracle. */
+STAND_IN bai2_combined bai2_combine(const uint8_t *a, size_t a_length,
+                           const uint8_t *b, size_t b_length,
+                           uint8_t *out, size_t out_length)
+{
+    return oracle_combine(a, a_length, b, b_length, out, out_length);
+}
+
+/* As the oracle. */
+STAND_IN bai2_writer bai2_writer_new(void)
+{
+    return oracle_writer_new();
+}
+
+/* As the oracle. */
+STAND_IN bai2_written bai2_write_header(bai2_writer writer,
+                               const uint8_t *sender, size_t sender_length,
+                               const uint8_t *receiver, size_t receiver_length,
+                               const uint8_t *date, size_t date_length,
+                               const uint8_t *time, size_t time_length,
+                               const uint8_t *file_number, size_t file_number_length,
+                               uint8_t *out, size_t out_length)
+{
+    return oracle_write_header(writer, sender, sender_length, receiver, receiver_length, date,
+                               date_length, time, time_length, file_number, file_number_length, out,
+                               out_length);
+}
+
+/* As the oracle. */
+STAND_IN bai2_written bai2_write_group(bai2_writer writer,
+                              const uint8_t *receiver, size_t receiver_length,
+                              const uint8_t *originator, size_t originator_length,
+                              const uint8_t *status, size_t status_length,
+                              const uint8_t *date, size_t date_length,
+                              const uint8_t *time, size_t time_length,
+                              const uint8_t *currency, size_t currency_length,
+                              const uint8_t *modifier, size_t modifier_length,
+                              uint8_t *out, size_t out_length)
+{
+    return oracle_write_group(writer, receiver, receiver_length, originator, originator_length, status,
+                              status_length, date, date_length, time, time_length, currency,
+                              currency_length, modifier, modifier_length, out, out_length);
+}
+
+/* As the oracle. */
+STAND_IN bai2_written bai2_write_account(bai2_writer writer,
+                                const uint8_t *account, size_t account_length,
+                                const uint8_t *currency, size_t currency_length,
+                                uint64_t item_given,
+                                const uint8_t *type, size_t type_length,
+                                uint64_t amount_given, int64_t amount,
+                                uint64_t count_given, uint64_t count,
+                                uint8_t *out, size_t out_length)
+{
+    return oracle_write_account(writer, account, account_length, currency, currency_length, item_given,
+                                type, type_length, amount_given, amount, count_given, count, out,
+                                out_length);
+}
+
+/* As the oracle. */
+STAND_IN bai2_written bai2_write_item(bai2_writer writer,
+                             const uint8_t *type, size_t type_length,
+                             uint64_t amount_given, int64_t amount,
+                             uint64_t count_given, uint64_t count,
+                             uint8_t *out, size_t out_length)
+{
+    return oracle_write_item(writer, type, type_length, amount_given, amount, count_given, count, out,
+                             out_length);
+}
+
+/* As the oracle. */
+STAND_IN bai2_written bai2_write_detail(bai2_writer writer,
+                               const uint8_t *type, size_t type_length,
+                               uint64_t amount_given, int64_t amount,
+                               const uint8_t *bank_reference, size_t bank_reference_length,
+                               const uint8_t *customer_reference, size_t customer_reference_length,
+                               const uint8_t *text, size_t text_length,
+                               uint8_t *out, size_t out_length)
+{
+    return oracle_write_detail(writer, type, type_length, amount_given, amount, bank_reference,
+                               bank_reference_length, customer_reference, customer_reference_length,
+                               text, text_length, out, out_length);
+}
+
+/* As the oracle. */
+STAND_IN bai2_written bai2_write_end_account(bai2_writer writer, uint8_t *out, size_t out_length)
+{
+    return oracle_write_end_account(writer, out, out_length);
+}
+
+/* As the oracle. */
+STAND_IN bai2_written bai2_write_end_group(bai2_writer writer, uint8_t *out, size_t out_length)
+{
+    return oracle_write_end_group(writer, out, out_length);
+}
+
+/* As the oracle. */
+STAND_IN bai2_written bai2_write_end_file(bai2_writer writer, uint8_t *out, size_t out_length)
+{
+    return oracle_write_end_file(writer, out, out_length);
+}
