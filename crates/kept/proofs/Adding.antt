@@ -1,15 +1,18 @@
 -- What is kept, by the cases of the code. Assumes nothing.
 use Prim.Native.Nat.{ℕ, _+_, _-_, _≤_, _<_}
 use mathlib.Core.Path.{_≡_, refl, sym}
-use mathlib.Core.Bool.{Bool, true, false}
+use mathlib.Core.Bool.{Bool, true, false, not}
 use native.Mathlib.Nat.{add-zero}
 use native.Mathlib.Omega.{arith}
 use borrow.Author.Tests.{le-leb, lt-leb, lt-ltb, le-ltb, ltb-true, ltb-false}
 use lib.Dec.{ltb}
+use Rattle.rules.specs.Bytes.{Bytes}
 use Rattle.rules.specs.Numbers.{Signed, magnitudes, most}
 use Rattle.digits.specs.Kinds.{sumMeant}
+use Rattle.wants.specs.Wants.{Purpose, forAmount, forTotal, forCount, forRecords, forLength, forNothing, samePurpose}
 use Rattle.kept.specs.declared.Figure.{Figure}
-use Rattle.kept.specs.Keeping.{place, figureWith, Amounts, addTo}
+use Rattle.kept.specs.declared.Kept.{Kept}
+use Rattle.kept.specs.Keeping.{place, figureWith, Amounts, addTo, keepWith, keepRead}
 
 -- ---- the largest
 
@@ -58,3 +61,17 @@ module _ (old : Figure) (p : ℕ) (g : Bool) (a : Signed) where
   pub figure-new : old .seen ≡ false → record { seen = true; given = g; at = place p; negative = a .negative; value = a .magnitude } ≡ figureWith old p g a
   unfolding figureWith
   figure-new h = rw h
+
+-- ---- a field that is kept for nothing
+
+not-so : true ≡ false → ⊥
+not-so h = let z : _≡_ {A = ℕ} 0 1 = cc in omega arith
+
+pub kept-for-nothing : (u : Purpose) (k : Kept) (p : ℕ) (bs : Bytes) → not (samePurpose forNothing u) ≡ false → k ≡ keepRead u k p bs
+unfolding keepRead keepWith
+kept-for-nothing forAmount k p bs h = absurd (not-so h)
+kept-for-nothing forTotal k p bs h = absurd (not-so h)
+kept-for-nothing forCount k p bs h = absurd (not-so h)
+kept-for-nothing forRecords k p bs h = absurd (not-so h)
+kept-for-nothing forLength k p bs h = absurd (not-so h)
+kept-for-nothing forNothing k p bs h = refl

@@ -13,7 +13,7 @@ ghost use Rattle.rules.specs.Numbers.{magnitudes, most};
 ghost use Rattle.rules.specs.Grammar.{nextKind};
 ghost use Rattle.digits.specs.Kinds.{sumMeant};
 ghost use Rattle.digits.specs.Reading.{amountIn};
-ghost use Rattle.wants.specs.Wants.{wantedOf, purpose};
+ghost use Rattle.wants.specs.Wants.{wantedOf, forNothing, samePurpose, purpose};
 ghost use Rattle.kept.specs.Keeping.{noFigure, figureWith, fresh, addedTo, keepRead};
 
 // A trailer's figure, or L. seen: its field was there; given: it was not empty.
@@ -35,6 +35,20 @@ pub struct Kept {
     pub count: Figure,
     pub records: Figure,
     pub length: Figure,
+}
+
+// The next field is kept for something.
+pub fn is_kept(want: Want) -> bool
+    ensures { λ r. ⌜ r ≡ not (samePurpose forNothing (purpose (nextKind (wantedOf want)))) ⌝ }
+{
+    match wants::want::kept_for(want) {
+        Keep::Amount => true,
+        Keep::Total => true,
+        Keep::Count => true,
+        Keep::Records => true,
+        Keep::Length => true,
+        Keep::Nothing => false,
+    }
 }
 
 impl Figure {

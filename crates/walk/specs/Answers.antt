@@ -9,21 +9,9 @@ use Rattle.wants.specs.declared.want.Want.{Want}
 use Rattle.wants.specs.Wants.{wantedOf}
 use Rattle.kept.specs.declared.Kept.{Kept}
 use Rattle.kept.specs.Keeping.{fresh, Within}
-use Rattle.walk.specs.declared.Point.{Point}
-use Rattle.walk.specs.declared.Step.{Step}
-use Rattle.walk.specs.declared.Step.the-variants as step
 use Rattle.walk.specs.declared.Walked.{Walked}
 use Rattle.walk.specs.declared.Walked.the-variants.{Refused, Done}
-use Rattle.walk.specs.Working.{WalkK, point, walkFrom}
-
--- where the walk stands
-abbrev pub pointMeant : Point → WalkK
-pointMeant here = point (wantedOf (here .want)) (here .kept) (here .slash .0)
-
--- what a field at p gave
-abbrev pub stepOf : ℕ → Step → Outcome WalkK
-stepOf p (step.Next here) = fine (pointMeant here)
-stepOf p (step.Refused n) = refused n p
+use Rattle.walk.specs.Working.{walkFrom}
 
 -- the answer
 abbrev pub walkedOf : Walked → Outcome Kept

@@ -7,9 +7,8 @@ use wants::want;
 use wants::want::Want;
 ghost use mathlib.Core.Path.{_≡_};
 ghost use Rattle.wants.specs.Wants.{wantedOf};
-ghost use Rattle.kept.specs.Keeping.{fresh};
-ghost use Rattle.walk.specs.Working.{point, takenK, endK};
-ghost use Rattle.walk.specs.Answers.{pointMeant, stepOf, walkedOf, Walks};
+ghost use Rattle.walk.specs.Working.{point, endK};
+ghost use Rattle.walk.specs.Answers.{walkedOf, Walks};
 
 // The number of a refusal and its place in the record, or what was kept.
 pub enum Walked {
@@ -17,54 +16,10 @@ pub enum Walked {
     Done(Kept),
 }
 
-// Where the walk stands: what is wanted next, what was kept, and the last slash that ended a line.
-struct Point {
-    want: Want,
-    kept: Kept,
-    slash: Place,
-}
-
-// The point behind a field, or the number of its refusal.
-enum Step {
-    Next(Point),
-    Refused(u64),
-}
-
-// Before the first field, behind records with these magnitudes.
-fn start(first: Want, before: u64) -> Point
-    ensures { λ r. ⌜ pointMeant r ≡ point (wantedOf first) (fresh before) 0 ⌝ }
+// Behind the record's last line, with this wanted, this kept and the last slash that ended a line: what is missing.
+fn finish(want: Want, kept: Kept, slash: Place) -> Walked
+    ensures { λ r. ⌜ walkedOf r ≡ endK (point (wantedOf want) kept (slash .0)) ⌝ }
 {
-    Point {
-        want: first,
-        kept: Kept::none(before),
-        slash: Place(0),
-    }
-}
-
-// Behind a field at this place with these bytes.
-fn take(here: Point, at: Place, f: &[u8]) -> Step
-    ensures { λ r. ⌜ stepOf (at .0) r ≡ takenK (at .0) (now (f .entry)) (pointMeant here) ⌝ }
-{
-    let want = here.want;
-    let kept = here.kept;
-    let slash = here.slash;
-    match fields::take_field(want, f) {
-        Taken::Refused(n) => Step::Refused(n),
-        Taken::Next(next) => Step::Next(Point {
-            want: next,
-            kept: kept.keep(want, at, f),
-            slash,
-        }),
-    }
-}
-
-// Behind the record's last line: what is missing.
-fn finish(here: Point) -> Walked
-    ensures { λ r. ⌜ walkedOf r ≡ endK (pointMeant here) ⌝ }
-{
-    let want = here.want;
-    let kept = here.kept;
-    let slash = here.slash;
     if want::may_lack(want) {
         return Walked::Done(kept);
     }
@@ -75,11 +30,13 @@ fn finish(here: Point) -> Walked
 pub fn walk_record(rec: &[u8], first: Want, before: u64) -> Walked
     ensures { λ r. ⌜ Walks (now (rec .entry)) first before r ⌝ }
 {
-    let mut here = start(first, before);
+    let mut want = first;
+    let mut kept = Kept::none(before);
+    let mut slash = Place(0);
     let mut at: usize = 0;
     'walk: loop {
         if rec.len() <= at {
-            break 'walk finish(here);
+            break 'walk finish(want, kept, slash);
         }
         let e = lines::body_end(rec, at);
         let mut a = at + 3;
@@ -88,15 +45,17 @@ pub fn walk_record(rec: &[u8], first: Want, before: u64) -> Walked
             break 'walk Walked::Refused(7, Place(a));
         }
         loop {
-            let want = here.want;
             let text = want::is_text(want);
             let Cut::Field(n) = fields::cut_field(text, &rec[a..e]) else {
                 break 'walk Walked::Refused(7, Place(e));
             };
             let f = a + n;
-            match take(here, Place(a), &rec[a..f]) {
-                Step::Refused(k) => break 'walk Walked::Refused(k, Place(a)),
-                Step::Next(next) => here = next,
+            if kept::is_kept(want) {
+                kept = kept.keep(want, Place(a), &rec[a..f]);
+            }
+            match fields::take_field(want, &rec[a..f]) {
+                Taken::Refused(k) => break 'walk Walked::Refused(k, Place(a)),
+                Taken::Next(next) => want = next,
             }
             if text {
                 break;
@@ -107,8 +66,7 @@ pub fn walk_record(rec: &[u8], first: Want, before: u64) -> Walked
                 if t < e {
                     break 'walk Walked::Refused(7, Place(t));
                 }
-                let last = Place(f);
-                here.slash = last;
+                slash = Place(f);
                 break;
             }
         }

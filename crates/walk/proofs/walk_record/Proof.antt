@@ -2,49 +2,50 @@
 use Prim.Native.Nat.{ℕ, _+_, _-_, _≤_, _<_, zero-le}
 use mathlib.Core.Path.{_≡_, refl, ap, sym, _∙_}
 use mathlib.Core.Bool.{Bool, false}
+use mathlib.Core.Logic.{⊎-elim}
 use native.Mathlib.Omega.{arith}
-use lib.Seq.{slice, length-slice}
 use lib.ListN.{length, drop, take}
-use lib.Seq.{slice}
+use lib.Seq.{slice, length-slice}
 use borrow.Author.Needs.{needs}
 use Rattle.rules.specs.Bytes.{Bytes}
 use Rattle.rules.specs.Outcome.{refused, fine}
 use Rattle.rules.specs.Lines.{linesOf}
 use Rattle.rules.specs.Cells.{cellsFrom, leadingBlanks}
-use Rattle.rules.specs.Grammar.{nextKind, isText}
+use Rattle.rules.specs.Grammar.{takeNext, nextKind, isText}
 use Rattle.lines.specs.Cut.{lineLen}
 use Rattle.lines.proofs.Passing.{next-is, next-within, next-behind}
-use Rattle.wants.specs.Wants.{wantedOf}
+use Rattle.wants.specs.Wants.{wantedOf, purpose}
+use Rattle.wants.specs.Takes.{judgedOf}
 use Rattle.fields.specs.declared.Cut.the-variants as cut
 use Rattle.fields.specs.Lengths.{cutOf}
-use Rattle.kept.specs.Keeping.{fresh}
-use Rattle.walk.specs.declared.Step.{Step}
-use Rattle.walk.specs.Working.{WalkK, takenK, walkCellsK, walkLinesK, walkFrom}
-use Rattle.walk.specs.Answers.{pointMeant, stepOf}
+use Rattle.kept.specs.declared.Kept.{Kept}
+use Rattle.kept.specs.Keeping.{fresh, keepRead}
+use Rattle.kept.proofs.Adding.{kept-for-nothing}
+use Rattle.walk.specs.Working.{WalkK, point, takenK, walkCellsK, walkLinesK, walkFrom}
 use Rattle.walk.proofs.Parts.{part-slice}
 use Rattle.walk.proofs.Bounding.{Fits, start-fits, taken-fits, end-bounds}
-use Rattle.walk.proofs.Walking.{open-here, field-within, wrong-here, text-here, field-short, comma-here, blanks-here, byte-here, short-here, line-stop, line-go, lines-end, from-stop, from-end}
+use Rattle.walk.proofs.Walking.{took-bad, took-good, open-here, field-within, wrong-here, text-here, field-short, comma-here, blanks-here, byte-here, short-here, line-stop, line-go, lines-end, from-stop, from-end}
 use Rattle.walk.proofs.walk_record.Statement.{statement}
 use Rattle.walk.proofs.walk_record.Tie as tie
 
 abbrev Inv-loop : tie.InvT-loop
-Inv-loop rec before here₀ at e a₀ here a =
+Inv-loop rec before want₀ kept₀ slash₀ at e a₀ want kept slash a =
     (a ≤ e)
     × (e ≤ length rec)
-    × Fits (length rec) before (pointMeant here)
-    × (walkCellsK (pointMeant here₀) (cellsFrom a₀ (slice a₀ e rec)) ≡ walkCellsK (pointMeant here) (cellsFrom a (slice a e rec)))
+    × Fits (length rec) before (point (wantedOf want) kept (slash .0))
+    × (walkCellsK (point (wantedOf want₀) kept₀ (slash₀ .0)) (cellsFrom a₀ (slice a₀ e rec)) ≡ walkCellsK (point (wantedOf want) kept (slash .0)) (cellsFrom a (slice a e rec)))
 
 abbrev μ-loop : tie.MeasureT-loop
-μ-loop rec before here₀ at e a₀ here a = e - a
+μ-loop rec before want₀ kept₀ slash₀ at e a₀ want kept slash a = e - a
 
 abbrev Inv-walk : tie.InvT-walk
-Inv-walk rec before here₀ at₀ here at =
+Inv-walk rec before want₀ kept₀ slash₀ at₀ want kept slash at =
     (at ≤ length rec)
-    × Fits (length rec) before (pointMeant here)
-    × (walkLinesK 0 (pointMeant here₀) (linesOf rec) ≡ walkLinesK at (pointMeant here) (linesOf (drop at rec)))
+    × Fits (length rec) before (point (wantedOf want) kept (slash .0))
+    × (walkLinesK 0 (point (wantedOf want₀) kept₀ (slash₀ .0)) (linesOf rec) ≡ walkLinesK at (point (wantedOf want) kept (slash .0)) (linesOf (drop at rec)))
 
 abbrev μ-walk : tie.MeasureT-walk
-μ-walk rec before here₀ at₀ here at = length rec - at
+μ-walk rec before want₀ kept₀ slash₀ at₀ want kept slash at = length rec - at
 
 -- ---- at a line: the record, the line's start and end, the next line, and the walk where the line starts
 
@@ -67,7 +68,19 @@ abbrev next-of : Line → ℕ
 next-of c = end-of c + c .end-len .result
 
 abbrev from-of : Line → WalkK
-from-of c = pointMeant (c .before .before .before .walk .here)
+from-of c =
+    let w = c .before .before .before .walk in
+    point (wantedOf (w .want)) (w .kept) (w .slash .0)
+
+-- the walk where the record starts
+abbrev Made : Type 0
+Made = tie.After-none Inv-loop μ-loop Inv-walk μ-walk
+
+abbrev first-of : Made → WalkK
+first-of c = point (wantedOf (c .before .before .args .first)) (c .none .result) 0
+
+first-is : (c : Made) → first-of c ≡ point (wantedOf (c .before .before .args .first)) (fresh (c .before .before .args .before)) 0
+first-is c = ap (λ (k : Kept). point (wantedOf (c .before .before .args .first)) k 0) (c .none .ensures)
 
 some-byte : (c : Line) → start-of c < length (rec-of c)
 some-byte c = c .before .before .if1 .left
@@ -95,12 +108,12 @@ behind c =
 stop : (c : Line) (n q : ℕ) → walkCellsK (from-of c) (cellsFrom (start-of c + 3) (slice (start-of c + 3) (end-of c) (rec-of c))) ≡ refused n q
     → refused n q ≡ walkFrom (wantedOf (entry c .args .first)) (fresh (entry c .args .before)) (linesOf (rec-of c))
 stop c n q r =
-    from-stop _ _ (linesOf (rec-of c)) (pointMeant (c .before .before .before .before .start .result)) (c .before .before .before .before .start .ensures) n q
+    from-stop _ _ (linesOf (rec-of c)) (first-of (c .before .before .before .before)) (first-is (c .before .before .before .before)) n q
     (c .before .before .before .walk .inv .2 ∙ line-stop (rec-of c) (start-of c) (end-of c) (next-of c) (some-byte c) (c .before .body-end .ensures .0) (next-at c) (from-of c) n q r)
 
 -- the walk goes on at the next line where this one is good
 go-on : (c : Line) (v : WalkK) → walkCellsK (from-of c) (cellsFrom (start-of c + 3) (slice (start-of c + 3) (end-of c) (rec-of c))) ≡ fine v
-    → walkLinesK 0 (pointMeant (c .before .before .before .before .start .result)) (linesOf (rec-of c)) ≡ walkLinesK (next-of c) v (linesOf (drop (next-of c) (rec-of c)))
+    → walkLinesK 0 (first-of (c .before .before .before .before)) (linesOf (rec-of c)) ≡ walkLinesK (next-of c) v (linesOf (drop (next-of c) (rec-of c)))
 go-on c v r =
     c .before .before .before .walk .inv .2 ∙ line-go (rec-of c) (start-of c) (end-of c) (next-of c) (some-byte c) (c .before .body-end .ensures .0) (next-at c) (from-of c) v r
 
@@ -116,13 +129,13 @@ abbrev at-of : Head → ℕ
 at-of c = c .loop .a
 
 abbrev here : Head → WalkK
-here c = pointMeant (c .loop .here)
+here c = point (wantedOf (c .loop .want)) (c .loop .kept) (c .loop .slash .0)
 
 abbrev left : Head → Bytes
 left c = slice (at-of c) (end-of (line c)) (rec-of (line c))
 
 abbrev wants-text : Head → Bool
-wants-text c = isText (nextKind (wantedOf (c .loop .here .want)))
+wants-text c = isText (nextKind (wantedOf (c .loop .want)))
 
 -- ---- the field is cut
 
@@ -142,6 +155,9 @@ Field = tie.After-known-told Inv-loop μ-loop Inv-walk μ-walk
 abbrev head : Field → Head
 head c = c .before .before .before .before .before .before
 
+abbrev asked : Field → tie.After-is-text Inv-loop μ-loop Inv-walk μ-walk
+asked c = c .before .before .before .before .before
+
 abbrev size : Field → ℕ
 size c = c .before .n .given .0 .0
 
@@ -155,19 +171,40 @@ inside c =
 abbrev bytes : Field → Bytes
 bytes c = slice (at-of (head c)) (at-of (head c) + size c) (rec-of (line (head c)))
 
+-- as the code lends it
+lent : (c : Field) → take (at-of (head c) + size c - at-of (head c)) (drop (at-of (head c)) (rec-of (line (head c)))) ≡ bytes c
+lent c = part-slice (at-of (head c)) (at-of (head c) + size c) (rec-of (line (head c))) (omega arith)
+
+-- ---- the field is kept
+
+abbrev Noted : Type 0
+Noted = tie.Joined3 Inv-loop μ-loop Inv-walk μ-walk
+
+abbrev noted-field : Noted → Field
+noted-field c = c .before .before
+
+kept-is : (c : Noted) → c .if3 .kept ≡ keepRead (purpose (nextKind (here (head (noted-field c)) .wanted))) (here (head (noted-field c)) .kept) (at-of (head (noted-field c))) (bytes (noted-field c))
+kept-is c =
+    let g = noted-field c in
+    let h = head g in
+    ⊎-elim
+    (λ t. t .3 ∙ t .2 .ensures ∙ ap (λ (bs : Bytes). keepRead (purpose (nextKind (here h .wanted))) (here h .kept) (at-of h) bs) (lent g))
+    (λ t. t .1 ∙ kept-for-nothing (purpose (nextKind (here h .wanted))) (here h .kept) (at-of h) (bytes g) (sym (c .before .is-kept .ensures) ∙ t .0 .left))
+    (c .if3 .came)
+
 -- ---- the field is judged
 
 abbrev Judged : Type 0
-Judged = tie.After-take Inv-loop μ-loop Inv-walk μ-walk
+Judged = tie.After-take-field Inv-loop μ-loop Inv-walk μ-walk
+
+abbrev noted : Judged → Noted
+noted c = c .before .before
 
 abbrev field : Judged → Field
-field c = c .before .before
+field c = noted-field (noted c)
 
-judged-is : (c : Judged) → stepOf (at-of (head (field c))) (c .take .result) ≡ takenK (at-of (head (field c))) (bytes (field c)) (here (head (field c)))
-judged-is c =
-    let g = field c in
-    c .take .ensures
-    ∙ ap (λ (bs : Bytes). takenK (at-of (head g)) bs (here (head g))) (part-slice (at-of (head g)) (at-of (head g) + size g) (rec-of (line (head g))) (omega arith))
+judged-is : (c : Judged) → judgedOf (c .take-field .result) ≡ takeNext (here (head (field c)) .wanted) (bytes (field c))
+judged-is c = c .take-field .ensures ∙ ap (λ (bs : Bytes). takeNext (here (head (field c)) .wanted) bs) (lent (field c))
 
 abbrev Good : Type 0
 Good = tie.After-known-told3 Inv-loop μ-loop Inv-walk μ-walk
@@ -176,12 +213,14 @@ abbrev good-field : Good → Field
 good-field c = field (c .before .before .before)
 
 abbrev then : Good → WalkK
-then c = pointMeant (c .before .next .given .0 .0)
+then c = point (wantedOf (c .before .next .given .0 .0)) (noted (c .before .before .before) .if3 .kept) (here (head (good-field c)) .lastSlash)
 
 took : (c : Good) → takenK (at-of (head (good-field c))) (bytes (good-field c)) (here (head (good-field c))) ≡ fine (then c)
+unfolding judgedOf
 took c =
-    sym (judged-is (c .before .before .before))
-    ∙ ap (λ (r : Step). stepOf (at-of (head (good-field c))) r) (c .before .next .given .1)
+    let j = c .before .before .before in
+    took-good (at-of (head (field j))) (bytes (field j)) (here (head (field j))) _ _
+    (sym (judged-is j) ∙ ap judgedOf (c .before .next .given .1)) (kept-is (noted j))
 
 fits : (c : Good) → Fits (length (rec-of (line (head (good-field c))))) (entry (line (head (good-field c))) .args .before) (then c)
 fits c =
@@ -191,10 +230,10 @@ fits c =
 -- ---- the field is no text
 
 abbrev Plain : Type 0
-Plain = tie.Else3 Inv-loop μ-loop Inv-walk μ-walk
+Plain = tie.Else4 Inv-loop μ-loop Inv-walk μ-walk
 
 no-text : (c : Plain) → wants-text (head (good-field (c .before))) ≡ false
-no-text c = sym (c .before .before .before .before .before .before .before .before .before .before .before .is-text .ensures) ∙ c .if3 .left
+no-text c = sym (asked (good-field (c .before)) .is-text .ensures) ∙ c .if4 .left
 
 short : (c : Plain) → at-of (head (good-field (c .before))) + size (good-field (c .before)) < end-of (line (head (good-field (c .before))))
 short c =
@@ -234,7 +273,7 @@ blanks-in c =
     )
 
 walk-holds : tie.Need-walk-holds Inv-loop μ-loop Inv-walk μ-walk
-walk-holds c = (zero-le, start-fits _ _ (pointMeant (c .start .result)) (ap (λ (w : WalkK). w .kept) (c .start .ensures)) (ap (λ (w : WalkK). w .lastSlash) (c .start .ensures)), refl)
+walk-holds c = (zero-le, start-fits _ _ (first-of c) (c .none .ensures) refl, refl)
 
 add-a : tie.Need-add-a Inv-loop μ-loop Inv-walk μ-walk
 add-a c = omega (arith, c .before .if1 .left)
@@ -248,8 +287,11 @@ loop-holds c = (omega arith, ends (c .before), c .before .before .before .before
 add-f : tie.Need-add-f Inv-loop μ-loop Inv-walk μ-walk
 add-f c = omega (arith, inside c, ends (line (head c)))
 
-part-take-end : tie.Need-part-take-end Inv-loop μ-loop Inv-walk μ-walk
-part-take-end c = omega (arith, inside c, ends (line (head c)))
+part-keep-end : tie.Need-part-keep-end Inv-loop μ-loop Inv-walk μ-walk
+part-keep-end c = let g = c .before .before in omega (arith, inside g, ends (line (head g)))
+
+part-take-field-end : tie.Need-part-take-field-end Inv-loop μ-loop Inv-walk μ-walk
+part-take-field-end c = let g = noted-field c in omega (arith, inside g, ends (line (head g)))
 
 walk-less : tie.Need-walk-less Inv-loop μ-loop Inv-walk μ-walk
 walk-less c = let l = line (head (good-field (c .before))) in omega (arith, behind l, within l)
@@ -263,14 +305,14 @@ walk-again c =
       go-on (line h) (then (c .before)) (h .loop .inv .3
           ∙ text-here (rec-of (line h)) (here h) (at-of h) (end-of (line h))
           (h .loop .inv .0) (h .loop .inv .1) (size g) (field-cut g) (then (c .before))
-          (sym (c .before .before .before .before .before .before .before .before .before .before .before .is-text .ensures) ∙ c .if3 .taken) (took (c .before))),
+          (sym (asked (good-field (c .before)) .is-text .ensures) ∙ c .if4 .taken) (took (c .before))),
     )
 
 add-a-2 : tie.Need-add-a-2 Inv-loop μ-loop Inv-walk μ-walk
 add-a-2 c = omega (arith, short c, ends (line (head (good-field (c .before)))))
 
-shared-slice-read-if4 : tie.Need-shared-slice-read-if4 Inv-loop μ-loop Inv-walk μ-walk
-shared-slice-read-if4 c = omega (arith, short (c .before), ends (line (head (good-field (c .before .before)))))
+shared-slice-read-if5 : tie.Need-shared-slice-read-if5 Inv-loop μ-loop Inv-walk μ-walk
+shared-slice-read-if5 c = omega (arith, short (c .before), ends (line (head (good-field (c .before .before)))))
 
 sub-blanks-len : tie.Need-sub-blanks-len Inv-loop μ-loop Inv-walk μ-walk
 sub-blanks-len c = omega (arith, short (c .before .before))
@@ -298,7 +340,7 @@ walk-again-2 c =
       go-on (line h) _ (h .loop .inv .3
           ∙ blanks-here (rec-of (line h)) (here h) (at-of h) (end-of (line h))
           (h .loop .inv .0) (h .loop .inv .1) (size g) (field-cut g)
-          (no-text plain) (then good) (took good) (c .before .before .before .if4 .taken) _ b (c .if5 .left) (blanks-in (c .before))),
+          (no-text plain) (then good) (took good) (c .before .before .before .if5 .taken) _ b (c .if6 .left) (blanks-in (c .before))),
     )
 
 loop-less : tie.Need-loop-less Inv-loop μ-loop Inv-walk μ-walk
@@ -316,17 +358,18 @@ loop-again c =
       h .loop .inv .3
           ∙ comma-here (rec-of (line h)) (here h) (at-of h) (end-of (line h))
           (h .loop .inv .0) (h .loop .inv .1) (size g) (field-cut g)
-          (no-text plain) (then good) (took good) (c .if4 .left),
+          (no-text plain) (then good) (took good) (c .if5 .left),
     )
 
 returns : tie.Need-returns Inv-loop μ-loop Inv-walk μ-walk
 returns c =
     let w = c .before .before in
-    let s = c .before .before .before .before .before .args .rec .now in
+    let s = w .before .before .before .args .rec .now in
+    let p = point (wantedOf (w .walk .want)) (w .walk .kept) (w .walk .slash .0) in
     record {
-      answer = from-end _ _ (linesOf s) (pointMeant (w .before .start .result)) (w .before .start .ensures) (pointMeant (w .walk .here)) _
-          (w .walk .inv .2 ∙ lines-end s (pointMeant (w .walk .here)) (w .walk .at) (c .before .if1 .taken)) (c .finish .ensures);
-      bounds = end-bounds _ _ (c .finish .result) (pointMeant (w .walk .here)) (c .finish .ensures) (w .walk .inv .1);
+      answer = from-end _ _ (linesOf s) (first-of (w .before)) (first-is (w .before)) p _
+          (w .walk .inv .2 ∙ lines-end s p (w .walk .at) (c .before .if1 .taken)) (c .finish .ensures);
+      bounds = end-bounds _ _ (c .finish .result) p (c .finish .ensures) (w .walk .inv .1);
     }
 
 returns-2 : tie.Need-returns-2 Inv-loop μ-loop Inv-walk μ-walk
@@ -347,6 +390,7 @@ returns-3 c =
     }
 
 returns-4 : tie.Need-returns-4 Inv-loop μ-loop Inv-walk μ-walk
+unfolding judgedOf
 returns-4 c =
     let g = field (c .before .before .before) in
     let h = head g in
@@ -354,7 +398,7 @@ returns-4 c =
       answer = stop (line h) _ (at-of h) (h .loop .inv .3
           ∙ wrong-here (rec-of (line h)) (here h) (at-of h) (end-of (line h))
           (h .loop .inv .0) (h .loop .inv .1) (size g) (field-cut g) _
-          (sym (judged-is (c .before .before .before)) ∙ ap (λ (r : Step). stepOf (at-of h) r) (c .before .k .given .1)));
+          (took-bad (at-of h) (bytes g) (here h) _ (sym (judged-is (c .before .before .before)) ∙ ap judgedOf (c .before .k .given .1))));
       bounds = omega (arith, ends (line h), h .loop .inv .0);
     }
 
@@ -369,8 +413,8 @@ returns-5 c =
       answer = stop (line h) 7 _ (h .loop .inv .3
           ∙ byte-here (rec-of (line h)) (here h) (at-of h) (end-of (line h))
           (h .loop .inv .0) (h .loop .inv .1) (size g) (field-cut g)
-          (no-text plain) (then good) (took good) (c .before .before .before .if4 .taken) _ b (c .if5 .taken));
-      bounds = omega (arith, ends (line h), c .if5 .taken);
+          (no-text plain) (then good) (took good) (c .before .before .before .if5 .taken) _ b (c .if6 .taken));
+      bounds = omega (arith, ends (line h), c .if6 .taken);
     }
 
 pub walk-record-spec : {M : Type 1} → statement M
@@ -397,16 +441,21 @@ walk-record-spec =
     (λ c. search needs)
     (λ c. search needs)
     add-f
+    (λ c κs. search needs)
     (λ c. search needs)
     (λ c. search needs)
-    part-take-end
+    part-keep-end
+    (λ c κs. search needs)
+    (λ c. search needs)
+    (λ c. search needs)
+    part-take-field-end
     (λ c κs. search needs)
     (λ c. search needs)
     (λ c. search needs)
     walk-less
     walk-again
     add-a-2
-    shared-slice-read-if4
+    shared-slice-read-if5
     sub-blanks-len
     part-blanks-len-start
     (λ c. search needs)
