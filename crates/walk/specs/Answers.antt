@@ -1,4 +1,4 @@
--- What the structs and answers of src/ stand for, and what `walk_record` promises. Assumes nothing.
+-- What the answers of src/ stand for, and what `walk_record` promises. Assumes nothing.
 use Prim.Native.Nat.{ℕ, _+_, _≤_}
 use mathlib.Core.Path.{_≡_}
 use lib.ListN.{length}
