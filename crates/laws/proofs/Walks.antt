@@ -67,12 +67,12 @@ module _ (I : List Kind → List Field → Type 0)
   cells-step c cs w v i ih true h = taken-keeps (c .place) (trimmed (c .rest)) w v i h
   cells-step c cs w v i ih false h = from-bind (takenTo (c .mark) c w) _ v h (λ u first rest. ih u (to-keeps (c .mark) c w u i first) rest)
 
-  cells-keep : (cs : List Cell) (w v : Walk) → Holds w → walkCells w cs ≡ fine v → Holds v
+  pub cells-keep : (cs : List Cell) (w v : Walk) → Holds w → walkCells w cs ≡ fine v → Holds v
   unfolding walkCells
   cells-keep [] w v i h = subst Holds (fine-same w v h) i
   cells-keep (c ∷ cs) w v i h = cells-step c cs w v i (λ u j k. cells-keep cs u v j k) (isText (nextKind (w .wanted))) h
 
-  lines-keep : (p : ℕ) (ls : List Line) (w v : Walk) → Holds w → walkLines p w ls ≡ fine v → Holds v
+  pub lines-keep : (p : ℕ) (ls : List Line) (w v : Walk) → Holds w → walkLines p w ls ≡ fine v → Holds v
   unfolding walkLines
   lines-keep p [] w v i h = subst Holds (fine-same w v h) i
   lines-keep p (l ∷ ls) w v i h =

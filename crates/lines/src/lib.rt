@@ -63,7 +63,7 @@ pub fn next_line(s: &[u8], at: usize) -> usize
 }
 
 // x, y and a comma stand at `at`.
-fn begins_with(s: &[u8], at: usize, x: u8, y: u8) -> bool
+pub fn begins_with(s: &[u8], at: usize, x: u8, y: u8) -> bool
     ensures { λ r. ⌜ r ≡ sameBytes (x ∷ y ∷ 44 ∷ []) (take 3 (drop at (now (s .entry)))) ⌝ }
 {
     if s.len() < 3 {

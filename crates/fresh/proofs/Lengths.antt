@@ -1,0 +1,38 @@
+-- No fresh 99 is longer than 80 bytes. Assumes nothing.
+use Prim.Native.Nat.{ℕ, _+_, _-_, _≤_, _<_, _^_}
+use native.Mathlib.Omega.{arith}
+use mathlib.Core.Path.{_≡_, refl, sym, ap, _∙_}
+use mathlib.Core.Logic.{⊎-elim}
+use mathlib.Core.List.{[], _∷_, _++_}
+use lib.ListN.{length, take, drop, length-append, length-drop}
+use lib.Seq.{take-append-seam}
+use Rattle.rules.specs.Bytes.{Bytes, LF, comma, slash}
+use Rattle.rules.specs.Numbers.{Sum, decimal, totalBytes}
+use Rattle.digits.proofs.DigitStrings.{decimal-at-most}
+use Rattle.digits.proofs.Tests.{below-or-from}
+use Rattle.digits.proofs.Totals.{total-below-zero, total-from-zero}
+use Rattle.digits.specs.Put.{Put}
+use Rattle.digits.proofs.Putting.{put-count, put-bytes}
+use Rattle.fresh.specs.Fresh.{lastLine}
+
+digits-most : (n : ℕ) → n < 18446744073709551616 → length (decimal n) ≤ 20
+digits-most n h = decimal-at-most 20 n (omega arith) (omega arith)
+
+total-most : (a : Sum) → a .pluses < 18446744073709551616 → a .minuses < 18446744073709551616 → length (totalBytes a) ≤ 21
+total-most a p m =
+    ⊎-elim
+    (λ h. rw (total-below-zero a h) (omega (arith, digits-most (a .minuses - a .pluses) (omega arith))))
+    (λ h. rw (total-from-zero a h) (omega (arith, digits-most (a .pluses - a .minuses) (omega arith))))
+    (below-or-from (a .pluses) (a .minuses))
+
+pub last-most : (a : Sum) (groups records : ℕ) → a .pluses < 18446744073709551616 → a .minuses < 18446744073709551616 → groups < 18446744073709551616 → records < 18446744073709551616
+    → length (lastLine a groups records) ≤ 80
+unfolding lastLine
+last-most a groups records p m g r =
+    simp length-append (omega (arith, total-most a p m, digits-most groups g, digits-most records r))
+
+-- what was put into 80 bytes stands in front of them
+pub whole-last : (bs before : Bytes) (r : ℕ) (after : Bytes) → length bs ≤ length before → Put bs before r after
+    → (take r after ≡ bs) × (r ≤ length before) × (length after ≡ length before)
+whole-last bs before r after h p =
+    rw (put-count p h, put-bytes p h) (take-append-seam bs (drop (length bs) before), h, length-append bs (drop (length bs) before) ∙ rw length-drop (omega arith))

@@ -1,0 +1,32 @@
+use Prim.Native.Nat.{ℕ}
+use native.Mathlib.Omega.{arith}
+use mathlib.Core.Path.{_≡_, sym, ap, _∙_}
+use lib.ListN.{length}
+use Rattle.digits.specs.Kinds.{sumMeant}
+use Rattle.fresh.proofs.Lengths.{last-most, whole-last}
+use borrow.Author.Needs.{needs}
+use Rattle.fresh.proofs.fresh_trailer.Statement.{statement}
+use Rattle.fresh.proofs.fresh_trailer.Tie as tie
+use Rattle.fresh.proofs.fresh_trailer.Reads as reads
+use Rattle.fresh.proofs.fresh_trailer.Lts as lts
+use Rattle.fresh.proofs.put_trailer.Reads as put-trailer-reads
+
+-- src/lib.rt:53:30
+slice-aggregate-put-trailer : tie.Need-slice-aggregate-put-trailer
+slice-aggregate-put-trailer c = search needs
+
+-- src/lib.rt:53:9
+put-trailer-requires : tie.Need-put-trailer-requires
+put-trailer-requires c κs =
+    let a = c .before .args in
+    omega (arith, last-most (sumMeant (a .total)) (a .groups) (a .records .0) (omega arith) (omega arith) (omega arith) (omega arith))
+
+-- src/lib.rt:49:1
+returns : tie.Need-returns
+returns c =
+    let a = c .before .before .before .args in
+    let most = last-most (sumMeant (a .total)) (a .groups) (a .records .0) (omega arith) (omega arith) (omega arith) (omega arith) in
+    whole-last _ _ _ _ (omega arith) (c .before .put-trailer .ensures)
+
+pub fresh-trailer-spec : {M : Type 1} → statement M
+fresh-trailer-spec = tie.close (tie.spec slice-aggregate-put-trailer put-trailer-requires returns)

@@ -1,0 +1,2 @@
+-- The bytes of a fresh 99.
+pub mod Fresh

@@ -1,0 +1,17 @@
+use mathlib.Core.Path.{sym}
+use borrow.Author.Needs.{needs}
+use Rattle.groups.proofs.signed_units.Statement.{statement}
+use Rattle.groups.proofs.signed_units.Tie as tie
+use Rattle.groups.proofs.signed_units.Reads as reads
+use Rattle.groups.proofs.signed_units.Lts as lts
+
+-- src/lib.rt:51:9
+returns : tie.Need-returns
+returns c = rw (c .if1 .taken)
+
+-- src/lib.rt:47:1
+returns-2 : tie.Need-returns-2
+returns-2 c = rw (c .if1 .left)
+
+pub signed-units-spec : {M : Type 1} → statement M
+signed-units-spec = tie.close (tie.spec returns returns-2)

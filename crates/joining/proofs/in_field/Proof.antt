@@ -1,0 +1,26 @@
+use native.Mathlib.Omega.{arith}
+use Rattle.joining.proofs.Naming.{byte-low, byte-high, byte-comma, byte-slash}
+use borrow.Author.Needs.{needs}
+use Rattle.joining.proofs.in_field.Statement.{statement}
+use Rattle.joining.proofs.in_field.Tie as tie
+use Rattle.joining.proofs.in_field.Reads as reads
+use Rattle.joining.proofs.in_field.Lts as lts
+
+-- src/lib.rt:43:9
+returns : tie.Need-returns
+returns c = byte-low (c .before .args .b) (c .if1 .taken)
+
+-- src/lib.rt:46:9
+returns-2 : tie.Need-returns-2
+returns-2 c = byte-high (c .before .before .args .b) (omega arith) (c .if2 .taken)
+
+-- src/lib.rt:49:9
+returns-3 : tie.Need-returns-3
+returns-3 c = byte-comma (c .before .before .before .args .b) (omega arith) (omega arith) (c .if3 .taken)
+
+-- src/lib.rt:39:1
+returns-4 : tie.Need-returns-4
+returns-4 c = byte-slash (c .before .before .before .args .b) (omega arith) (omega arith) (c .if3 .left)
+
+pub in-field-spec : {M : Type 1} → statement M
+in-field-spec = tie.close (tie.spec returns returns-2 returns-3 returns-4)

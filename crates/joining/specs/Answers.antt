@@ -1,0 +1,36 @@
+-- What the answers of split say in document 01's terms. Assumes nothing.
+use Prim.Native.Nat.{ℕ}
+use mathlib.Core.Path.{_≡_}
+use mathlib.Core.List.{_++_}
+use lib.ListN.{length}
+use Rattle.rules.specs.Bytes.{Bytes}
+use Rattle.rules.specs.Outcome.{fine, _>>=_}
+use Rattle.rules.specs.Totals.{Summary}
+use Rattle.rules.specs.Verdict.{judge}
+use Rattle.rules.specs.Parts.{headerIn, groupsIn}
+use Rattle.rules.specs.Combine as rules
+use Rattle.rules.specs.Combine.{withTrailer, joined, fitting, answered}
+use Rattle.rules.specs.Split.{groupsFor}
+use Rattle.joining.specs.declared.Answer.{Answer}
+
+-- an answer, with what the output slice holds
+abbrev pub answerMeant : Answer → Bytes → rules.Answer
+answerMeant r out = record { number = r .number; place = r .place .0; which = 0; len = r .length; output = out }
+
+-- refused, with nothing written; or so many bytes written
+abbrev pub refusal : ℕ → ℕ → ℕ → Bytes → rules.Answer
+refusal n p which before = record { number = n; place = p; which = which; len = 0; output = before }
+
+abbrev pub success : ℕ → Bytes → rules.Answer
+success n out = record { number = 0; place = 0; which = 0; len = n; output = out }
+
+-- the reader accepts the file
+abbrev pub Accepts : Bytes → Type 0
+Accepts file = (s : Summary) × (judge file ≡ fine s)
+
+-- what split writes of an accepted file, and its answer behind 16 and the reader's refusal
+unfoldable pub splitResult : Bytes → Bytes → Bytes
+splitResult name file = withTrailer (headerIn file ++ joined (groupsFor name (groupsIn file)))
+
+unfoldable pub splitFitting : Bytes → Bytes → Bytes → rules.Answer
+splitFitting name file before = answered (fitting (splitResult name file) (length before)) 0 before

@@ -1,0 +1,2 @@
+-- What the calls' answers mean.
+pub mod Answers

@@ -1,0 +1,2 @@
+-- What it means that a result is written piece by piece.
+pub mod Wrote
