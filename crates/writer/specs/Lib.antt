@@ -1,0 +1,3 @@
+-- The code's states in the rules' terms.
+pub mod States
+pub mod Closing
