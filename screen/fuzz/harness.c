@@ -1,0 +1,133 @@
+/* The fuzzer's entry: everything the program does with a file, on the given bytes and once more with
+   its trailers mended, so that changed files are accepted too. Any broken promise aborts. */
+#include <stdlib.h>
+#include <string.h>
+
+#include "bai2.h"
+#include "mend.h"
+#include "outline.h"
+#include "record.h"
+#include "refusal.h"
+#include "screen.h"
+#include "show.h"
+
+enum { TRAILER_ROOM = 64, LONGEST_INPUT = 65536 };
+
+int LLVMFuzzerTestOneInput(const uint8_t *data, size_t size);
+
+/* Ends the run where a promise is broken. */
+static void must_hold(bool promise)
+{
+    if (!promise)
+        abort();
+}
+
+/* Presses every key of the view on a canvas of one of some sizes, and draws after each. */
+static void press_and_draw(const view *v, FILE *to, size_t which)
+{
+    static const key keys[] = {KEY_RESIZED, KEY_ENTER, KEY_DOWN, KEY_ENTER, KEY_DOWN, KEY_DOWN, KEY_ENTER,
+                               KEY_PAGE_DOWN, KEY_END, KEY_RIGHT, KEY_UP, KEY_LEFT, KEY_LEFT, KEY_PAGE_UP,
+                               KEY_HOME, KEY_RIGHT, KEY_OTHER};
+    static const canvas sizes[] = {{NULL, 24, 80}, {NULL, 3, 12}, {NULL, 16, 200}, {NULL, 1, 1}};
+    canvas c = sizes[which % (sizeof sizes / sizeof sizes[0])];
+    c.to = to;
+    for (size_t i = 0; i < sizeof keys / sizeof keys[0]; i++) {
+        v->press(v->state, &c, keys[i]);
+        v->draw(v->state, &c);
+    }
+    v->find(v->state, (slice){(const uint8_t *)"1", 1});
+    v->draw(v->state, &c);
+}
+
+/* A refused file: every call says so alike, and the refusal can be told and shown. */
+static void try_refused(slice file, bai2_summary s, FILE *to)
+{
+    must_hold(s.place <= file.length && s.total == 0 && s.records == 0);
+    bai2_part part = bai2_group(file.bytes, file.length, 0);
+    must_hold(part.number == s.number && part.place == s.place && part.length == 0);
+    bai2_detail d = bai2_detail_of(file.bytes, file.length, 0, 0, 0);
+    must_hold(d.number == s.number && d.place == s.place && d.text_length == 0);
+    tell_refusal(to, "file", file, s.number, s.place);
+    refusal_screen screen;
+    view v = open_refusal_view(&screen, "file", file, s.number, s.place);
+    press_and_draw(&v, to, file.length);
+}
+
+/* A split for this receiver: accepted, with some of the groups, and unchanged by a second split. */
+static void try_split(slice file, slice name, uint64_t groups)
+{
+    size_t room = file.length + TRAILER_ROOM;
+    uint8_t *out = room_for(room, 1), *again = room_for(room, 1);
+    bai2_answer a = bai2_split(name.bytes, name.length, file.bytes, file.length, out, room);
+    if (name.length == 0) {
+        must_hold(a.number == 16);
+    } else {
+        must_hold(a.number == 0);
+        bai2_summary s = bai2_read(out, (size_t)a.length);
+        must_hold(s.number == 0 && s.groups >= 1 && s.groups <= groups);
+        bai2_answer b = bai2_split(name.bytes, name.length, out, (size_t)a.length, again, room);
+        must_hold(b.number == 0 && b.length == a.length && memcmp(out, again, (size_t)a.length) == 0);
+    }
+    free(out);
+    free(again);
+}
+
+/* The file combined with itself: accepted with twice its figures, or its sums are too large. */
+static void try_combine(slice file, bai2_summary s)
+{
+    size_t room = 2 * file.length + TRAILER_ROOM;
+    uint8_t *out = room_for(room, 1);
+    bai2_combined c = bai2_combine(file.bytes, file.length, file.bytes, file.length, out, room);
+    must_hold(c.file == 0 && (c.number == 0 || c.number == 10));
+    if (c.number == 0) {
+        bai2_summary both = bai2_read(out, (size_t)c.length);
+        must_hold(both.number == 0 && both.total == 2 * s.total && both.groups == 2 * s.groups);
+    }
+    free(out);
+}
+
+/* An accepted file: its outline is the library's, it can be shown, split and combined. */
+static void try_accepted(slice file, bai2_summary s, FILE *to)
+{
+    outline o;
+    tree_screen screen;
+    must_hold(make_outline(&o, file, s, UINT64_MAX));
+    put_report(to, &o);
+    view v = open_tree_view(&screen, "file", &o);
+    press_and_draw(&v, to, file.length);
+    close_tree_view(&screen);
+    for (size_t i = 0; i < o.count; i++)
+        if (o.records[i].code == GROUP_HEADER)
+            try_split(file, read_group_header(bytes_of(&o, i)).receiver, s.groups);
+    try_combine(file, s);
+    drop_outline(&o);
+}
+
+/* Tries everything on one file. */
+static void try_file(slice file)
+{
+    char *text = NULL;
+    size_t length = 0;
+    FILE *to = open_memstream(&text, &length);
+    must_hold(to != NULL);
+    bai2_summary s = bai2_read(file.bytes, file.length);
+    if (s.number != 0)
+        try_refused(file, s, to);
+    else
+        try_accepted(file, s, to);
+    must_hold(fclose(to) == 0);
+    free(text);
+}
+
+/* Tries the bytes as they are, and with mended trailers. */
+int LLVMFuzzerTestOneInput(const uint8_t *data, size_t size)
+{
+    if (size > LONGEST_INPUT)
+        return 0;
+    slice file = {data, size};
+    slice mended = mend(file);
+    try_file(file);
+    try_file(mended);
+    free((void *)(uintptr_t)mended.bytes);
+    return 0;
+}

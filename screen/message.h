@@ -1,0 +1,15 @@
+/* Messages on standard error. */
+#ifndef MESSAGE_H
+#define MESSAGE_H
+
+#include <stdio.h>
+
+#ifdef __GNUC__
+__attribute__((format(printf, 1, 2)))
+#endif
+void complain(const char *format, ...);
+
+char safe(char character);
+void put_name(FILE *to, const char *name);
+
+#endif

@@ -1,0 +1,36 @@
+/* The outline of an accepted file: where its records stand, and which trailer closes which. */
+#ifndef OUTLINE_H
+#define OUTLINE_H
+
+#include "bai2.h"
+#include "bytes.h"
+
+typedef enum {
+    FILE_HEADER = 1,
+    GROUP_HEADER = 2,
+    ACCOUNT_HEADER = 3,
+    DETAIL = 16,
+    ACCOUNT_TRAILER = 49,
+    GROUP_TRAILER = 98,
+    FILE_TRAILER = 99
+} record_code;
+
+/* One record with its 88 lines. A file's places fit in 32 bits, and large files have many records. */
+typedef struct {
+    record_code code;
+    uint32_t start, length; /* its bytes, line ends included */
+    uint32_t closing;       /* 02 and 03: the trailer's index */
+} record;
+
+typedef struct {
+    slice file;
+    bai2_summary summary;
+    record *records;
+    size_t count;
+} outline;
+
+bool make_outline(outline *o, slice file, bai2_summary summary, uint64_t bytes_to_judge);
+void drop_outline(outline *o);
+slice bytes_of(const outline *o, size_t record);
+
+#endif

@@ -1,0 +1,290 @@
+/* The report: a file's groups, accounts, items and details in aligned columns. */
+#include "show.h"
+
+#include <inttypes.h>
+#include <string.h>
+
+#include "record.h"
+
+typedef enum { AMOUNT, COUNT, FUNDS, BANK_REFERENCE, CUSTOMER_REFERENCE, TEXT, COLUMNS } column;
+
+static const char *const column_names[COLUMNS] = {
+    "amount", "count", "funds", "bank reference", "customer reference", "text"};
+
+enum { TYPE_INDENT = 4, LEAST_LABEL = 14, LABEL_ROOM = 40 };
+
+/* One row of an account's table. */
+typedef struct {
+    slice cells[COLUMNS];
+    char amount[FIGURE_ROOM], count[FIGURE_ROOM], funds[FUNDS_ROOM];
+} row;
+
+/* The report's layout: column widths, 0 for a column that is empty in the whole file. */
+typedef struct {
+    FILE *to;
+    size_t label;
+    size_t widths[COLUMNS];
+} layout;
+
+/* A C string as a slice. */
+static slice slice_of(const char *text)
+{
+    return (slice){(const uint8_t *)text, strlen(text)};
+}
+
+/* The word with an s behind it where there is not exactly one. */
+static void put_counted(FILE *to, uint64_t count, const char *word)
+{
+    fprintf(to, "%" PRIu64 " %s%s", count, word, count == 1 ? "" : "s");
+}
+
+/* Sets a row's amount. */
+static void set_amount(row *r, slice amount)
+{
+    r->cells[AMOUNT] = slice_of(put_figure(r->amount, amount));
+}
+
+/* The cells of an item's row. */
+static void item_row(row *r, const item *i)
+{
+    *r = (row){0};
+    set_amount(r, i->amount);
+    r->cells[COUNT] = slice_of(put_figure(r->count, i->count));
+    r->cells[FUNDS] = slice_of(put_funds(r->funds, &i->funds));
+}
+
+/* The cells of a detail's row; the first piece of text is taken from its walk. */
+static void detail_row(row *r, detail *d)
+{
+    *r = (row){0};
+    set_amount(r, d->amount);
+    r->cells[FUNDS] = slice_of(put_funds(r->funds, &d->funds));
+    r->cells[BANK_REFERENCE] = d->bank_reference;
+    r->cells[CUSTOMER_REFERENCE] = d->customer_reference;
+    if (!next_piece(&d->text, &r->cells[TEXT]))
+        r->cells[TEXT].length = 0;
+}
+
+/* Widens the columns so that a row fits; a column that has something is as wide as its name. */
+static void widen(layout *l, const row *r)
+{
+    for (column c = AMOUNT; c < COLUMNS; c++) {
+        size_t needed = r->cells[c].length;
+        size_t name = strlen(column_names[c]);
+        if (needed > 0 && needed < name)
+            needed = name;
+        if (needed > l->widths[c])
+            l->widths[c] = needed;
+    }
+}
+
+/* Widens the columns for all rows of one record. */
+static void measure_record(layout *l, record_code code, slice bytes)
+{
+    row r = {0};
+    if (code == ACCOUNT_HEADER) {
+        account_header h = read_account_header(bytes);
+        for (item i; next_item(&h.items, &i);) {
+            item_row(&r, &i);
+            widen(l, &r);
+        }
+    } else if (code == DETAIL) {
+        detail d = read_detail(bytes);
+        detail_row(&r, &d);
+        widen(l, &r);
+    } else if (code >= ACCOUNT_TRAILER) {
+        set_amount(&r, read_trailer(bytes).total);
+        widen(l, &r);
+    }
+}
+
+/* The layout that fits the whole file. */
+static layout layout_for(FILE *to, const outline *o)
+{
+    layout l = {.to = to};
+    int label = snprintf(NULL, 0, "  group %" PRIu64 " total", o->summary.groups);
+    l.label = label > LEAST_LABEL ? (size_t)label : LEAST_LABEL;
+    for (size_t i = 0; i < o->count; i++)
+        measure_record(&l, o->records[i].code, bytes_of(o, i));
+    return l;
+}
+
+/* Writes a row: its label, then each column; nothing behind the last cell that has something. */
+static void put_row(const layout *l, slice label, const row *r)
+{
+    fprintf(l->to, "%-*.*s", (int)l->label, SLICE(label));
+    size_t gap = 0;
+    for (column c = AMOUNT; c < COLUMNS; c++) {
+        if (l->widths[c] == 0)
+            continue;
+        slice cell = r->cells[c];
+        size_t pad = cell.length < l->widths[c] ? l->widths[c] - cell.length : 0;
+        bool right = c <= COUNT;
+        gap += 2 + (right ? pad : 0);
+        if (cell.length > 0) {
+            fprintf(l->to, "%*s%.*s", (int)gap, "", SLICE(cell));
+            gap = 0;
+        }
+        gap += right ? 0 : pad;
+    }
+    fputc('\n', l->to);
+}
+
+/* Writes the columns' names. */
+static void put_names(const layout *l)
+{
+    row r = {0};
+    for (column c = AMOUNT; c < COLUMNS; c++)
+        if (l->widths[c] > 0)
+            r.cells[c] = slice_of(column_names[c]);
+    put_row(l, slice_of("    type"), &r);
+}
+
+/* Writes a row that has only one cell. */
+static void put_cell_row(const layout *l, column c, slice cell)
+{
+    row r = {0};
+    r.cells[c] = cell;
+    put_row(l, slice_of(""), &r);
+}
+
+/* Writes the amounts of funds that come at several times, a row each. */
+static void put_funds_rows(const layout *l, const funds *f)
+{
+    char words[FUNDS_ROOM];
+    for (size_t i = 0; put_funds_part(words, f, i); i++)
+        put_cell_row(l, FUNDS, slice_of(words));
+}
+
+/* Writes a row behind a type. */
+static void put_typed_row(const layout *l, slice type, const row *r)
+{
+    char label[LABEL_ROOM];
+    snprintf(label, sizeof label, "%*s%.*s", TYPE_INDENT, "", SLICE(type));
+    put_row(l, slice_of(label), r);
+}
+
+/* Writes an account's header line, and the columns' names and its items where it has any rows. */
+static void put_account(const layout *l, slice bytes, bool has_details)
+{
+    account_header h = read_account_header(bytes);
+    row r;
+    fprintf(l->to, "\n  Account %.*s", SLICE(h.number));
+    if (h.currency.length > 0)
+        fprintf(l->to, "  %.*s", SLICE(h.currency));
+    fputc('\n', l->to);
+    fields items = h.items;
+    item i;
+    if (has_details || next_item(&items, &i))
+        put_names(l);
+    while (next_item(&h.items, &i)) {
+        item_row(&r, &i);
+        put_typed_row(l, i.type, &r);
+        put_funds_rows(l, &i.funds);
+    }
+}
+
+/* Writes a detail: its row, further pieces of text, and its funds' values. */
+static void put_detail(const layout *l, slice bytes)
+{
+    detail d = read_detail(bytes);
+    row r;
+    detail_row(&r, &d);
+    put_typed_row(l, d.type, &r);
+    for (slice piece; next_piece(&d.text, &piece);)
+        put_cell_row(l, TEXT, piece);
+    put_funds_rows(l, &d.funds);
+}
+
+/* Writes the file's header. */
+static void put_file_header(FILE *to, slice bytes)
+{
+    file_header h = read_file_header(bytes);
+    char day[DAY_ROOM];
+    fprintf(to, "File number %.*s  from %.*s  to %.*s  %s\n", SLICE(h.number), SLICE(h.sender),
+            SLICE(h.receiver), put_day(day, h.date, h.time));
+}
+
+/* Writes a group's header. */
+static void put_group(FILE *to, uint64_t number, slice bytes)
+{
+    group_header h = read_group_header(bytes);
+    char day[DAY_ROOM];
+    const char *modifier = modifier_in_words(h.modifier);
+    fprintf(to, "\nGroup %" PRIu64 "  receiver ", number);
+    if (h.receiver.length > 0)
+        fprintf(to, "%.*s", SLICE(h.receiver));
+    else
+        fputs("(none)", to);
+    fprintf(to, "  originator %.*s\n", SLICE(h.originator));
+    fprintf(to, "  as of %s, %s", put_day(day, h.date, h.time), status_in_words(h.status));
+    if (*modifier != '\0')
+        fprintf(to, ", %s", modifier);
+    if (h.currency.length > 0)
+        fprintf(to, ", %.*s", SLICE(h.currency));
+    fputc('\n', to);
+}
+
+/* Writes a total behind its label, and in words what it closes. */
+static void put_total(const layout *l, const char *label, int64_t total, uint64_t count, const char *what)
+{
+    fprintf(l->to, "%-*s  %*" PRId64 "  ", (int)l->label, label, (int)l->widths[AMOUNT], total);
+    put_counted(l->to, count, what);
+}
+
+/* Writes behind a total how many records it closes. */
+static void put_records(const layout *l, uint64_t records)
+{
+    fputs(", ", l->to);
+    put_counted(l->to, records, "record");
+    fputc('\n', l->to);
+}
+
+/* Writes the total of an account. */
+static void put_account_total(const layout *l, slice bytes, uint64_t details)
+{
+    trailer t = read_trailer(bytes);
+    put_total(l, "    total", units_of(t.total), details, "detail");
+    put_records(l, number_of(t.records));
+}
+
+/* Writes the total of a group. */
+static void put_group_total(const layout *l, slice bytes, uint64_t number)
+{
+    trailer t = read_trailer(bytes);
+    char label[LABEL_ROOM];
+    snprintf(label, sizeof label, "  group %" PRIu64 " total", number);
+    fputc('\n', l->to);
+    put_total(l, label, units_of(t.total), number_of(t.count), "account");
+    put_records(l, number_of(t.records));
+}
+
+/* Writes the total of the file, as the library has answered it. */
+static void put_file_total(const layout *l, bai2_summary s)
+{
+    fputc('\n', l->to);
+    put_total(l, "file total", s.total, s.groups, "group");
+    put_records(l, s.records);
+}
+
+/* Writes the report of an accepted file. */
+void put_report(FILE *to, const outline *o)
+{
+    layout l = layout_for(to, o);
+    uint64_t group = 0, details = 0;
+    for (size_t i = 0; i < o->count && !ferror(to); i++) {
+        slice bytes = bytes_of(o, i);
+        switch (o->records[i].code) {
+        case FILE_HEADER: put_file_header(to, bytes); break;
+        case GROUP_HEADER: put_group(to, ++group, bytes); break;
+        case ACCOUNT_HEADER:
+            put_account(&l, bytes, o->records[i + 1].code == DETAIL);
+            details = 0;
+            break;
+        case DETAIL: put_detail(&l, bytes); details++; break;
+        case ACCOUNT_TRAILER: put_account_total(&l, bytes, details); break;
+        case GROUP_TRAILER: put_group_total(&l, bytes, group); break;
+        case FILE_TRAILER: put_file_total(&l, o->summary); break;
+        }
+    }
+}

@@ -1,0 +1,284 @@
+/* The screen of an accepted file: its groups, accounts and details as a tree. */
+#include <inttypes.h>
+#include <string.h>
+
+#include "record.h"
+#include "screen.h"
+
+enum {
+    LABEL_ROOM = 512,
+    HELD_ROWS = 3,  /* title, the row's own line, keys */
+    TEXT_INDENT = 10,
+    PARTS_IN_ROW = 3 /* of an item's funds, so many amounts stand in its row */
+};
+
+/* How many rows of the tree the canvas shows. */
+static size_t body_rows(const canvas *c)
+{
+    return c->rows > HELD_ROWS ? c->rows - HELD_ROWS : 1;
+}
+
+/* Words for a group's row. */
+static void put_group_label(char *label, const tree_row *row, slice bytes)
+{
+    group_header h = read_group_header(bytes);
+    char day[DAY_ROOM];
+    if (h.receiver.length == 0)
+        h.receiver = (slice){(const uint8_t *)"(none)", 6};
+    snprintf(label, LABEL_ROOM, "Group %" PRIu32 "  receiver %.*s  originator %.*s  %s", row->number + 1,
+             SLICE(h.receiver), SLICE(h.originator), put_day(day, h.date, h.time));
+}
+
+/* Words for an account's row. */
+static void put_account_label(char *label, slice bytes)
+{
+    account_header h = read_account_header(bytes);
+    snprintf(label, LABEL_ROOM, "Account %.*s  %.*s", SLICE(h.number), SLICE(h.currency));
+}
+
+/* Words for a detail's row: its type, and its text or else a reference. */
+static void put_detail_label(char *label, slice bytes)
+{
+    detail d = read_detail(bytes);
+    slice words;
+    if (!next_piece(&d.text, &words))
+        words = d.bank_reference.length > 0 ? d.bank_reference : d.customer_reference;
+    words = part_of(words, 0, LABEL_ROOM - 16);
+    snprintf(label, LABEL_ROOM, "%.*s  %.*s", SLICE(d.type), SLICE(words));
+}
+
+/* The item that starts at this place of the file. */
+static item item_at(const tree_screen *s, const tree_row *row)
+{
+    account_header h = read_account_header(bytes_of(s->outline, row->record));
+    item i = {0};
+    while (next_item(&h.items, &i))
+        if ((size_t)(i.type.bytes - s->outline->file.bytes) == row->start)
+            break;
+    return i;
+}
+
+/* Words for an item's row. */
+static void put_item_label(char *label, const item *i)
+{
+    size_t used = (size_t)snprintf(label, LABEL_ROOM, "%.*s", SLICE(i->type));
+    if (i->count.length > 0)
+        used += (size_t)snprintf(label + used, LABEL_ROOM - used, "  count %.*s", SLICE(i->count));
+    char words[FUNDS_ROOM];
+    if (i->funds.kind.length > 0)
+        used += (size_t)snprintf(label + used, LABEL_ROOM - used, "  funds %s", put_funds(words, &i->funds));
+    for (size_t part = 0; part <= PARTS_IN_ROW && put_funds_part(words, &i->funds, part); part++)
+        used += (size_t)snprintf(label + used, LABEL_ROOM - used, "  %s", part < PARTS_IN_ROW ? words : "..");
+}
+
+/* Words for a row below a detail. */
+static void put_note_label(char *label, const tree_screen *s, const tree_row *row)
+{
+    static const char *const captions[] = {
+        [BANK_REFERENCE_ROW] = "bank reference ",
+        [CUSTOMER_REFERENCE_ROW] = "customer reference ",
+        [TEXT_ROW] = ""};
+    char words[FUNDS_ROOM] = "";
+    if (row->kind == FUNDS_ROW || row->kind == FUNDS_PART_ROW) {
+        detail d = read_detail(bytes_of(s->outline, row->record));
+        if (row->kind == FUNDS_ROW)
+            put_funds(words, &d.funds);
+        else
+            put_funds_part(words, &d.funds, row->number);
+        snprintf(label, LABEL_ROOM, "funds %s", words);
+        return;
+    }
+    slice bytes = part_of(s->outline->file, row->start, row->length);
+    snprintf(label, LABEL_ROOM, "%s%.*s", captions[row->kind], SLICE(bytes));
+}
+
+/* The amount at the right edge of a group's or account's row: its trailer's total. */
+static void put_closing_total(char figure[FIGURE_ROOM], const tree_screen *s, const tree_row *row)
+{
+    slice bytes = bytes_of(s->outline, s->outline->records[row->record].closing);
+    snprintf(figure, FIGURE_ROOM, "%" PRId64, units_of(read_trailer(bytes).total));
+}
+
+/* A row's words and its amount, empty where it has none. */
+static void put_label(char *label, char figure[FIGURE_ROOM], const tree_screen *s, const tree_row *row)
+{
+    slice bytes = bytes_of(s->outline, row->record);
+    item i;
+    figure[0] = '\0';
+    switch (row->kind) {
+    case GROUP_ROW:
+        put_group_label(label, row, bytes);
+        put_closing_total(figure, s, row);
+        return;
+    case ACCOUNT_ROW:
+        put_account_label(label, bytes);
+        put_closing_total(figure, s, row);
+        return;
+    case DETAIL_ROW:
+        put_detail_label(label, bytes);
+        put_figure(figure, read_detail(bytes).amount);
+        return;
+    case ITEM_ROW:
+        i = item_at(s, row);
+        put_item_label(label, &i);
+        put_figure(figure, i.amount);
+        return;
+    default: put_note_label(label, s, row); return;
+    }
+}
+
+/* Draws one row of the tree: its indent, whether it is open, its words and its amount. */
+static void draw_tree_row(const tree_screen *s, const canvas *c, size_t canvas_row, size_t index)
+{
+    static const int indents[] = {[GROUP_ROW] = 0, [ACCOUNT_ROW] = 2, [DETAIL_ROW] = 4, [ITEM_ROW] = 4,
+                                  [BANK_REFERENCE_ROW] = 8, [CUSTOMER_REFERENCE_ROW] = 8,
+                                  [FUNDS_ROW] = 8, [FUNDS_PART_ROW] = 8, [TEXT_ROW] = 8};
+    const tree_row *row = &s->tree.rows[index];
+    char label[LABEL_ROOM], text[LABEL_ROOM + 16], figure[FIGURE_ROOM];
+    put_label(label, figure, s, row);
+    const char *mark = !can_open(&s->tree, index) ? " " : s->tree.open[row->record] ? "-" : "+";
+    snprintf(text, sizeof text, "%*s%s %s", indents[row->kind], "", mark, label);
+    draw_row(c, canvas_row, index == s->row ? REVERSE : PLAIN, text, figure);
+}
+
+/* Draws the title: the file's name, who sent it to whom, its total. */
+static void draw_title(const tree_screen *s, const canvas *c)
+{
+    file_header h = read_file_header(bytes_of(s->outline, 0));
+    char text[LABEL_ROOM], day[DAY_ROOM], total[FIGURE_ROOM + 8];
+    snprintf(text, sizeof text, "%.60s  %.*s to %.*s  %s", last_part(s->name), SLICE(h.sender),
+             SLICE(h.receiver), put_day(day, h.date, h.time));
+    snprintf(total, sizeof total, "total %" PRId64, s->outline->summary.total);
+    draw_row(c, 0, BOLD, text, total);
+}
+
+/* Draws the line of the file that the chosen row comes from, and how far down it stands. */
+static void draw_source(const tree_screen *s, const canvas *c)
+{
+    char text[LABEL_ROOM] = "", where[48] = "";
+    if (s->row < s->tree.count) {
+        size_t place = s->tree.rows[s->row].start;
+        line l = line_of(s->outline->file, place);
+        slice bytes = part_of(s->outline->file, l.start, l.end - l.start);
+        bytes = part_of(bytes, 0, LABEL_ROOM - 32);
+        snprintf(text, sizeof text, "line %zu: %.*s", line_number(s->outline->file, place), SLICE(bytes));
+        snprintf(where, sizeof where, "%zu/%zu", s->row + 1, s->tree.count);
+    }
+    draw_row(c, c->rows > 1 ? c->rows - 2 : 0, BOLD, text, where);
+}
+
+/* Moves the first row on the canvas so that the chosen one is seen. */
+static void follow(tree_screen *s, const canvas *c)
+{
+    size_t body = body_rows(c);
+    if (s->tree.count > 0 && s->row >= s->tree.count)
+        s->row = s->tree.count - 1;
+    if (s->row < s->top)
+        s->top = s->row;
+    if (s->row >= s->top + body)
+        s->top = s->row - body + 1;
+}
+
+/* Draws the tree. */
+static void draw_tree(void *state, const canvas *c)
+{
+    tree_screen *s = state;
+    follow(s, c);
+    draw_title(s, c);
+    for (size_t i = 0; i < body_rows(c); i++) {
+        if (s->top + i < s->tree.count)
+            draw_tree_row(s, c, i + 1, s->top + i);
+        else
+            draw_row(c, i + 1, PLAIN, i == 0 ? "The file has no group." : "", "");
+    }
+    draw_source(s, c);
+}
+
+/* Lays the rows anew for the canvas's width; the chosen record stays chosen. */
+static void fit(tree_screen *s, const canvas *c)
+{
+    size_t record = s->row < s->tree.count ? s->tree.rows[s->row].record : 0;
+    s->tree.text_width = c->columns > TEXT_INDENT ? c->columns - TEXT_INDENT : 1;
+    lay_rows(&s->tree);
+    while (s->row > 0 && (s->row >= s->tree.count || s->tree.rows[s->row].record > record))
+        s->row--;
+}
+
+/* Closes the chosen row, or goes to the one it stands below where it is closed already. */
+static void close_or_go_up(tree_screen *s)
+{
+    if (can_open(&s->tree, s->row) && s->tree.open[s->tree.rows[s->row].record])
+        set_open(&s->tree, s->row, false);
+    else
+        s->row = row_above(&s->tree, s->row);
+}
+
+/* Opens the chosen row and moves up what is on the canvas, so that the rows below it are seen. */
+static void open_row(tree_screen *s, const canvas *c)
+{
+    size_t before = s->tree.count;
+    set_open(&s->tree, s->row, true);
+    size_t last = s->row + s->tree.count - before;
+    if (last >= s->top + body_rows(c))
+        s->top = last - body_rows(c) + 1;
+}
+
+/* Opens what is closed and closes what is open. */
+static void turn(tree_screen *s, const canvas *c)
+{
+    if (!can_open(&s->tree, s->row))
+        return;
+    if (s->tree.open[s->tree.rows[s->row].record])
+        set_open(&s->tree, s->row, false);
+    else
+        open_row(s, c);
+}
+
+/* Moves the chosen row so many down or up, within the tree. */
+static void move(tree_screen *s, size_t down, size_t up)
+{
+    size_t last = s->tree.count > 0 ? s->tree.count - 1 : 0;
+    s->row = down > last - s->row ? last : s->row + down;
+    s->row = up > s->row ? 0 : s->row - up;
+}
+
+/* Answers a key. */
+static void press_tree(void *state, const canvas *c, key k)
+{
+    tree_screen *s = state;
+    switch ((int)k) {
+    case KEY_UP: case 'k': move(s, 0, 1); break;
+    case KEY_DOWN: case 'j': move(s, 1, 0); break;
+    case KEY_PAGE_UP: case 'b': move(s, 0, body_rows(c)); break;
+    case KEY_PAGE_DOWN: case ' ': move(s, body_rows(c), 0); break;
+    case KEY_HOME: case 'g': s->row = 0; break;
+    case KEY_END: case 'G': move(s, s->tree.count, 0); break;
+    case KEY_ENTER: turn(s, c); break;
+    case KEY_RIGHT: case 'l': open_row(s, c); break;
+    case KEY_LEFT: case 'h': close_or_go_up(s); break;
+    case KEY_RESIZED: fit(s, c); break;
+    default: break;
+    }
+}
+
+/* Moves to the next record that has the needle. */
+static bool find_in_tree_screen(void *state, slice needle)
+{
+    tree_screen *s = state;
+    return find_in_tree(&s->tree, &s->row, needle);
+}
+
+/* The view of an accepted file's tree. */
+view open_tree_view(tree_screen *s, const char *name, const outline *o)
+{
+    *s = (tree_screen){.name = name, .outline = o};
+    make_tree(&s->tree, o, 0);
+    return (view){s, "Arrows, j k: move  Enter: open, close  /: search  n: next  g G: ends  q: leave",
+                  draw_tree, press_tree, find_in_tree_screen};
+}
+
+/* Gives the view's memory back. */
+void close_tree_view(tree_screen *s)
+{
+    drop_tree(&s->tree);
+}

@@ -1,0 +1,76 @@
+/* The commands that look into one file: show and screen. */
+#include "commands.h"
+#include "input.h"
+#include "message.h"
+#include "outline.h"
+#include "pager.h"
+#include "refusal.h"
+#include "screen.h"
+
+enum { BYTES_TO_JUDGE = 32 << 20 }; /* by the library before a file is shown: a fraction of a second */
+
+/* The outline of an accepted file; tells and answers false where the library disagrees with it. */
+static bool outline_of(outline *o, const input *in, bai2_summary s)
+{
+    if (make_outline(o, in->file, s, BYTES_TO_JUDGE))
+        return true;
+    complain("%s: the display disagrees with the library, so nothing is shown; this is a fault of "
+             "the program, please report it with the file", in->name);
+    return false;
+}
+
+/* bai2 show FILE: the report, or the refusal in words. */
+int show_command(const arguments *a)
+{
+    input in;
+    outline o;
+    bool good = false;
+    if (!load(&in, a->operands[0]))
+        return REFUSED;
+    bai2_summary s = bai2_read(in.file.bytes, in.file.length);
+    if (s.number != 0) {
+        tell_refusal(stderr, in.name, in.file, s.number, s.place);
+    } else if (outline_of(&o, &in, s)) {
+        good = put_report_paged(&o);
+        drop_outline(&o);
+    }
+    unload(&in);
+    return good ? GOOD : REFUSED;
+}
+
+/* Lets the user move about in an accepted file's tree; false where there is no terminal. */
+static bool show_tree_screen(const input *in, const outline *o)
+{
+    tree_screen screen;
+    view v = open_tree_view(&screen, in->name, o);
+    bool shown = run_view(&v);
+    close_tree_view(&screen);
+    return shown;
+}
+
+/* Lets the user move about in a refused file's lines. */
+static void show_refusal_screen(const input *in, bai2_summary s)
+{
+    refusal_screen screen;
+    view v = open_refusal_view(&screen, in->name, in->file, s.number, s.place);
+    run_view(&v);
+}
+
+/* bai2 screen FILE: the file's tree to move about in, or its refusal at the byte. */
+int screen_command(const arguments *a)
+{
+    input in;
+    outline o;
+    bool good = false;
+    if (!load(&in, a->operands[0]))
+        return REFUSED;
+    bai2_summary s = bai2_read(in.file.bytes, in.file.length);
+    if (s.number != 0) {
+        show_refusal_screen(&in, s);
+    } else if (outline_of(&o, &in, s)) {
+        good = show_tree_screen(&in, &o);
+        drop_outline(&o);
+    }
+    unload(&in);
+    return good ? GOOD : REFUSED;
+}
