@@ -1,6 +1,6 @@
 /* bai2.h: judge, cut, split, combine and write BAI2 (version 2) cash files.
 
-   This version's libbai2.a has bai2_read. The other calls are declared here as they will be.
+   This version's libbai2.a has bai2_read and bai2_split. The other calls are declared here as they will be.
 
    HOW TO CALL
    Every call takes byte slices, each a pointer and a length, and answers numbers. No call

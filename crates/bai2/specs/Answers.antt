@@ -1,6 +1,9 @@
 -- What the answers to C say in document 01's terms: the same figures, field by field. Assumes nothing.
+use Rattle.rules.specs.Bytes.{Bytes}
 use Rattle.rules.specs.Answers as rules
+use Rattle.rules.specs.Combine as combine
 use Rattle.bai2.specs.declared.ReadAnswer.{ReadAnswer}
+use Rattle.bai2.specs.declared.SplitAnswer.{SplitAnswer}
 
 abbrev pub readMeant : ReadAnswer → rules.ReadAnswer
 readMeant r =
@@ -13,3 +16,7 @@ readMeant r =
       details = r .details;
       records = r .records;
     }
+
+-- an answer of split, with what the output slice holds
+abbrev pub splitMeant : SplitAnswer → Bytes → combine.Answer
+splitMeant r out = record { number = r .number; place = r .place; which = 0; len = r .length; output = out }

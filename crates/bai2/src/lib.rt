@@ -7,7 +7,8 @@ ghost use Prim.Native.Nat.{_+_, _≤_};
 ghost use Rattle.rules.specs.Numbers.{asInteger, most};
 ghost use Rattle.rules.specs.Answers.{read};
 ghost use Rattle.digits.specs.Kinds.{sumMeant};
-ghost use Rattle.bai2.specs.Answers.{readMeant};
+ghost use Rattle.rules.specs.Split.{split};
+ghost use Rattle.bai2.specs.Answers.{readMeant, splitMeant};
 
 // What reading a file answers.
 #[repr(C)]
@@ -64,5 +65,27 @@ pub extern "C" fn bai2_read(file: &[u8]) -> ReadAnswer
                 records: 0,
             };
         }
+    }
+}
+
+// What splitting a file answers.
+#[repr(C)]
+pub struct SplitAnswer {
+    pub number: u64,
+    pub place: u64,
+    pub length: u64,
+}
+
+// The file with one receiver's groups alone, at the front of out.
+#[no_mangle]
+pub extern "C" fn bai2_split(name: &[u8], file: &[u8], out: &mut [u8]) -> SplitAnswer
+    ensures { λ r. ⌜ splitMeant r (now (out .exit)) ≡ split (now (name .entry)) (now (file .entry)) (now (out .entry)) ⌝ }
+{
+    let r = joining::split(name, file, out);
+    let place = r.place;
+    SplitAnswer {
+        number: r.number,
+        place: place.0 as u64,
+        length: r.length as u64,
     }
 }
