@@ -1,3 +1,4 @@
 -- Laws that belong to no one call.
 pub mod Signs
 pub mod Reading
+pub mod OneAnswer

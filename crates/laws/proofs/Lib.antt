@@ -23,5 +23,6 @@ pub mod CombineSplit
 pub mod Demand3
 pub mod Slices
 pub mod ForCode
+pub mod OneAnswer
 pub mod FileTheorems
 pub mod CallTheorems

@@ -29,6 +29,11 @@ NotRefused x = x .number ≡ 0
 abbrev pub written : Answer → Bytes
 written x = take (x .len) (x .output)
 
+-- what a call leaves: its answer, and its output slice
+pub record Left (A : Type 0) : Type 0 where
+  pub answer : A
+  pub slice : Bytes
+
 -- ---- lists
 
 -- a property of every element of a list

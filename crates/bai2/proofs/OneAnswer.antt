@@ -1,0 +1,123 @@
+-- One answer for each public call: two results that both meet its promise are equal, and so are the output slices. Each is `one-answer` of crate
+-- `laws`, with the way from the meaning back to the answer. Assumes nothing.
+use mathlib.Core.Path.{_≡_, refl, ap}
+use Rattle.rules.specs.Bytes.{Bytes}
+use Rattle.rules.specs.Outcome.{Outcome, refused, fine}
+use Rattle.rules.specs.Totals as totals
+use Rattle.rules.specs.Verdict.{judge}
+use Rattle.rules.specs.Answers as rules
+use Rattle.rules.specs.Combine as combine
+use Rattle.rules.specs.Split.{split}
+use Rattle.rules.specs.Writer as writing
+use Rattle.laws.specs.Words.{Left}
+use Rattle.laws.proofs.OneAnswer.{one-answer}
+use Rattle.digits.specs.Kinds.{unitsOf}
+use Rattle.reader.specs.declared.Summary.{Summary}
+use Rattle.reader.specs.declared.Verdict.{Verdict}
+use Rattle.reader.specs.declared.Verdict.the-variants.{Accepted, Refused}
+use Rattle.reader.specs.Meanings.{verdictMeant}
+use Rattle.joining.specs.declared.Answer.{Answer}
+use Rattle.joining.specs.Answers.{answerMeant}
+use Rattle.writer.specs.declared.state.Summary as written-summary
+use Rattle.writer.specs.declared.state.Phase.{Phase}
+use Rattle.writer.specs.declared.state.Phase.the-variants as phases
+use Rattle.writer.specs.declared.state.Writer.{Writer}
+use Rattle.writer.specs.declared.state.Written.{Written}
+use Rattle.writer.specs.States.{phaseMeant, writerMeant, writtenMeant}
+use Rattle.bai2.specs.declared.ReadAnswer.{ReadAnswer}
+use Rattle.bai2.specs.declared.SplitAnswer.{SplitAnswer}
+use Rattle.bai2.specs.Answers.{readMeant, splitMeant}
+
+-- ---- reading
+
+abbrev verdictOf : Outcome totals.Summary → Verdict
+verdictOf (fine s) = Accepted (record { total = unitsOf (s .sum); groups = s .groups; accounts = s .accounts; details = s .details; records = record { 0 = s .lines } })
+verdictOf (refused n p) = Refused n (record { 0 = p })
+
+same-verdict : (v : Verdict) → verdictOf (verdictMeant v) ≡ v
+same-verdict (Accepted s) = refl
+same-verdict (Refused n p) = refl
+
+-- reader::read
+pub read-one : (file : Bytes) (v w : Verdict) → verdictMeant v ≡ judge file → verdictMeant w ≡ judge file → v ≡ w
+read-one file = one-answer verdictMeant verdictOf same-verdict (judge file)
+
+-- bai2_read
+pub c-read-one : (file : Bytes) (r s : ReadAnswer) → readMeant r ≡ rules.read file → readMeant s ≡ rules.read file → r ≡ s
+c-read-one file =
+    one-answer readMeant
+    (λ (m : rules.ReadAnswer). record { number = m .number; place = m .place; total = m .total; groups = m .groups; accounts = m .accounts; details = m .details; records = m .records })
+    (λ r. refl) (rules.read file)
+
+-- ---- splitting
+
+-- joining::split
+pub split-one : (name file before : Bytes) (x y : Left Answer)
+    → answerMeant (x .answer) (x .slice) ≡ split name file before → answerMeant (y .answer) (y .slice) ≡ split name file before → x ≡ y
+split-one name file before =
+    one-answer (λ (x : Left Answer). answerMeant (x .answer) (x .slice))
+    (λ (m : combine.Answer). record { answer = record { number = m .number; place = record { 0 = m .place }; length = m .len }; slice = m .output })
+    (λ x. refl) (split name file before)
+
+-- bai2_split
+pub c-split-one : (name file before : Bytes) (x y : Left SplitAnswer)
+    → splitMeant (x .answer) (x .slice) ≡ split name file before → splitMeant (y .answer) (y .slice) ≡ split name file before → x ≡ y
+c-split-one name file before =
+    one-answer (λ (x : Left SplitAnswer). splitMeant (x .answer) (x .slice))
+    (λ (m : combine.Answer). record { answer = record { number = m .number; place = m .place; length = m .len }; slice = m .output })
+    (λ x. refl) (split name file before)
+
+-- ---- writing
+
+abbrev phaseOf : writing.Phase → Phase
+phaseOf writing.fresh = phases.Fresh
+phaseOf writing.betweenGroups = phases.BetweenGroups
+phaseOf writing.inGroup = phases.InGroup
+phaseOf writing.betweenAccounts = phases.BetweenAccounts
+phaseOf writing.inAccount = phases.InAccount
+phaseOf writing.finished = phases.Finished
+
+same-phase : (p : Phase) → phaseOf (phaseMeant p) ≡ p
+same-phase phases.Fresh = refl
+same-phase phases.BetweenGroups = refl
+same-phase phases.InGroup = refl
+same-phase phases.BetweenAccounts = refl
+same-phase phases.InAccount = refl
+same-phase phases.Finished = refl
+
+abbrev summaryOf : totals.Summary → written-summary.Summary
+summaryOf s = record { sum = unitsOf (s .sum); groups = s .groups; accounts = s .accounts; details = s .details; lines = record { 0 = s .lines } }
+
+abbrev writerOf : writing.Writer → Writer
+writerOf w =
+    record {
+      phase = phaseOf (w .phase);
+      items = w .items;
+      size = record { 0 = w .size };
+      file = summaryOf (w .file);
+      group = summaryOf (w .group);
+      account = summaryOf (w .account);
+    }
+
+same-writer : (w : Writer) → writerOf (writerMeant w) ≡ w
+same-writer w =
+    ap (λ (p : Phase). record { phase = p; items = w .items; size = w .size; file = w .file; group = w .group; account = w .account }) (same-phase (w .phase))
+
+-- Writer::new
+pub new-one : (v w : Writer) → writerMeant v ≡ writing.freshWriter → writerMeant w ≡ writing.freshWriter → v ≡ w
+new-one = one-answer writerMeant writerOf same-writer writing.freshWriter
+
+same-written : (x : Left Written)
+    → _≡_ {A = Left Written}
+    (record { answer = record { number = x .answer .number; place = x .answer .place; length = x .answer .length; writer = writerOf (writerMeant (x .answer .writer)) }; slice = x .slice }) x
+same-written x =
+    ap (λ (w : Writer). record { answer = record { number = x .answer .number; place = x .answer .place; length = x .answer .length; writer = w }; slice = x .slice })
+    (same-writer (x .answer .writer))
+
+-- Writer::header, group, account, item, detail, end_account, end_group, end_file: each call on each state
+pub write-one : (w : writing.Writer) (call : writing.Call) (before : Bytes) (x y : Left Written)
+    → writtenMeant (x .answer) (x .slice) ≡ writing.write w call before → writtenMeant (y .answer) (y .slice) ≡ writing.write w call before → x ≡ y
+write-one w call before =
+    one-answer (λ (x : Left Written). writtenMeant (x .answer) (x .slice))
+    (λ (m : writing.Written). record { answer = record { number = m .number; place = record { 0 = m .place }; length = m .len; writer = writerOf (m .writer) }; slice = m .output })
+    same-written (writing.write w call before)
