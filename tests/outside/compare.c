@@ -83,6 +83,18 @@ static void read_back(size_t length)
     must_hold("a result is accepted", s.number == 0);
 }
 
+/* Splits a file for the receiver of each of its groups. */
+static void split_for_each_group(slice file)
+{
+    bai2_part group;
+    for (uint64_t i = 0; (group = oracle.group(file.bytes, file.length, i)).number == 0; i++) {
+        const uint8_t *receiver = file.bytes + group.start + 3;
+        slice name = lend(&name_memory, receiver, strcspn((const char *)receiver, ",/"));
+        name_inputs(file, name);
+        numbers[ask_split(name, file, ample(file.length)).number]++;
+    }
+}
+
 /* Splits one file for some names, into slices of several lengths. */
 static void compare_split(dice *d)
 {
@@ -103,6 +115,7 @@ static void compare_split(dice *d)
         ask_split(name, file, (size_t)a.length);
         read_back((size_t)a.length);
     }
+    split_for_each_group(lend(&file_memory[0], copy.bytes, copy.length));
     release(&copy);
 }
 
