@@ -24,7 +24,7 @@ use Rattle.laws.proofs.Envelopes.{group-codes}
 use Rattle.laws.proofs.Shape.{is-file, one-header, file-codes}
 use Rattle.laws.proofs.Summaries.{add-none, none-add, summary-as}
 use Rattle.laws.proofs.Steps.{Taken}
-use Rattle.laws.proofs.Runs.{run-one, Through, through, run-sum, run-bounded, run-within, behind-header, groups-anywhere}
+use Rattle.laws.proofs.Runs.{run-one, Through, through, run-sum, run-bounded, run-limit, run-within, behind-header, groups-anywhere}
 use Rattle.laws.proofs.Kept.{Kept, kept-left, kept-right, kept-both, file-kept}
 use Rattle.laws.proofs.Walks.{no-amounts, limit-48}
 
@@ -114,10 +114,20 @@ module _ (file : Bytes) (i : IsFile file) (last : State) (runs : run 0 start (fi
   abbrev codes : Record → Type 0
   codes r = Of (groupHeader ∷ groupCodes) r
 
+  inner-codes : All codes (joined gs)
+  inner-codes = all-joined codes gs (all-from (All codes) IsGroup group-codes gs (i .groups))
+
   lines-within : T (linesWithin (limitOf (h ∷ [])) (joined (joined gs)))
   lines-within =
       subst (λ (y : State). T (linesWithin (y .limit) (joined (joined gs)))) (opened-by h (went .opened) (went .opens))
-      (run-within (joined gs) (went .opened) (went .last) (all-joined codes gs (all-from (All codes) IsGroup group-codes gs (i .groups))) (went .inner))
+      (run-within (joined gs) (went .opened) (went .last) inner-codes (went .inner))
+
+  limit-stays : last .limit ≡ limitOf (h ∷ [])
+  unfolding limitBehind sameBytes
+  limit-stays =
+      ap (λ (y : State). y .limit) (went .closes .next)
+      ∙ run-limit (joined gs) (went .opened) (went .last) inner-codes (went .inner)
+      ∙ ap (λ (y : State). y .limit) (opened-by h (went .opened) (went .opens))
 
   sums : last .file ≡ summaryOfAll (fileRecords file)
   unfolding among
@@ -151,6 +161,10 @@ decomposed file s h = let a = accepted file s h in decompose file (is-file file 
 -- the summary is what the records add
 pub summary-is : (file : Bytes) (s : Summary) → judge file ≡ fine s → s ≡ summaryOfAll (fileRecords file)
 summary-is file s h = let a = accepted file s h in sym (a .summary) ∙ sums file (is-file file s h) (a .last) (a .runs)
+
+-- the limit at its end is what its header gave
+pub limit-is : (file : Bytes) (s : Summary) → judge file ≡ fine s → (last : State) → run 0 start (fileRecords file) ≡ fine last → last .limit ≡ limitOf (headerIn file)
+limit-is file s h last runs = let i = is-file file s h in limit-stays file i last runs ∙ ap limitOf (sym (one-header file i))
 
 -- ---- some of the groups
 

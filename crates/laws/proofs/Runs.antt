@@ -106,6 +106,10 @@ run-bounded cs (r ∷ rs) s t a h k =
 step-limit : (s t : State) (r : Record) → Of (groupHeader ∷ groupCodes) r → step s r ≡ fine t → t .limit ≡ s .limit
 step-limit s t r o h = ap (λ (y : State). y .limit) (taken (o .code) s r t (o .is-code) h .next) ∙ keeps-limit (o .code) (o .is-among) (s .limit) (fieldsIn (o .code) r)
 
+pub run-limit : (rs : List Record) (s t : State) → All (Of (groupHeader ∷ groupCodes)) rs → run 0 s rs ≡ fine t → t .limit ≡ s .limit
+run-limit [] s t a h = ap (λ (y : State). y .limit) (sym (run-none 0 s t h))
+run-limit (r ∷ rs) s t a h = let (u, first, rest) = run-cons 0 s t r rs h in run-limit rs u t (a .1) rest ∙ step-limit s u r (a .0) first
+
 pub run-within : (rs : List Record) (s t : State) → All (Of (groupHeader ∷ groupCodes)) rs → run 0 s rs ≡ fine t → T (linesWithin (s .limit) (joined rs))
 unfolding joined linesWithin
 run-within [] s t a h = tt

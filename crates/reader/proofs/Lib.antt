@@ -6,3 +6,4 @@ pub mod Growing
 pub mod Settles
 pub mod Agreeing
 pub mod Steps
+pub mod GoodFiles

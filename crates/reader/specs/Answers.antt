@@ -1,18 +1,25 @@
--- What the answers for one record say. Assumes nothing.
+-- What the answers for one record and for a file say. Assumes nothing.
 use Prim.Native.Nat.{ℕ, _+_, _≤_, _<_}
 use mathlib.Core.Path.{_≡_}
+use mathlib.Core.List.{_++_}
 use lib.ListN.{length}
 use Rattle.rules.specs.Bytes.{Bytes}
 use Rattle.rules.specs.Outcome.{refused, fine}
 use Rattle.rules.specs.Numbers.{most, magnitudes}
 use Rattle.rules.specs.Lines.{Code, linesOf, recordSize}
-use Rattle.rules.specs.Verdict.{mostBytes, step}
+use Rattle.rules.specs.Verdict.{mostBytes, step, judge}
+use Rattle.rules.specs.Parts.{headerIn, groupsIn, sizeOfAll}
+use Rattle.rules.specs.Combine.{joined, limitOf}
 use Rattle.digits.specs.Kinds.{sumMeant}
 use Rattle.lines.specs.Cut.{firstRecord}
 use Rattle.kept.specs.declared.Kept.{Kept}
 use Rattle.kept.specs.Keeping.{Within}
-use Rattle.reader.specs.Meanings.{stateMeant, Held}
+use Rattle.reader.specs.Meanings.{summaryMeant, stateMeant, Held}
 use Rattle.reader.specs.Stepping.{settledK}
+use Rattle.reader.specs.Running.{atEnd}
+use Rattle.reader.specs.declared.GoodFile.{GoodFile}
+use Rattle.reader.specs.declared.Judged.{Judged}
+use Rattle.reader.specs.declared.Judged.the-variants as judged
 use Rattle.reader.specs.declared.state.State.{State}
 use Rattle.reader.specs.declared.record.Settled.{Settled}
 use Rattle.reader.specs.declared.record.Settled.the-variants as settled
@@ -56,3 +63,23 @@ abbrev pub StepIs : Stepped → State → Bytes → Type 0
 StepIs stepped.End s rest = length rest ≡ 0
 StepIs (stepped.Refused k p) s rest = Stopped s rest k (p .0)
 StepIs (stepped.Next t size) s rest = Passed s rest t size
+
+-- ---- behind the last record, which starts at `last`, of a file of n bytes
+
+abbrev pub EndIs : Judged → State → ℕ → ℕ → Type 0
+EndIs (judged.Accepted g) s last n = (atEnd (stateMeant s) n ≡ fine (summaryMeant (s .file))) × (g ≡ record { summary = s .file; limit = s .limit; last = last })
+EndIs (judged.Refused k p) s last n = atEnd (stateMeant s) n ≡ refused k (p .0)
+
+-- ---- a file
+
+-- accepted, with this summary; L of its header, or 4,096; and the bytes before its 99. `groups` and `records` spare callers the bounds
+pub record IsGood (g : GoodFile) (file : Bytes) : Type 0 where
+  pub accepts : judge file ≡ fine (summaryMeant (g .summary))
+  pub limit : g .limit ≡ limitOf (headerIn file)
+  pub last : g .last ≡ sizeOfAll (headerIn file ++ joined (groupsIn file))
+  pub groups : g .summary .groups ≤ mostBytes
+  pub records : g .summary .records .0 ≤ mostBytes
+
+abbrev pub JudgedIs : Judged → Bytes → Type 0
+JudgedIs (judged.Accepted g) file = IsGood g file
+JudgedIs (judged.Refused k p) file = judge file ≡ refused k (p .0)

@@ -1,5 +1,5 @@
 -- `reader::at_end` meets its contract. Assumes nothing.
-use mathlib.Core.Path.{sym, _∙_}
+use mathlib.Core.Path.{refl, sym, _∙_}
 use borrow.Author.Needs.{needs}
 use Rattle.reader.specs.Running.{atEnd}
 use Rattle.reader.proofs.at_end.Statement.{statement}
@@ -7,11 +7,11 @@ use Rattle.reader.proofs.at_end.Tie as tie
 
 returns : tie.Need-returns
 unfolding atEnd
-returns c = sym (rw (sym (c .before .before .has-ended .ensures) ∙ c .before .if1 .taken))
+returns c = (rw (sym (c .before .before .has-ended .ensures) ∙ c .before .if1 .taken), refl)
 
 returns-2 : tie.Need-returns-2
 unfolding atEnd
-returns-2 c = sym (rw (sym (c .before .has-ended .ensures) ∙ c .if1 .left))
+returns-2 c = rw (sym (c .before .has-ended .ensures) ∙ c .if1 .left)
 
 pub at-end-spec : {M : Type 1} → statement M
 at-end-spec = tie.close (tie.spec (λ c κs. search needs) returns returns-2)
