@@ -1,56 +1,66 @@
--- What the walk keeps of a 98 is what it states. Assumes nothing.
-use Prim.Native.Nat.{ℕ, _≤_, zero-le}
+-- What a 98 states as its total is the first field of its bytes. Assumes nothing.
+use Prim.Native.Nat.{ℕ, _-_, _≤_, _<_}
+use native.Mathlib.Omega.{arith}
 use mathlib.Core.Path.{_≡_, refl, sym, ap, subst, _∙_}
-use mathlib.Core.List.{List, [], _∷_}
-use lib.Dec.{eqb}
-use Rattle.rules.specs.Bytes.{Bytes, plus, minus}
-use Rattle.rules.specs.Numbers.{Signed, signed, asSum, number, numberFrom, withoutSign, Sum, most}
-use Rattle.rules.specs.Outcome.{Outcome, refused, fine}
-use Rattle.rules.specs.Lines.{groupTrailer, Record}
-use Rattle.rules.specs.Grammar.{total, records, fieldsOf}
-use Rattle.rules.specs.Records.{Field, the, walkRecord}
-use Rattle.rules.proofs.Tests.{Known, holds, fails, known, true-eq}
-use Rattle.rules.proofs.Binds.{refused-fine, fine-same}
-use Rattle.kept.specs.declared.Kept.{Kept}
-use Rattle.kept.specs.declared.Figure.{Figure}
-use Rattle.kept.specs.Keeping.{fresh}
-use Rattle.kept.specs.Folds.{FigureIs, KeptOf}
-use Rattle.walk.specs.Working.{walkFrom}
-use Rattle.walk.specs.Joins.{Joins, refuses, keeps}
-use Rattle.walk.proofs.Joining.{joins}
-use Rattle.groups.specs.Reading.{States, Stated}
+use mathlib.Core.Bool.{Bool, true, false}
+use mathlib.Core.List.{List, [], _∷_, _++_}
+use borrow.Author.Tests.{ltb-false}
+use lib.ListN.{length, take, drop, take-append-drop, length-drop}
+use Rattle.rules.specs.Bytes.{Bytes}
+use Rattle.rules.specs.Numbers.{Signed, signed, asSum, Sum}
+use Rattle.rules.specs.Outcome.{fine}
+use Rattle.rules.specs.Lines.{linesOf, Line, groupTrailer}
+use Rattle.rules.specs.Grammar.{Kind, total, good, fits, judged, isSigned, fieldsOf}
+use Rattle.rules.specs.Records.{Field, the, walkCells, walkLines, walkRecord}
+use Rattle.rules.proofs.Binds.{refused-fine}
+use Rattle.digits.specs.Reading.{amountIn}
+use Rattle.digits.proofs.Signs.{amount-signed}
+use Rattle.fields.specs.declared.Cut.the-variants.{Open}
+use Rattle.fields.specs.declared.Cut.the-variants as cut
+use Rattle.fields.specs.Lengths.{fieldLen, cutOf}
+use Rattle.lines.specs.Cut.{bodyLen, firstLine, lineLen}
+use Rattle.lines.specs.Cutting.{first-of}
+use Rattle.groups.specs.Reading.{Stated}
+use Rattle.groups.proofs.FirstField.{firstBytes, HasMark, first-field, first-append, cut-open, cut-field}
 
--- a sign adds nothing to a number
-sign-step : (b : ℕ) (bs : Bytes) → Known (eqb b plus) → Known (eqb b minus) → number (withoutSign (b ∷ bs)) ≡ number (b ∷ bs)
-unfolding withoutSign numberFrom
-sign-step b bs (holds e) m = rw e (rw (true-eq b plus e))
-sign-step b bs (fails e) (holds f) = rw (e, f) (rw (true-eq b minus f))
-sign-step b bs (fails e) (fails f) = rw (e, f)
+-- what is read as a 98 has a first field, and that is its total
+pub record Totals (xs : Bytes) (fs : List Field) : Type 0 where
+  pub ends : HasMark xs
+  pub is-total : amountIn (firstBytes xs) ≡ signed (the total fs .bytes)
 
-number-sign : (bs : Bytes) → number (withoutSign bs) ≡ number bs
-unfolding withoutSign
-number-sign [] = refl
-number-sign (b ∷ bs) = sign-step b bs (known (eqb b plus)) (known (eqb b minus))
+fitted : (t : Bool) (ks : List Kind) → fits t ≡ good ks → t ≡ true
+fitted true ks h = refl
+fitted false ks h = cc
 
-value-is : (x : Figure) (f : Field) → FigureIs x f → x .value ≡ number (f .bytes)
-unfolding signed
-value-is x f i = ap (λ (a : Signed). a .magnitude) (i .amount) ∙ number-sign (f .bytes)
+of-line : (l : Line) (ls : List Line) (more : Bytes) (fs : List Field) → walkRecord groupTrailer (l ∷ ls) ≡ fine fs → Totals (l .body ++ more) fs
+unfolding walkRecord walkCells fieldsOf the judged
+of-line l ls more fs h =
+    let f = first-field total _ (λ c cs. refl) l ls fs h in
+    let (ends, same) = first-append (l .body) more (f .ends) in
+    let is-first : the total fs .bytes ≡ firstBytes (l .body) = ap (λ (gs : List Field). the total gs .bytes) (f .begins) in
+    let reads = amount-signed (firstBytes (l .body)) (fitted (isSigned (firstBytes (l .body))) (f .new) (f .is-good)) in
+    record { ends = ends; is-total = ap amountIn same ∙ reads ∙ ap signed (sym is-first) }
 
--- where the walk refuses it, it is no 98
-pub not-stated : (r : Record) (n p : ℕ) (sum : Sum) (lines : ℕ) → refused n p ≡ walkFrom (fieldsOf groupTrailer) (fresh 0) r → Stated r sum lines
-not-stated r n p sum lines e fs h = go (walkRecord groupTrailer r) (walkFrom (fieldsOf groupTrailer) (fresh 0) r) (joins groupTrailer r 0 zero-le) h e
-  where
-    go : (o : Outcome (List Field)) (k : Outcome Kept) → Joins 0 o k → o ≡ fine fs → refused n p ≡ k → States fs sum lines
-    go o k (refuses m q z) a b = absurd (refused-fine m q fs (sym z ∙ a))
-    go o k (keeps gs x z is) a b = absurd (refused-fine n p x b)
+pub totals : (xs : Bytes) (fs : List Field) → walkRecord groupTrailer (linesOf xs) ≡ fine fs → Totals xs fs
+unfolding walkRecord walkLines linesOf fieldsOf
+totals [] fs h = absurd (refused-fine 8 0 fs h)
+totals (b ∷ bs) fs h =
+    let xs = b ∷ bs in
+    let whole : firstLine xs .body ++ drop (bodyLen xs) xs ≡ xs = take-append-drop (bodyLen xs) xs in
+    let walked = ap (walkRecord groupTrailer) (sym (first-of xs (omega arith))) ∙ h in
+    subst (λ (ys : Bytes). Totals ys fs) whole (of-line (firstLine xs) (linesOf (drop (lineLen xs) xs)) (drop (bodyLen xs) xs) fs walked)
 
-pub kept-states : (r : Record) (k : Kept) (sum : Sum) → fine k ≡ walkFrom (fieldsOf groupTrailer) (fresh 0) r
-    → sum ≡ asSum (record { negative = k .total .negative; magnitude = k .total .value }) → Stated r sum (k .records .value)
-kept-states r k sum e s fs h = go (walkRecord groupTrailer r) (walkFrom (fieldsOf groupTrailer) (fresh 0) r) (joins groupTrailer r 0 zero-le) h e
-  where
-    go : (o : Outcome (List Field)) (x : Outcome Kept) → Joins 0 o x → o ≡ fine fs → fine k ≡ x → States fs sum (k .records .value)
-    go o y (refuses m q z) a b = absurd (refused-fine m q k (sym b))
-    go o y (keeps gs x z is) a b =
-        let same : x ≡ k = sym (fine-same k x b) in
-        let of : KeptOf 0 fs k = subst (λ (y : Kept). KeptOf 0 fs y) same (subst (λ (hs : List Field). KeptOf 0 hs x) (fine-same gs fs (sym z ∙ a)) is) in
-        record { total = s ∙ ap (λ (y : Signed). asSum y) (of .total .amount); records = value-is (k .records) (the records fs) (of .records) }
+-- ---- as the code finds it
+
+module _ (xs : Bytes) where
+  pub stated-short : (sum : Sum) → length xs < 3 → Stated (linesOf xs) sum
+  stated-short sum h fs w = let z = totals xs fs w .ends in absurd (omega (arith, length-drop 3 xs))
+
+  pub stated-open : (sum : Sum) → cutOf false (take (length xs - 3) (drop 3 xs)) ≡ Open → Stated (linesOf xs) sum
+  stated-open sum e fs w = absurd (omega (arith, totals xs fs w .ends, ltb-false (fieldLen (drop 3 xs)) (length (drop 3 xs)) (cut-open xs e)))
+
+  pub stated-field : (n : ℕ) (a : Signed) (sum : Sum) → cutOf false (take (length xs - 3) (drop 3 xs)) ≡ cut.Field n → a ≡ amountIn (take n (drop 3 xs)) → sum ≡ asSum a
+      → Stated (linesOf xs) sum
+  stated-field n a sum e is-read is-sum fs w =
+      let same : amountIn (take n (drop 3 xs)) ≡ amountIn (firstBytes xs) = ap (λ (k : ℕ). amountIn (take k (drop 3 xs))) (sym (cut-field xs n e .1)) in
+      is-sum ∙ ap asSum (is-read ∙ same ∙ totals xs fs w .is-total)

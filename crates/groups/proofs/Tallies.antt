@@ -1,4 +1,4 @@
--- The numbers of the groups for a name, added up group by group from what their 98s state. Assumes nothing.
+-- The numbers of the groups for a name, added up group by group: their totals as their 98s state them, and their lines. Assumes nothing.
 use Prim.Native.Nat.{ℕ, _+_, _≤_, _<_}
 use native.Mathlib.Omega.{arith}
 use mathlib.Core.Path.{_≡_, refl, sym, ap, subst, _∙_}
@@ -11,7 +11,7 @@ use Rattle.rules.specs.Bytes.{Bytes, sameBytes}
 use Rattle.rules.specs.Numbers.{Signed, signed, Sum, zeroSum, _⊕_, asSum, equals, magnitudes, most}
 use Rattle.rules.specs.Outcome.{fine}
 use Rattle.rules.specs.Lines.{Code, groupHeader, groupTrailer, Record, lineBytes, recordBytes}
-use Rattle.rules.specs.Grammar.{total, records}
+use Rattle.rules.specs.Grammar.{total}
 use Rattle.rules.specs.Records.{Field, the, walkRecord}
 use Rattle.rules.specs.Totals.{Summary, _⊞_, one, adding, ofRecord}
 use Rattle.rules.specs.Parts.{receiverOf, fieldsIn}
@@ -27,7 +27,7 @@ use Rattle.laws.proofs.Summaries.{summary-append, summary-as, lines-counted}
 use Rattle.laws.proofs.WholeLines.{no-more-lines}
 use Rattle.laws.proofs.Kept.{bytes-append, bytes-joined}
 use Rattle.groups.specs.Ahead.{Stands, Tallied}
-use Rattle.groups.specs.Reading.{States, Stated}
+use Rattle.groups.specs.Reading.{Stated}
 
 -- ---- what one group adds
 
@@ -47,7 +47,7 @@ one-group (r ∷ rs) b =
     let e : summaryOf r .groups ≡ 1 = ap (λ (u : Summary). u .groups) (summary-as groupHeader r (b .0)) in
     rw (e, no-groups groupCodes rs (refl, (refl, (refl, (refl, tt)))) (b .1))
 
--- a group's numbers, as its 98 states them
+-- a group's numbers: the total that its 98 states, and its lines
 pub record Adds (g : List Record) (sum : Sum) (lines : ℕ) : Type 0 where
   pub group : summaryOfAll g .groups ≡ 1
   pub total : summaryOfAll g .sum .pluses + sum .minuses ≡ sum .pluses + summaryOfAll g .sum .minuses
@@ -63,20 +63,19 @@ one-sided a s e = go (s .negative) refl
     go true n = let e′ = rw n at e in rw n (omega arith)
     go false n = let e′ = rw n at e in rw n (omega arith)
 
-pub adds : (g : List Record) (s : Stands g) (sum : Sum) (lines : ℕ) → Stated (s .controlled .trailer) sum lines → Adds g sum lines
-adds g s sum lines said =
+pub adds : (g : List Record) (s : Stands g) (sum : Sum) (lines : ℕ) → Stated (s .controlled .trailer) sum → lines ≡ length (joined g) → Adds g sum lines
+adds g s sum lines said lines-are =
     let c = s .controlled in
-    let x = said (c .fields) (c .walked) in
     let a = signed (the total (c .fields) .bytes) in
+    let is-total : sum ≡ asSum a = said (c .fields) (c .walked) in
     let stated = eqb→eq _ _ (c .states-total) in
     let counted = lines-counted _ g (group-codes g (s .is-group)) in
-    let lines-are : lines ≡ length (joined g) = x .records ∙ c .states-lines in
     let most-lines = no-more-lines (joined g) (s .kept .wholes) in
     let bytes = ap length (bytes-joined g) in
     record {
       group = one-group g (group-begins g (s .is-group));
-      total = subst (λ (u : Sum). summaryOfAll g .sum .pluses + u .minuses ≡ u .pluses + summaryOfAll g .sum .minuses) (sym (x .total)) stated;
-      small = subst (λ (u : Sum). magnitudes u ≤ magnitudes (summaryOfAll g .sum)) (sym (x .total)) (one-sided (summaryOfAll g .sum) a stated);
+      total = subst (λ (u : Sum). summaryOfAll g .sum .pluses + u .minuses ≡ u .pluses + summaryOfAll g .sum .minuses) (sym is-total) stated;
+      small = subst (λ (u : Sum). magnitudes u ≤ magnitudes (summaryOfAll g .sum)) (sym is-total) (one-sided (summaryOfAll g .sum) a stated);
       records = lines-are ∙ sym counted;
       few = omega arith;
     }

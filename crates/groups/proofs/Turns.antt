@@ -3,13 +3,13 @@ use Prim.Native.Nat.{ℕ, _+_, _-_, _≤_, _<_}
 use native.Mathlib.Omega.{arith}
 use mathlib.Core.Path.{_≡_, refl, sym, ap, subst, _∙_}
 use mathlib.Core.Bool.{Bool, true, false, cond, _||_}
-use mathlib.Core.List.{List, [], _∷_, _++_}
+use mathlib.Core.List.{List, [], _∷_, _++_, append-nil}
 use lib.Dec.{T}
 use lib.ListN.{length, take, drop, length-take, length-drop}
 use lib.Seq.{drop-drop, length-take-le}
 use Rattle.rules.specs.Bytes.{Bytes, sameBytes}
 use Rattle.rules.specs.Numbers.{Sum, _⊕_, magnitudes, most}
-use Rattle.rules.specs.Lines.{Line, sizeOf, endBytes, linesOf, Code, groupHeader, groupTrailer, fileTrailer, codeBytes, begins, Record, recordSize, recordBytes}
+use Rattle.rules.specs.Lines.{Line, sizeOf, endBytes, linesOf, lineBytes, Code, groupHeader, groupTrailer, fileTrailer, codeBytes, begins, Record, recordSize, recordBytes}
 use Rattle.rules.specs.Order.{among}
 use Rattle.rules.specs.Parts.{groupsIn, receiverOf, sizeOfAll}
 use Rattle.rules.specs.Combine.{joined}
@@ -23,7 +23,8 @@ use Rattle.digits.specs.Put.{Put}
 use Rattle.slices.specs.Wrote.{Wrote}
 use Rattle.slices.proofs.Writing.{wrote-put}
 use Rattle.laws.proofs.Codes.{of-own, not-of}
-use Rattle.laws.proofs.Kept.{bytes-append}
+use Rattle.laws.proofs.WholeLines.{wholes-stay}
+use Rattle.laws.proofs.Kept.{bytes-append, bytes-joined}
 use Rattle.groups.specs.Ahead.{Stands, Ahead, matching}
 use Rattle.groups.specs.Reading.{isFor, Stated}
 use Rattle.groups.proofs.Extents.{before, last, group-size, Next, next, none}
@@ -98,6 +99,14 @@ module _ (s : Bytes) (at t e : ℕ) (begun : sameBytes (codeBytes groupHeader) (
       let size : e - t ≡ recordSize (last g (n .stands)) = omega (arith, last-size) in
       rw (size, from-last) (n .last-reads)
 
+  -- its lines
+  turn-lines : linesOf (take (e - at) xs) ≡ joined g
+  unfolding linesOf
+  turn-lines =
+      ap linesOf (turn-part ∙ bytes-joined g ∙ sym (append-nil (lineBytes (joined g))))
+      ∙ wholes-stay (joined g) [] (n .stands .kept .wholes)
+      ∙ append-nil (joined g)
+
   -- behind it
   from-end : drop (length (recordBytes g)) xs ≡ drop e s
   from-end = let k : at + length (recordBytes g) ≡ e = omega (arith, turn-size, order) in drop-drop (length (recordBytes g)) at s ∙ ap (λ (m : ℕ). drop m s) k
@@ -123,9 +132,10 @@ module _ (s : Bytes) (at t e : ℕ) (begun : sameBytes (codeBytes groupHeader) (
 
     -- its numbers are added
     module _ (h : isFor name (take (e - at) xs) ≡ true) (all : List (List Record)) (groups bytes : ℕ) (sum : Sum) (lines : ℕ) (more : Sum) (m : ℕ)
-        (tally : Tallying all (matching name xs) groups bytes sum lines) (said : Stated (linesOf (take (e - t) (drop t s))) more m) where
+        (tally : Tallying all (matching name xs) groups bytes sum lines) (said : Stated (linesOf (take (e - t) (drop t s))) more)
+        (counted : m ≡ length (linesOf (take (e - at) xs))) where
       its : Adds g more m
-      its = adds g (n .stands) more m (subst (λ (r : Record). Stated r more m) turn-last said)
+      its = adds g (n .stands) more m (subst (λ (r : Record). Stated r more) turn-last said) (counted ∙ ap length turn-lines)
 
       pub few-lines : m ≤ e - at
       few-lines = omega (arith, its .few, turn-size)

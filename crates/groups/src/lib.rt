@@ -1,11 +1,9 @@
-// The groups of an accepted file that are for one receiver: their numbers, from what their 98s state, and their bytes, copied.
+// The groups of an accepted file that are for one receiver: their totals, from what their 98s state, their records, counted, and their bytes, copied.
 use codes::Code;
 use digits::kinds::Records;
 use digits::kinds::Units;
 use digits::kinds::UnitsSum;
 use fields::Cut;
-use walk::Walked;
-use wants::want;
 ghost use mathlib.Core.Path.{_≡_};
 ghost use Prim.Native.Nat.{_≤_};
 ghost use lib.ListN.{length, drop};
@@ -21,12 +19,6 @@ pub struct Tally {
     pub bytes: usize,
     pub total: Units,
     pub records: Records,
-}
-
-// The total and the number of records that a 98 states.
-struct Figures {
-    total: Units,
-    records: Records,
 }
 
 // The group in these bytes is for this name.
@@ -53,22 +45,19 @@ fn signed_units(negative: bool, n: u64) -> Units
     Units(n, 0)
 }
 
-// What the 98 in these bytes states.
-fn stated(rec: &[u8]) -> Figures
-    ensures { λ r. ⌜ Stated (linesOf (now (rec .entry))) (sumMeant (r .total)) (r .records .0) ⌝ }
+// The total that the 98 in these bytes states: its first field.
+fn stated(rec: &[u8]) -> Units
+    ensures { λ r. ⌜ Stated (linesOf (now (rec .entry))) (sumMeant r) ⌝ }
 {
-    match walk::walk_record(rec, want::first_want(Code::GroupTrailer), 0) {
-        Walked::Refused(_, _) => Figures {
-            total: Units(0, 0),
-            records: Records(0),
-        },
-        Walked::Done(kept) => {
-            let total = kept.total;
-            let records = kept.records;
-            Figures {
-                total: signed_units(total.negative, total.value),
-                records: Records(records.value),
-            }
+    if rec.len() < 3 {
+        return Units(0, 0);
+    }
+    match fields::cut_field(false, &rec[3..]) {
+        Cut::Open => Units(0, 0),
+        Cut::Field(n) => {
+            let e = 3 + n;
+            let total = digits::amount_in(&rec[3..e]);
+            signed_units(total.negative, total.magnitude)
         }
     }
 }
@@ -96,9 +85,8 @@ pub fn tally_groups(name: &[u8], file: &[u8], from: usize) -> Tally
         let last = marks::next_mark(file, at, Code::GroupTrailer, Code::FileTrailer);
         let e = lines::record_end(file, last);
         if is_for(name, &file[at..e]) {
-            let figures = stated(&file[last..e]);
-            total = added(total, figures.total);
-            records = records.add(figures.records);
+            total = added(total, stated(&file[last..e]));
+            records = records.add(fresh::count_lines(&file[at..e]));
             groups += 1;
             bytes += e - at;
         }

@@ -1,63 +1,49 @@
+use Prim.Native.Nat.{ℕ, _+_, _-_}
+use native.Mathlib.Omega.{arith}
 use mathlib.Core.Path.{_≡_, sym, ap, _∙_}
-use mathlib.Core.List.{List}
-use Rattle.rules.specs.Outcome.{Outcome}
-use Rattle.rules.specs.Lines.{linesOf}
-use Rattle.rules.specs.Grammar.{Kind}
-use Rattle.kept.specs.declared.Kept.{Kept}
-use Rattle.kept.specs.Keeping.{fresh}
-use Rattle.walk.specs.declared.Walked.{Walked}
-use Rattle.walk.specs.Answers.{walkedOf}
-use Rattle.walk.specs.Working.{walkFrom}
-use Rattle.groups.proofs.Stating.{not-stated, kept-states}
+use lib.ListN.{take, drop, length-drop}
+use Rattle.digits.specs.Reading.{amountIn, amountMeant}
+use Rattle.groups.proofs.FirstField.{cut-field}
+use Rattle.groups.proofs.Stating.{stated-short, stated-open, stated-field}
 use borrow.Author.Needs.{needs}
 use Rattle.groups.proofs.stated.Statement.{statement}
 use Rattle.groups.proofs.stated.Tie as tie
-use Rattle.groups.proofs.stated.Reads as reads
-use Rattle.groups.proofs.stated.Lts as lts
-use Rattle.groups.proofs.signed_units.Reads as signed-units-reads
-use Rattle.walk.proofs.walk_record.Reads as walk-record-reads
-use Rattle.wants.proofs.want.first_want.Reads as first-want-reads
 
--- src/lib.rt:60:34
-first-want-requires : tie.Need-first-want-requires
-first-want-requires c κs = search needs
-
--- src/lib.rt:60:11
-walk-record-requires : tie.Need-walk-record-requires
-walk-record-requires c κs = search needs
-
--- src/lib.rt:62:20
-enum-told : tie.Need-enum-told
-enum-told c = search needs
-
--- src/lib.rt:65:22
-enum-known-kept : tie.Need-enum-known-kept
-enum-known-kept c = search needs
-
--- src/lib.rt:69:24
-signed-units-requires : tie.Need-signed-units-requires
-signed-units-requires c κs = search needs
-
--- src/lib.rt:57:1
 returns : tie.Need-returns
-returns c =
-    let rec = linesOf (c .before .before .before .before .before .args .rec .now) in
-    not-stated rec _ _ _ _ (ap (λ (w : Walked). walkedOf w) (sym (c .enum-told .given .1)) ∙ c .before .before .walk-record .ensures .answer ∙ ap (λ (ks : List Kind). walkFrom ks (fresh 0) rec) (c .before .before .before .first-want .ensures))
+returns c = stated-short (c .before .before .args .rec .now) _ (omega arith)
 
--- src/lib.rt:57:1
+add-e : tie.Need-add-e
+add-e c = omega (arith, length-drop 3 (c .before .before .before .before .before .before .before .args .rec .now), cut-field (c .before .before .before .before .before .before .before .args .rec .now) (c .before .n .given .0 .0) (sym (c .before .before .before .cut-field .ensures) ∙ c .before .n .given .1) .0)
+
+part-amount-in-end : tie.Need-part-amount-in-end
+part-amount-in-end c = omega (arith, length-drop 3 (c .before .before .before .before .before .before .before .args .rec .now), cut-field (c .before .before .before .before .before .before .before .args .rec .now) (c .before .n .given .0 .0) (sym (c .before .before .before .cut-field .ensures) ∙ c .before .n .given .1) .0)
+
 returns-2 : tie.Need-returns-2
-returns-2 c =
-    let rec = linesOf (c .before .before .before .before .before .before .before .before .before .args .rec .now) in
-    kept-states rec (c .before .before .before .before .kept .given .0 .0) _ (ap (λ (w : Walked). walkedOf w) (sym (c .before .before .before .before .kept .given .1)) ∙ c .before .before .before .before .before .before .walk-record .ensures .answer ∙ ap (λ (ks : List Kind). walkFrom ks (fresh 0) rec) (c .before .before .before .before .before .before .before .first-want .ensures)) (c .signed-units .ensures)
+returns-2 c = stated-open (c .before .before .before .before .before .before .args .rec .now) _ (sym (c .before .before .cut-field .ensures) ∙ c .enum-told .given .1)
+
+returns-3 : tie.Need-returns-3
+returns-3 c =
+    let xs = c .before .before .before .before .before .before .before .before .before .before .args .rec .now in
+    let n = c .before .before .before .before .n .given .0 .0 in
+    let e : (3 + n) - 3 ≡ n = omega arith in
+    stated-field xs n _ _ (sym (c .before .before .before .before .before .before .cut-field .ensures) ∙ c .before .before .before .before .n .given .1) (c .before .amount-in .ensures .0 ∙ ap (λ (k : ℕ). amountIn (take k (drop 3 xs))) e) (c .signed-units .ensures)
 
 pub stated-spec : {M : Type 1} → statement M
 stated-spec =
     tie.close
     (tie.spec
-    first-want-requires
-    walk-record-requires
-    enum-told
-    enum-known-kept
-    signed-units-requires
     returns
-    returns-2)
+    (λ c. search needs)
+    (λ c. search needs)
+    (λ c. search needs)
+    (λ c κs. search needs)
+    (λ c. search needs)
+    (λ c. search needs)
+    add-e
+    (λ c. search needs)
+    (λ c. search needs)
+    part-amount-in-end
+    (λ c κs. search needs)
+    (λ c κs. search needs)
+    returns-2
+    returns-3)

@@ -16,15 +16,6 @@ use Rattle.groups.proofs.Turns.{spans, turn-behind, turn-not, turn-tall
 use borrow.Author.Needs.{needs}
 use Rattle.groups.proofs.tally_groups.Statement.{statement}
 use Rattle.groups.proofs.tally_groups.Tie as tie
-use Rattle.groups.proofs.tally_groups.Reads as reads
-use Rattle.groups.proofs.tally_groups.Lts as lts
-use Rattle.digits.proofs.kinds.Records.add.Reads as add-reads
-use Rattle.groups.proofs.added.Reads as added-reads
-use Rattle.groups.proofs.is_for.Reads as is-for-reads
-use Rattle.groups.proofs.stated.Reads as stated-reads
-use Rattle.lines.proofs.record_end.Reads as record-end-reads
-use Rattle.marks.proofs.begins_at.Reads as begins-at-reads
-use Rattle.marks.proofs.next_mark.Reads as next-mark-reads
 
 abbrev Inv-loop : tie.InvT-loop
 Inv-loop name file from at₀ groups₀ bytes₀ total₀ records₀ at groups bytes total records = (groups + from ≤ at) × (bytes + from ≤ at) × (at ≤ length file + (from - length file)) × (Ahead (drop from file) → Ahead (drop at file) × Tallying (matching name (drop from file)) (matching name (drop at file)) groups bytes (sumMeant total) (records .0))
@@ -32,7 +23,6 @@ Inv-loop name file from at₀ groups₀ bytes₀ total₀ records₀ at groups b
 abbrev μ-loop : tie.MeasureT-loop
 μ-loop name file from at₀ groups₀ bytes₀ total₀ records₀ at groups bytes total records = length file - at
 
--- EXTRA
 -- in a turn, once the group's end is known
 abbrev Turn : Type 0
 Turn = tie.After-record-end Inv-loop μ-loop
@@ -72,116 +62,65 @@ all-of c = matching (name-of c) (drop (c .before .before .before .before .before
 -- a group more
 module _ (c : Turn) (a : Ahead (drop (at-of c) (file-of c))) (h : isFor (name-of c) (take (end-of c - at-of c) (drop (at-of c) (file-of c))) ≡ true)
     (groups bytes : ℕ) (sum : Sum) (lines : ℕ) (more : Sum) (m : ℕ) (tally : Tallying (all-of c) (matching (name-of c) (drop (at-of c) (file-of c))) groups bytes sum lines)
-    (said : Stated (linesOf (take (end-of c - last-of c) (drop (last-of c) (file-of c)))) more m) where
+    (said : Stated (linesOf (take (end-of c - last-of c) (drop (last-of c) (file-of c)))) more)
+    (counted : m ≡ length (linesOf (take (end-of c - at-of c) (drop (at-of c) (file-of c))))) where
   added : (m ≤ end-of c - at-of c) × (magnitudes (sum ⊕ more) ≤ most) × Tallying (all-of c) (matching (name-of c) (drop (end-of c) (file-of c))) (groups + 1) (bytes + (end-of c - at-of c)) (sum ⊕ more) (lines + m)
   added =
       let p = c .before .next-mark .ensures .0 in
       let q = c .record-end .ensures .0 in (
-        few-lines (file-of c) (at-of c) (last-of c) (end-of c) (begun c) p q a (name-of c) h (all-of c) groups bytes sum lines more m tally said,
-        in-range (file-of c) (at-of c) (last-of c) (end-of c) (begun c) p q a (name-of c) h (all-of c) groups bytes sum lines more m tally said,
-        turn-tally (file-of c) (at-of c) (last-of c) (end-of c) (begun c) p q a (name-of c) h (all-of c) groups bytes sum lines more m tally said,
+        few-lines (file-of c) (at-of c) (last-of c) (end-of c) (begun c) p q a (name-of c) h (all-of c) groups bytes sum lines more m tally said counted,
+        in-range (file-of c) (at-of c) (last-of c) (end-of c) (begun c) p q a (name-of c) h (all-of c) groups bytes sum lines more m tally said counted,
+        turn-tally (file-of c) (at-of c) (last-of c) (end-of c) (begun c) p q a (name-of c) h (all-of c) groups bytes sum lines more m tally said counted,
       )
 
--- END EXTRA
-
--- src/lib.rt:95:5
 loop-holds : tie.Need-loop-holds Inv-loop μ-loop
 loop-holds c =
     let a = c .before .before .args in
     let xs = drop (a .from) (a .file .now) in
     (omega arith, omega arith, omega arith, λ h. (h, tally-start (matching (a .name .now) xs) (omega (arith, for-bounded (a .name .now) (groupsIn xs), h .bounded))))
 
--- src/lib.rt:95:11
-begins-at-requires : tie.Need-begins-at-requires Inv-loop μ-loop
-begins-at-requires c κs = search needs
-
--- src/lib.rt:96:13
-next-mark-requires : tie.Need-next-mark-requires Inv-loop μ-loop
-next-mark-requires c κs = search needs
-
--- src/lib.rt:97:13
-record-end-requires : tie.Need-record-end-requires Inv-loop μ-loop
-record-end-requires c κs = search needs
-
--- src/lib.rt:98:25
-sub-is-for : tie.Need-sub-is-for Inv-loop μ-loop
-sub-is-for c = search needs
-
--- src/lib.rt:98:25
-part-is-for-start : tie.Need-part-is-for-start Inv-loop μ-loop
-part-is-for-start c = search needs
-
--- src/lib.rt:98:25
 part-is-for-end : tie.Need-part-is-for-end Inv-loop μ-loop
 part-is-for-end c = places c .2
 
--- src/lib.rt:98:12
 is-for-requires : tie.Need-is-for-requires Inv-loop μ-loop
 is-for-requires c κs = omega (arith, places (c .before))
 
--- src/lib.rt:99:34
-sub-stated : tie.Need-sub-stated Inv-loop μ-loop
-sub-stated c = search needs
-
--- src/lib.rt:99:34
-part-stated-start : tie.Need-part-stated-start Inv-loop μ-loop
-part-stated-start c = search needs
-
--- src/lib.rt:99:34
 part-stated-end : tie.Need-part-stated-end Inv-loop μ-loop
 part-stated-end c = places (c .before .before .before) .2
 
--- src/lib.rt:99:17
-stated-requires : tie.Need-stated-requires Inv-loop μ-loop
-stated-requires c κs = search needs
+part-count-lines-end : tie.Need-part-count-lines-end Inv-loop μ-loop
+part-count-lines-end c = places (c .before .before .before .before .before .before) .2
 
--- src/lib.rt:100:13
-added-requires : tie.Need-added-requires Inv-loop μ-loop
-added-requires c κs = search needs
-
--- src/lib.rt:101:13
-add-requires : tie.Need-add-requires Inv-loop μ-loop
-add-requires c κs = search needs
-
--- src/lib.rt:102:13
 add-groups : tie.Need-add-groups Inv-loop μ-loop
-add-groups c = omega (arith, places (c .before .before .before .before .before .before .before), c .before .before .before .before .before .before .before .before .before .before .before .loop .inv .0)
+add-groups c = omega (arith, places (c .before .before .before .before .before .before .before .before .before), c .before .before .before .before .before .before .before .before .before .before .before .before .before .loop .inv .0)
 
--- src/lib.rt:103:22
-sub-bytes : tie.Need-sub-bytes Inv-loop μ-loop
-sub-bytes c = search needs
-
--- src/lib.rt:103:13
 add-bytes : tie.Need-add-bytes Inv-loop μ-loop
-add-bytes c = omega (arith, places (c .before .before .before .before .before .before .before), c .before .before .before .before .before .before .before .before .before .before .before .loop .inv .1)
+add-bytes c = omega (arith, places (c .before .before .before .before .before .before .before .before .before), c .before .before .before .before .before .before .before .before .before .before .before .before .before .loop .inv .1)
 
--- src/lib.rt:95:5
 loop-less : tie.Need-loop-less Inv-loop μ-loop
-loop-less c = omega (arith, places (c .before .before .before .before .before .before .before))
+loop-less c = omega (arith, places (c .before .before .before .before .before .before .before .before .before))
 
--- src/lib.rt:95:5
 loop-again : tie.Need-loop-again Inv-loop μ-loop
 loop-again c =
-    let t = c .before .before .before .before .before .before .before in
-    let l = c .before .before .before .before .before .before .before .before .before .before .before .loop in
+    let t = c .before .before .before .before .before .before .before .before .before in
+    let l = c .before .before .before .before .before .before .before .before .before .before .before .before .before .loop in
     let h = places t in (
       omega (arith, l .inv .0),
       omega (arith, l .inv .1),
       omega arith,
       λ ahead.
           let (here, tally) = l .inv .3 ahead in
-          let figures = c .before .before .stated .result in
-          let (lines, range, more) = added t here (sym (c .before .before .before .before .before .is-for .ensures) ∙ c .before .before .before .before .if2 .taken) (l .groups) (l .bytes) (sumMeant (l .total)) (l .records .0) (sumMeant (figures .total)) (figures .records .0) tally (c .before .before .stated .ensures) in
-          let sum : sumMeant (c .before .added .result) ≡ sumMeant (l .total) ⊕ sumMeant (figures .total) = c .before .added .ensures range in
-          let count : c .add .result .0 ≡ l .records .0 + figures .records .0 = c .add .ensures ∙ omega (arith, l .inv .1, tally .few) in
-          (behind t here, rw (sum, count) more),
+          let more = sumMeant (c .before .before .before .before .stated .result) in
+          let m = c .before .count-lines .result .0 in
+          let (lines, range, next) = added t here (sym (c .before .before .before .before .before .before .before .is-for .ensures) ∙ c .before .before .before .before .before .before .if2 .taken) (l .groups) (l .bytes) (sumMeant (l .total)) (l .records .0) more m tally (c .before .before .before .before .stated .ensures) (c .before .count-lines .ensures .0) in
+          let sum : sumMeant (c .before .before .before .added .result) ≡ sumMeant (l .total) ⊕ more = c .before .before .before .added .ensures range in
+          let count : c .add .result .0 ≡ l .records .0 + m = c .add .ensures ∙ omega (arith, l .inv .1, tally .few) in
+          (behind t here, rw (sum, count) next),
     )
 
--- src/lib.rt:95:5
 loop-less-2 : tie.Need-loop-less-2 Inv-loop μ-loop
 loop-less-2 c = omega (arith, places (c .before .before .before))
 
--- src/lib.rt:95:5
 loop-again-2 : tie.Need-loop-again-2 Inv-loop μ-loop
 loop-again-2 c =
     let t = c .before .before .before in
@@ -197,7 +136,6 @@ loop-again-2 c =
           ),
     )
 
--- src/lib.rt:87:1
 returns : tie.Need-returns Inv-loop μ-loop
 returns c =
     let a = c .before .before .before .before .before .args in
@@ -218,21 +156,25 @@ tally-groups-spec =
     Inv-loop
     μ-loop
     loop-holds
-    begins-at-requires
-    next-mark-requires
-    record-end-requires
-    sub-is-for
-    part-is-for-start
+    (λ c κs. search needs)
+    (λ c κs. search needs)
+    (λ c κs. search needs)
+    (λ c. search needs)
+    (λ c. search needs)
     part-is-for-end
     is-for-requires
-    sub-stated
-    part-stated-start
+    (λ c. search needs)
+    (λ c. search needs)
     part-stated-end
-    stated-requires
-    added-requires
-    add-requires
+    (λ c κs. search needs)
+    (λ c κs. search needs)
+    (λ c. search needs)
+    (λ c. search needs)
+    part-count-lines-end
+    (λ c κs. search needs)
+    (λ c κs. search needs)
     add-groups
-    sub-bytes
+    (λ c. search needs)
     add-bytes
     loop-less
     loop-again
