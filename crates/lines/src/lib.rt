@@ -44,7 +44,7 @@ pub fn end_len(s: &[u8], at: usize) -> usize
 pub fn body_end(s: &[u8], at: usize) -> usize
     ensures { λ r. ⌜ (r ≡ at + bodyLen (drop at (now (s .entry)))) × (r ≤ length (now (s .entry)) + (at - length (now (s .entry)))) ⌝ }
 {
-    let mut i = scan::plain_end(s, at, 255);
+    let mut i = at;
     while i < s.len() {
         if 0 < end_len(s, i) {
             return i;

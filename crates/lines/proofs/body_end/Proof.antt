@@ -16,29 +16,24 @@ Inv-loop s at i₀ i = (i ≤ length s + (at - length s)) × (at + bodyLen (drop
 abbrev μ-loop : tie.MeasureT-loop
 μ-loop s at i₀ i = length s - i
 
-loop-holds : tie.Need-loop-holds Inv-loop μ-loop
-loop-holds c =
-    let a = c .before .before .args in
-    (omega arith, body-from (a .s .now) (a .at) (c .plain-end .result) 255 (c .plain-end .ensures .0))
-
 returns : tie.Need-returns Inv-loop μ-loop
 returns c =
     let i : ℕ = c .before .before .before .loop .i in
-    let s = c .before .before .before .before .before .before .args .s .now in
+    let s = c .before .before .before .before .before .args .s .now in
     let h = run-stop isEnd s i (omega arith) (is-end-at s i (omega arith) ∙ end-some (endOf (drop i s)) (omega (arith, c .before .end-len .ensures))) in
     (omega arith, omega arith)
 
 loop-again : tie.Need-loop-again Inv-loop μ-loop
 loop-again c =
     let i : ℕ = c .before .before .before .before .loop .i in
-    let s = c .before .before .before .before .before .before .before .args .s .now in
+    let s = c .before .before .before .before .before .before .args .s .now in
     let h = run-step isEnd s i (omega arith) (is-end-at s i (omega arith) ∙ end-empty (endOf (drop i s)) (omega (arith, c .before .before .end-len .ensures))) in
-    let f = body-from s (i + 1) (c .plain-end2 .result) 255 (c .plain-end2 .ensures .0) in
+    let f = body-from s (i + 1) (c .plain-end .result) 255 (c .plain-end .ensures .0) in
     (omega arith, omega arith)
 
 returns-2 : tie.Need-returns-2 Inv-loop μ-loop
 returns-2 c =
-    let h = run-none isEnd (c .before .before .before .before .args .s .now) (c .before .loop .i) (omega arith) in
+    let h = run-none isEnd (c .before .before .before .args .s .now) (c .before .loop .i) (omega arith) in
     (omega arith, omega arith)
 
 pub body-end-spec : {M : Type 1} → statement M
@@ -47,8 +42,7 @@ body-end-spec =
     (tie.spec
     Inv-loop
     μ-loop
-    (λ c κs. search needs)
-    loop-holds
+    (λ c. search needs)
     (λ c κs. search needs)
     returns
     (λ c. search needs)
