@@ -16,25 +16,25 @@ ghost use Rattle.digits.specs.Reading.{amountIn};
 ghost use Rattle.wants.specs.Wants.{wantedOf, forNothing, samePurpose, purpose};
 ghost use Rattle.kept.specs.Keeping.{noFigure, figureWith, fresh, addedTo, keepRead};
 
-// A trailer's figure, or L. seen: its field was there; given: it was not empty.
+// A trailer's figure, or L. seen: its field was there; given: it was not empty. Here and below the bools stand last, for speed: copies have no gaps.
 pub struct Figure {
+    pub at: Place,
+    pub value: u64,
     pub seen: bool,
     pub given: bool,
-    pub at: Place,
     pub negative: bool,
-    pub value: u64,
 }
 
 // before: the magnitudes of the records before; sum: of this record's amounts; over: one of them passed the largest, the first at `past`.
 pub struct Kept {
     pub before: u64,
     pub sum: Units,
-    pub over: bool,
     pub past: Place,
     pub total: Figure,
     pub count: Figure,
     pub records: Figure,
     pub length: Figure,
+    pub over: bool,
 }
 
 // The next field is kept for something.
