@@ -124,9 +124,7 @@ void put_bytes(FILE *to, slice s)
 void *room_for(size_t count, size_t size)
 {
     void *room = calloc(count > 0 ? count : 1, size);
-    if (room == NULL) {
-        complain("out of memory");
-        exit(1);
-    }
+    if (room == NULL)
+        out_of_memory();
     return room;
 }

@@ -1,11 +1,10 @@
-/* The commands, as main.c hands them their arguments. */
+/* The commands, as main.c hands them their arguments; each answers how the program ends. */
 #ifndef COMMANDS_H
 #define COMMANDS_H
 
 #include <stddef.h>
 
-/* How the program ends. */
-enum { GOOD = 0, REFUSED = 1, MISUSED = 2 };
+#include "status.h"
 
 /* A command's arguments: its operands in order, and the file behind -o, NULL where there is none. */
 typedef struct {

@@ -52,22 +52,31 @@ static bool read_all(int from, uint8_t **memory, size_t *length)
     return true;
 }
 
-/* Reads the file of that path; tells the trouble and answers false where it can't be read. */
-bool load(input *in, const char *path)
+/* Reads the file of that path; false, with errno, where it can't be read. */
+bool fetch(input *in, const char *path)
 {
     bool standard = is_standard_input(path);
     size_t length = 0;
     *in = (input){.name = standard ? "standard input" : path};
     int from = standard ? STDIN_FILENO : open(path, O_RDONLY | O_CLOEXEC);
     bool good = from >= 0 && read_all(from, &in->memory, &length);
-    if (!good)
-        complain("can't read %s: %s", in->name, strerror(errno));
+    int why = errno;
     if (from >= 0 && !standard)
         close(from);
     in->file = (slice){in->memory, length};
     if (!good)
         unload(in);
+    errno = why;
     return good;
+}
+
+/* Reads the file of that path; tells the trouble and answers false where it can't be read. */
+bool load(input *in, const char *path)
+{
+    if (fetch(in, path))
+        return true;
+    complain("can't read %s: %s", in->name, strerror(errno));
+    return false;
 }
 
 /* Gives the file's memory back. */

@@ -14,6 +14,7 @@ typedef struct {
 } input;
 
 bool is_standard_input(const char *path);
+bool fetch(input *in, const char *path);
 bool load(input *in, const char *path);
 void unload(input *in);
 

@@ -1,6 +1,8 @@
 /* The commands that judge files: summary and check. */
+#include <errno.h>
 #include <inttypes.h>
 #include <stdio.h>
+#include <string.h>
 #include <unistd.h>
 
 #include "bai2.h"
@@ -19,30 +21,37 @@ static void put_figures(bai2_summary s)
            s.accounts, s.details, s.records);
 }
 
-/* bai2 summary FILE: the line of figures, or the refusal in words. */
+/* bai2 summary FILE: one line, the figures or the refusal's number and place; a refusal also in words. */
 int summary_command(const arguments *a)
 {
     input in;
     if (!load(&in, a->operands[0]))
         return REFUSED;
     bai2_summary s = bai2_read(in.file.bytes, in.file.length);
+    if (s.number == 0)
+        put_figures(s);
+    else
+        printf("refused %" PRIu64 " %" PRIu64 "\n", s.number, s.place);
+    bool written = flush_standard_output();
     if (s.number != 0)
         tell_refusal(stderr, in.name, in.file, s.number, s.place);
-    else
-        put_figures(s);
     unload(&in);
-    return flush_standard_output() && s.number == 0 ? GOOD : REFUSED;
+    return !written ? TROUBLE : s.number == 0 ? GOOD : REFUSED;
 }
 
 /* Judges one file and prints its line; whether it was accepted. */
 static bool check_file(const char *path)
 {
     input in;
-    if (!load(&in, path))
-        return false;
-    bai2_summary s = bai2_read(in.file.bytes, in.file.length);
+    bool readable = fetch(&in, path);
+    int why = errno;
     put_name(stdout, in.name);
     fputs(": ", stdout);
+    if (!readable) {
+        printf("can't be read: %s\n", strerror(why));
+        return false;
+    }
+    bai2_summary s = bai2_read(in.file.bytes, in.file.length);
     if (s.number != 0)
         tell_refusal_briefly(stdout, in.file, s.number, s.place);
     else
@@ -74,7 +83,7 @@ int check_command(const arguments *a)
         if (!check_file(a->operands[i]))
             bad++;
         if (!flush_standard_output())
-            return REFUSED;
+            return TROUBLE;
         if (progress)
             put_progress(i + 1, a->count, bad);
     }

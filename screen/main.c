@@ -24,7 +24,7 @@ typedef struct {
 
 static const command commands[] = {
     {"summary", summary_command, 1, 1, false, "FILE",
-     "one line: ok TOTAL GROUPS ACCOUNTS DETAILS RECORDS"},
+     "one line: ok and the figures, or refused NUMBER PLACE"},
     {"show", show_command, 1, 1, false, "FILE", "groups, accounts and details in columns"},
     {"screen", screen_command, 1, 1, false, "FILE", "the same as a tree to move about in"},
     {"check", check_command, 1, (size_t)-1, false, "FILE..", "a line for each file"},
@@ -41,8 +41,8 @@ static void put_usage(FILE *to)
     for (size_t i = 0; i < COMMANDS; i++)
         fprintf(to, "  bai2 %-7s %-18s  %s\n", commands[i].name, commands[i].operands,
                 commands[i].purpose);
-    fputs("A FILE of - is standard input. Status: 0 accepted, 1 refused or not readable or writable,\n"
-          "2 wrong usage. See bai2(1).\n", to);
+    fputs("A FILE of - is standard input. Status: 0 accepted, 1 refused or not readable, 2 wrong usage,\n"
+          "3 the answer can't be written or shown. See bai2(1).\n", to);
 }
 
 /* Tells how one command is used. */
@@ -86,7 +86,7 @@ static void keep_standard_descriptors(void)
 {
     for (int i = 0; i <= 2; i++)
         if (fcntl(i, F_GETFD) < 0 && open("/dev/null", i == 0 ? O_WRONLY : O_RDONLY) != i)
-            exit(REFUSED);
+            exit(TROUBLE);
 }
 
 /* Finds the command and runs it. */
@@ -98,11 +98,11 @@ int main(int argc, char **argv)
     const char *name = argc > 1 ? argv[1] : "";
     if (strcmp(name, "--help") == 0 || strcmp(name, "-h") == 0 || strcmp(name, "help") == 0) {
         put_usage(stdout);
-        return flush_standard_output() ? GOOD : REFUSED;
+        return flush_standard_output() ? GOOD : TROUBLE;
     }
     if (strcmp(name, "--version") == 0) {
         puts("bai2 " VERSION);
-        return flush_standard_output() ? GOOD : REFUSED;
+        return flush_standard_output() ? GOOD : TROUBLE;
     }
     for (size_t i = 0; i < COMMANDS; i++)
         if (strcmp(name, commands[i].name) == 0)

@@ -70,7 +70,7 @@ static const explanation explanations[REFUSALS + 1] = {
             "Look for an amount with digits too many. If all are right, work with smaller files."},
     [15] = {"no room for the result",
             "A program gave the library less room than the result needs.",
-            "This program always gives enough. A program of your own must give more (see EMBED.md)."},
+            "This program always gives enough. A program of your own must give more (see docs/EMBED.md)."},
     [16] = {"not a receiver's name",
             "The name asked for is empty, longer than 76 bytes, or has a comma, a slash or a byte that "
             "is not a printable ASCII character.",

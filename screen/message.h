@@ -9,7 +9,7 @@ __attribute__((format(printf, 1, 2)))
 #endif
 void complain(const char *format, ...);
 
-char safe(char character);
 void put_name(FILE *to, const char *name);
+void out_of_memory(void);
 
 #endif

@@ -25,9 +25,9 @@ typedef struct {
 } standing;
 
 /* A record's bytes. */
-slice bytes_of(const outline *o, size_t record)
+slice bytes_of(const outline *o, size_t i)
 {
-    return part_of(o->file, o->records[record].start, o->records[record].length);
+    return part_of(o->file, o->records[i].start, o->records[i].length);
 }
 
 /* The record code that a line begins with. */
@@ -47,8 +47,8 @@ static bool find_records(outline *o)
         if (lines == o->summary.records || (code == CONTINUATION && o->count == 0))
             return false;
         if (code != CONTINUATION)
-            o->records[o->count++] = (record){(record_code)code, (uint32_t)at, 0, 0};
-        record *last = &o->records[o->count - 1];
+            o->records[o->count++] = (found_record){(record_code)code, (uint32_t)at, 0, 0};
+        found_record *last = &o->records[o->count - 1];
         last->length = (uint32_t)(next - last->start);
         at = next;
     }
@@ -117,7 +117,7 @@ static bool take(standing *s, record_code code, slice bytes)
 /* Whether the library's part is the one from this record to its trailer. */
 static bool same_part(const outline *o, size_t i, bai2_part part)
 {
-    const record *first = &o->records[i], *last = &o->records[first->closing];
+    const found_record *first = &o->records[i], *last = &o->records[first->closing];
     return part.number == 0 && part.start == first->start
         && part.length == last->start + last->length - first->start;
 }

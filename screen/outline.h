@@ -20,17 +20,17 @@ typedef struct {
     record_code code;
     uint32_t start, length; /* its bytes, line ends included */
     uint32_t closing;       /* 02 and 03: the trailer's index */
-} record;
+} found_record;
 
 typedef struct {
     slice file;
     bai2_summary summary;
-    record *records;
+    found_record *records;
     size_t count;
 } outline;
 
 bool make_outline(outline *o, slice file, bai2_summary summary, uint64_t bytes_to_judge);
 void drop_outline(outline *o);
-slice bytes_of(const outline *o, size_t record);
+slice bytes_of(const outline *o, size_t i);
 
 #endif

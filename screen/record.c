@@ -40,25 +40,21 @@ static slice next_field(fields *walk)
     return (slice){bytes + start, end - start};
 }
 
-/* How many values follow funds of this kind; the walk stands behind the kind. */
-static size_t values_behind(slice kind, fields walk)
-{
-    if (same_text(kind, "S"))
-        return 3;
-    if (same_text(kind, "V"))
-        return 2;
-    if (same_text(kind, "D"))
-        return 1 + 2 * (size_t)number_of(next_field(&walk));
-    return 0;
-}
-
 /* The funds that come next; the walk moves behind their values. */
 static funds next_funds(fields *walk)
 {
     funds f = {.kind = next_field(walk)};
+    uint64_t values = 0;
+    if (same_text(f.kind, "V"))
+        values = 2;
+    if (same_text(f.kind, "S"))
+        values = f.parts = 3;
+    if (same_text(f.kind, "D")) {
+        f.parts = number_of(next_field(walk));
+        values = 2 * f.parts;
+    }
     f.values = *walk;
-    f.count = values_behind(f.kind, *walk);
-    for (size_t i = 0; i < f.count && walk->more; i++)
+    for (uint64_t i = 0; i < values && walk->more; i++)
         next_field(walk);
     return f;
 }
@@ -199,44 +195,37 @@ const char *put_day(char room[DAY_ROOM], slice date, slice time)
     return room;
 }
 
-/* The value of that number behind the funds' kind. */
-static slice value_of(const funds *f, size_t number)
-{
-    fields walk = f->values;
-    slice value = next_field(&walk);
-    for (size_t i = 0; i < number; i++)
-        value = next_field(&walk);
-    return value;
-}
-
 /* Funds as they are shown: their kind, with the value date where they have one. */
 const char *put_funds(char room[FUNDS_ROOM], const funds *f)
 {
     char day[DAY_ROOM] = "";
-    if (same_text(f->kind, "V"))
-        put_day(day, value_of(f, 0), value_of(f, 1));
+    fields values = f->values;
+    if (same_text(f->kind, "V")) {
+        slice date = next_field(&values);
+        put_day(day, date, next_field(&values));
+    }
     snprintf(room, FUNDS_ROOM, "%.*s%s%s", SLICE(part_of(f->kind, 0, 1)), *day == '\0' ? "" : " ", day);
     return room;
 }
 
-/* The amount of that number, from 0, where funds come at several times (S and D), and when it comes;
-   false where there is no such amount. */
-bool put_funds_part(char room[FUNDS_ROOM], const funds *f, size_t number)
+/* The next amount where funds come at several times (S and D), and when it comes; false where there
+   is no more. */
+bool next_funds_part(char room[FUNDS_ROOM], funds *f)
 {
     static const char *const when[] = {"at once", "in one day", "in two days or later"};
     char figure[FIGURE_ROOM];
-    if (same_text(f->kind, "S") && number < 3) {
-        put_figure(figure, value_of(f, number));
-        snprintf(room, FUNDS_ROOM, "%s: %s", when[number], *figure == '\0' ? "not given" : figure);
-        return true;
-    }
-    if (same_text(f->kind, "D") && number < f->count / 2) {
-        unsigned days = (unsigned)number_of(value_of(f, 2 * number + 1));
-        put_figure(figure, value_of(f, 2 * number + 2));
+    if (f->taken >= f->parts || !f->values.more)
+        return false;
+    if (same_text(f->kind, "S")) {
+        put_figure(figure, next_field(&f->values));
+        snprintf(room, FUNDS_ROOM, "%s: %s", when[f->taken], *figure == '\0' ? "not given" : figure);
+    } else {
+        unsigned days = (unsigned)number_of(next_field(&f->values));
+        put_figure(figure, next_field(&f->values));
         snprintf(room, FUNDS_ROOM, "in %u day%s: %s", days, days == 1 ? "" : "s", figure);
-        return true;
     }
-    return false;
+    f->taken++;
+    return true;
 }
 
 /* A group's status in words (source document 000). */

@@ -28,11 +28,12 @@ typedef struct {
     slice receiver, originator, status, date, time, currency, modifier;
 } group_header;
 
-/* Funds: their kind, and the walk over the values behind it. */
+/* Funds: their kind, the walk over the values behind it; S and D: how many amounts, and how many of
+   them were taken. */
 typedef struct {
     slice kind;
     fields values;
-    size_t count;
+    uint64_t parts, taken;
 } funds;
 
 /* 03: its items are taken one by one from the walk. */
@@ -72,7 +73,7 @@ uint64_t number_of(slice digits);
 const char *put_figure(char room[FIGURE_ROOM], slice amount);
 const char *put_day(char room[DAY_ROOM], slice date, slice time);
 const char *put_funds(char room[FUNDS_ROOM], const funds *f);
-bool put_funds_part(char room[FUNDS_ROOM], const funds *f, size_t number);
+bool next_funds_part(char room[FUNDS_ROOM], funds *f);
 
 const char *status_in_words(slice status);
 const char *modifier_in_words(slice modifier);

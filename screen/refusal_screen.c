@@ -12,7 +12,8 @@ enum {
     GUTTER = 10,     /* a line's number and a bar */
     SIDE_STEP = 16,  /* how far left and right move */
     MEANING_ROWS = 7,
-    LEAST_ROWS = 14  /* a lower canvas shows no meaning */
+    LEAST_ROWS = 14, /* a lower canvas shows no meaning */
+    CARET_CELLS = 4  /* of the refused byte where it is escaped */
 };
 
 /* How many rows are left for the file's lines. */
@@ -54,13 +55,25 @@ static void move_down(refusal_screen *s, size_t lines)
         s->top = line_at(s->file, s->top).next;
 }
 
-/* Moves so that the refused byte is seen, with lines before it. */
+/* How many bytes of the refused line are left out where so many cells before the byte are shown. */
+static size_t left_out(const refusal_screen *s, line l, size_t cells)
+{
+    size_t from = s->place < l.end ? s->place : l.end;
+    while (from > l.start && cells_of(s->file.bytes[from - 1]) <= cells)
+        cells -= cells_of(s->file.bytes[--from]);
+    return from - l.start;
+}
+
+/* Moves so that the refused byte is seen, with lines before it; half-way across where its line is
+   too long to be shown from its start. */
 static void go_to_place(refusal_screen *s, const canvas *c)
 {
     line l = line_of(s->file, s->place);
-    size_t column = s->place - l.start, shown = body_columns(c);
+    size_t shown = body_columns(c);
     s->top = l.start;
-    s->left = column < shown ? 0 : column - shown / 2;
+    s->left = shown > CARET_CELLS ? left_out(s, l, shown - CARET_CELLS) : left_out(s, l, 0);
+    if (s->left > 0)
+        s->left = left_out(s, l, shown / 2);
     move_up(s, body_rows(c) / 2);
 }
 
@@ -171,7 +184,7 @@ static void press_refusal(void *state, const canvas *c, key k)
     case KEY_DOWN: case 'j': move_down(s, 1); break;
     case KEY_PAGE_UP: case 'b': move_up(s, body_rows(c)); break;
     case KEY_PAGE_DOWN: case ' ': move_down(s, body_rows(c)); break;
-    case KEY_HOME: case 'g': s->top = 0; break;
+    case KEY_HOME: case 'g': s->top = s->left = 0; break;
     case KEY_END: case 'G':
         s->top = s->file.length;
         move_up(s, body_rows(c) - 1);

@@ -149,10 +149,10 @@ static void put_cell_row(const layout *l, column c, slice cell)
 }
 
 /* Writes the amounts of funds that come at several times, a row each. */
-static void put_funds_rows(const layout *l, const funds *f)
+static void put_funds_rows(const layout *l, funds *f)
 {
     char words[FUNDS_ROOM];
-    for (size_t i = 0; put_funds_part(words, f, i); i++)
+    while (next_funds_part(words, f))
         put_cell_row(l, FUNDS, slice_of(words));
 }
 

@@ -88,9 +88,20 @@ static void measure(terminal *t)
     t->canvas.columns = known ? size.ws_col : COLUMNS;
 }
 
+/* Whether the terminal is of a kind that can move its cursor. */
+static bool is_capable(void)
+{
+    const char *kind = getenv("TERM");
+    return kind != NULL && *kind != '\0' && strcmp(kind, "dumb") != 0;
+}
+
 /* Opens the terminal and takes it over; tells and answers false where there is none. */
 bool open_terminal(terminal *t)
 {
+    if (!is_capable()) {
+        complain("screen: needs a terminal that can move its cursor (TERM names none); try 'bai2 show'");
+        return false;
+    }
     t->fd = open("/dev/tty", O_RDWR | O_CLOEXEC);
     t->canvas.to = t->fd < 0 ? NULL : fdopen(t->fd, "w");
     if (t->canvas.to == NULL) {

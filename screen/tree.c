@@ -32,10 +32,8 @@ static void add_row(tree *t, tree_row row)
     if (t->count == t->room) {
         t->room = t->room == 0 ? FIRST_ROOM : t->room * 2;
         t->rows = realloc(t->rows, t->room * sizeof *t->rows);
-        if (t->rows == NULL) {
-            complain("out of memory");
-            exit(1);
-        }
+        if (t->rows == NULL)
+            out_of_memory();
     }
     t->rows[t->count++] = row;
 }
@@ -50,12 +48,11 @@ static tree_row row_about(const tree *t, row_kind kind, size_t record, slice byt
 /* Adds the rows about funds: their kind, and each amount where they come at several times. */
 static void add_funds_rows(tree *t, size_t record, const funds *f)
 {
-    char words[FUNDS_ROOM];
     tree_row row = row_about(t, FUNDS_ROW, record, f->kind);
     if (f->kind.length > 0)
         add_row(t, row);
     row.kind = FUNDS_PART_ROW;
-    for (; put_funds_part(words, f, row.number); row.number++)
+    for (; row.number < f->parts; row.number++)
         add_row(t, row);
 }
 
@@ -98,7 +95,7 @@ static size_t add_record(tree *t, size_t i, uint32_t *numbers)
 {
     static const row_kind kinds[] = {
         [GROUP_HEADER] = GROUP_ROW, [ACCOUNT_HEADER] = ACCOUNT_ROW, [DETAIL] = DETAIL_ROW};
-    const record *r = &t->outline->records[i];
+    const found_record *r = &t->outline->records[i];
     if (r->code != GROUP_HEADER && r->code != ACCOUNT_HEADER && r->code != DETAIL)
         return i + 1;
     row_kind kind = kinds[r->code];

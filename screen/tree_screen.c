@@ -59,7 +59,7 @@ static item item_at(const tree_screen *s, const tree_row *row)
 }
 
 /* Words for an item's row. */
-static void put_item_label(char *label, const item *i)
+static void put_item_label(char *label, item *i)
 {
     size_t used = (size_t)snprintf(label, LABEL_ROOM, "%.*s", SLICE(i->type));
     if (i->count.length > 0)
@@ -67,7 +67,7 @@ static void put_item_label(char *label, const item *i)
     char words[FUNDS_ROOM];
     if (i->funds.kind.length > 0)
         used += (size_t)snprintf(label + used, LABEL_ROOM - used, "  funds %s", put_funds(words, &i->funds));
-    for (size_t part = 0; part <= PARTS_IN_ROW && put_funds_part(words, &i->funds, part); part++)
+    for (size_t part = 0; part <= PARTS_IN_ROW && next_funds_part(words, &i->funds); part++)
         used += (size_t)snprintf(label + used, LABEL_ROOM - used, "  %s", part < PARTS_IN_ROW ? words : "..");
 }
 
@@ -83,8 +83,9 @@ static void put_note_label(char *label, const tree_screen *s, const tree_row *ro
         detail d = read_detail(bytes_of(s->outline, row->record));
         if (row->kind == FUNDS_ROW)
             put_funds(words, &d.funds);
-        else
-            put_funds_part(words, &d.funds, row->number);
+        while (row->kind == FUNDS_PART_ROW && d.funds.taken <= row->number)
+            if (!next_funds_part(words, &d.funds))
+                break;
         snprintf(label, LABEL_ROOM, "funds %s", words);
         return;
     }

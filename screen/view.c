@@ -3,8 +3,6 @@
 
 #include <string.h>
 
-#include "message.h"
-
 #define ESCAPE "\033"
 
 enum { NEEDLE_ROOM = 64, MESSAGE_ROOM = 96 };
@@ -36,7 +34,7 @@ void draw_row(const canvas *c, size_t row, look how, const char *text, const cha
         tail = 0;
     fprintf(c->to, ESCAPE "[%zu;1H" ESCAPE "[0m%s", row + 1, looks[how]);
     for (size_t i = 0; i < length; i++)
-        fputc(safe(text[i]), c->to);
+        fputc(is_printable((uint8_t)text[i]) ? text[i] : '?', c->to);
     fprintf(c->to, "%*s%s" ESCAPE "[0m", (int)(c->columns - length - tail), "", tail > 0 ? right : "");
 }
 

@@ -24,18 +24,19 @@ int show_command(const arguments *a)
 {
     input in;
     outline o;
-    bool good = false;
+    int status = TROUBLE;
     if (!load(&in, a->operands[0]))
         return REFUSED;
     bai2_summary s = bai2_read(in.file.bytes, in.file.length);
     if (s.number != 0) {
         tell_refusal(stderr, in.name, in.file, s.number, s.place);
+        status = REFUSED;
     } else if (outline_of(&o, &in, s)) {
-        good = put_report_paged(&o);
+        status = put_report_paged(&o) ? GOOD : TROUBLE;
         drop_outline(&o);
     }
     unload(&in);
-    return good ? GOOD : REFUSED;
+    return status;
 }
 
 /* Lets the user move about in an accepted file's tree; false where there is no terminal. */
@@ -48,12 +49,12 @@ static bool show_tree_screen(const input *in, const outline *o)
     return shown;
 }
 
-/* Lets the user move about in a refused file's lines. */
-static void show_refusal_screen(const input *in, bai2_summary s)
+/* Lets the user move about in a refused file's lines; false where there is no terminal. */
+static bool show_refusal_screen(const input *in, bai2_summary s)
 {
     refusal_screen screen;
     view v = open_refusal_view(&screen, in->name, in->file, s.number, s.place);
-    run_view(&v);
+    return run_view(&v);
 }
 
 /* bai2 screen FILE: the file's tree to move about in, or its refusal at the byte. */
@@ -61,16 +62,16 @@ int screen_command(const arguments *a)
 {
     input in;
     outline o;
-    bool good = false;
+    int status = TROUBLE;
     if (!load(&in, a->operands[0]))
         return REFUSED;
     bai2_summary s = bai2_read(in.file.bytes, in.file.length);
     if (s.number != 0) {
-        show_refusal_screen(&in, s);
+        status = show_refusal_screen(&in, s) ? REFUSED : TROUBLE;
     } else if (outline_of(&o, &in, s)) {
-        good = show_tree_screen(&in, &o);
+        status = show_tree_screen(&in, &o) ? GOOD : TROUBLE;
         drop_outline(&o);
     }
     unload(&in);
-    return good ? GOOD : REFUSED;
+    return status;
 }

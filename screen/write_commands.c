@@ -45,14 +45,14 @@ int split_command(const arguments *a)
     bai2_answer answer = bai2_split((const uint8_t *)name, strlen(name), in.file.bytes,
                                     in.file.length, out, room);
     slice result = {out, (size_t)answer.length};
-    bool good = answer.number == 0 && write_result(a->out, result);
-    if (answer.number != 0)
+    int status = answer.number != 0 ? REFUSED : write_result(a->out, result) ? GOOD : TROUBLE;
+    if (status == REFUSED)
         tell_split_refusal(name, &in, answer);
-    else if (good)
+    if (status == GOOD)
         note_no_group(name, &in, result);
     free(out);
     unload(&in);
-    return good ? GOOD : REFUSED;
+    return status;
 }
 
 /* Tells why a combination was refused: one of the files, or the two together. */
@@ -72,11 +72,12 @@ static int combine(const input *first, const input *second, const char *path)
     uint8_t *out = room_for(room, 1);
     bai2_combined answer = bai2_combine(first->file.bytes, first->file.length, second->file.bytes,
                                         second->file.length, out, room);
-    bool good = answer.number == 0 && write_result(path, (slice){out, (size_t)answer.length});
-    if (answer.number != 0)
+    slice result = {out, (size_t)answer.length};
+    int status = answer.number != 0 ? REFUSED : write_result(path, result) ? GOOD : TROUBLE;
+    if (status == REFUSED)
         tell_combine_refusal(first, second, answer);
     free(out);
-    return good ? GOOD : REFUSED;
+    return status;
 }
 
 /* bai2 combine A B: A's header and groups, then B's groups. */

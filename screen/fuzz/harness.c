@@ -103,20 +103,24 @@ static void try_accepted(slice file, bai2_summary s, FILE *to)
     drop_outline(&o);
 }
 
+/* Where all that is drawn and told goes; it stays open. */
+static FILE *nowhere(void)
+{
+    static FILE *to;
+    if (to == NULL)
+        to = fopen("/dev/null", "w");
+    must_hold(to != NULL);
+    return to;
+}
+
 /* Tries everything on one file. */
 static void try_file(slice file)
 {
-    char *text = NULL;
-    size_t length = 0;
-    FILE *to = open_memstream(&text, &length);
-    must_hold(to != NULL);
     bai2_summary s = bai2_read(file.bytes, file.length);
     if (s.number != 0)
-        try_refused(file, s, to);
+        try_refused(file, s, nowhere());
     else
-        try_accepted(file, s, to);
-    must_hold(fclose(to) == 0);
-    free(text);
+        try_accepted(file, s, nowhere());
 }
 
 /* Tries the bytes as they are, and with mended trailers. */
