@@ -1,6 +1,7 @@
 /* bai2.h: judge, cut, split, combine and write BAI2 (version 2) cash files.
 
-   This version's libbai2.a has bai2_read and bai2_split. The other calls are declared here as they will be.
+   Link libbai2.a; it needs the C library's memcpy and nothing else. docs/EMBED.md has programs and a
+   Makefile to begin with.
 
    HOW TO CALL
    Every call takes byte slices, each a pointer and a length, and answers numbers. No call
@@ -91,7 +92,8 @@ typedef struct {
     uint64_t number, place, length;
 } bai2_answer;
 
-/* The file's header, its groups whose ultimate receiver is exactly `name`, and a fresh 99. */
+/* The file's header, its groups whose ultimate receiver is exactly `name`, and a fresh 99. The file's
+   length and 64 more are always room enough. */
 bai2_answer bai2_split(const uint8_t *name, size_t name_length,
                        const uint8_t *file, size_t file_length,
                        uint8_t *out, size_t out_length);
@@ -101,7 +103,7 @@ typedef struct {
     uint64_t number, place, length, file;
 } bai2_combined;
 
-/* A's header and groups, B's groups, and a fresh 99. */
+/* A's header and groups, B's groups, and a fresh 99. Both lengths and 64 more are always room enough. */
 bai2_combined bai2_combine(const uint8_t *a, size_t a_length,
                            const uint8_t *b, size_t b_length,
                            uint8_t *out, size_t out_length);

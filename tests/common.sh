@@ -1,4 +1,5 @@
 # What the test scripts share: messages with the time passed, checks, missing packages, and C for x86-64.
+# shellcheck shell=bash disable=SC2034 # its variables are for the scripts that read this
 
 # Says what happens now, with the seconds since the start.
 tell() {
@@ -29,7 +30,7 @@ need_x86() {
     if [ "$(uname -m)" = x86_64 ]; then
         need gcc gcc
         X86_CC=gcc
-        X86_NM=nm
+        X86_NM="nm"
         X86_RUN=
     else
         need x86_64-linux-gnu-gcc gcc-x86-64-linux-gnu
