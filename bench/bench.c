@@ -1,7 +1,9 @@
-/* Times the library beside the plain C reader, in one run, on files of several shapes.
-     bench          16 MiB of each shape, then one shape from 1 to 16 MiB
-   Each figure is the best of several runs; both read the same bytes in the same memory, which was read before.
-   A ratio under 1 means that the library is the faster one. */
+/* Times the library beside plain C, in one run, on files of several shapes.
+     bench          16 MiB of each shape, then one shape from 1 to 16 MiB: the library's reader and the plain C reader;
+                    then split and combine, each beside the library's own reading of the same files and a plain copy
+                    of as many bytes as the result has
+   Each figure is the processor time of the best of several runs, both sides in turn; both read the same bytes in the
+   same memory, which was read before. A ratio under 1 means that the library's call is the faster one. */
 #define _POSIX_C_SOURCE 200809L
 #include <inttypes.h>
 #include <pthread.h>
@@ -13,7 +15,15 @@
 #include "bai2.h"
 #include "oracle.h"
 
-enum { MIB = 1 << 20, LARGEST = 16 * MIB, TAIL = 200, RUNS = 7, SMALL_STACK = 64 * 1024 };
+enum {
+    MIB = 1 << 20,
+    LARGEST = 16 * MIB,
+    ROOM = LARGEST + MIB, /* of every slice that is filled */
+    TAIL = 200,
+    RUNS = 7,
+    EACH = 10000000, /* receivers: each group has its own */
+    SMALL_STACK = 64 * 1024
+};
 
 /* A file that is being made: its bytes, and what its trailers will say. */
 typedef struct {
@@ -21,6 +31,7 @@ typedef struct {
     size_t length;
     long long total, group_total;
     unsigned long lines, group_lines, account_lines, accounts, groups;
+    unsigned long receivers; /* the groups go to so many receivers in turn */
 } file;
 
 /* Adds one line that belongs to the open account. */
@@ -39,7 +50,7 @@ static void add_line(file *f, const char *line)
 /* Opens a group with its first account. */
 static void open_group(file *f)
 {
-    ADD(f, "02,%07lu,122099999,1,040620,2359,,2/\n", f->groups);
+    ADD(f, "02,%07lu,122099999,1,040620,2359,,2/\n", f->groups % f->receivers);
     f->groups++;
     f->group_total = 0;
     f->group_lines = 1;
@@ -89,12 +100,10 @@ static void add_account(file *f, const shape *s)
     close_account(f, 1500LL * s->details);
 }
 
-/* A file of this shape of at most `size` bytes, as full as whole accounts make it. */
-static void make_file(file *f, const shape *s, size_t size)
+/* A file of this shape of at most `size` bytes, as full as whole accounts make it, for so many receivers. */
+static void make_file(file *f, const shape *s, size_t size, unsigned long receivers)
 {
-    char *bytes = f->bytes;
-    memset(f, 0, sizeof *f);
-    f->bytes = bytes;
+    *f = (file){.bytes = f->bytes, .receivers = receivers};
     ADD(f, "01,122099999,123456789,040621,0200,1,,,2/\n");
     open_group(f);
     size_t start = f->length;
@@ -111,34 +120,114 @@ static void make_file(file *f, const shape *s, size_t size)
     ADD(f, "99,%lld,%lu,%lu/\n", f->total, f->groups, f->lines + 2);
 }
 
-typedef bai2_summary reader(const uint8_t *, size_t);
+/* Something to be timed, and what it is done with. */
+typedef struct {
+    const file *a, *b;               /* b: only for combine */
+    const char *name;                /* only for split */
+    uint8_t *out;
+    size_t result; /* how many bytes the last call wrote */
+} task;
 
-/* The best time of several runs, in seconds; ends the program where the file is refused. */
-static double best_time(reader *read, const file *f)
+/* A file's bytes and their number, as two arguments of a call. */
+#define BYTES(f) (const uint8_t *)(f)->bytes, (f)->length
+
+/* The plain C reader; like each of these it answers the refusal's number, 0 where there is none. */
+static uint64_t plain_read(task *t)
 {
-    double best = 1e9;
-    for (int i = 0; i < RUNS; i++) {
-        struct timespec from, to;
-        clock_gettime(CLOCK_MONOTONIC, &from);
-        bai2_summary s = read((const uint8_t *)f->bytes, f->length);
-        clock_gettime(CLOCK_MONOTONIC, &to);
-        if (s.number != 0) {
-            printf("refused %" PRIu64 " at %" PRIu64 "\n", s.number, s.place);
-            exit(1);
-        }
-        double t = (double)(to.tv_sec - from.tv_sec) + 1e-9 * (double)(to.tv_nsec - from.tv_nsec);
-        best = t < best ? t : best;
-    }
-    return best;
+    return oracle_read(BYTES(t->a)).number;
 }
 
-/* One row: bytes, both times, both speeds and the ratio. */
-static void measure(const char *name, const file *f)
+/* The library's reader. */
+static uint64_t library_read(task *t)
 {
-    double plain = best_time(oracle_read, f), ours = best_time(bai2_read, f);
-    double megabytes = (double)f->length / 1e6;
-    printf("| %s | %.1f | %.2f | %.2f | %.0f | %.0f | %.2f |\n", name, megabytes, plain * 1e3, ours * 1e3,
-           megabytes / plain, megabytes / ours, ours / plain);
+    return bai2_read(BYTES(t->a)).number;
+}
+
+/* The library's split. */
+static uint64_t library_split(task *t)
+{
+    bai2_answer answer = bai2_split((const uint8_t *)t->name, strlen(t->name), BYTES(t->a), t->out, ROOM);
+    t->result = (size_t)answer.length;
+    return answer.number;
+}
+
+/* The library's combine. */
+static uint64_t library_combine(task *t)
+{
+    bai2_combined answer = bai2_combine(BYTES(t->a), BYTES(t->b), t->out, ROOM);
+    t->result = (size_t)answer.length;
+    return answer.number;
+}
+
+/* The least that split or combine could do: the library's reading of its files, and a copy of so many bytes. */
+static uint64_t read_and_copy(task *t)
+{
+    uint64_t number = bai2_read(BYTES(t->a)).number;
+    size_t first = t->result < t->a->length ? t->result : t->a->length;
+    memcpy(t->out, t->a->bytes, first);
+    if (t->b != NULL) {
+        number |= bai2_read(BYTES(t->b)).number;
+        memcpy(t->out + first, t->b->bytes, t->result - first);
+    }
+    return number;
+}
+
+typedef uint64_t call(task *t);
+
+/* The processor time of one run, in seconds; ends the program where the call is refused. */
+static double time_of(task *t, call *run)
+{
+    struct timespec from, to;
+    clock_gettime(CLOCK_THREAD_CPUTIME_ID, &from);
+    uint64_t number = run(t);
+    clock_gettime(CLOCK_THREAD_CPUTIME_ID, &to);
+    if (number != 0) {
+        printf("refused %" PRIu64 "\n", number);
+        exit(1);
+    }
+    return (double)(to.tv_sec - from.tv_sec) + 1e-9 * (double)(to.tv_nsec - from.tv_nsec);
+}
+
+/* The best times of two calls, run in turn several times. */
+static void best_times(task *t, call *first, call *second, double best[2])
+{
+    best[0] = best[1] = 1e9;
+    for (int i = 0; i < RUNS; i++) {
+        double one = time_of(t, first), other = time_of(t, second);
+        best[0] = one < best[0] ? one : best[0];
+        best[1] = other < best[1] ? other : best[1];
+    }
+}
+
+/* One row: bytes, both readers' times and speeds, and their ratio. */
+static void measure_readers(const char *name, const file *f)
+{
+    double best[2], megabytes = (double)f->length / 1e6;
+    best_times(&(task){.a = f}, plain_read, library_read, best);
+    printf("| %s | %.1f | %.2f | %.2f | %.0f | %.0f | %.2f |\n", name, megabytes, best[0] * 1e3, best[1] * 1e3,
+           megabytes / best[0], megabytes / best[1], best[1] / best[0]);
+}
+
+/* One row: bytes in and out, the time of reading and copying, the time of the call, and their ratio. */
+static void measure_call(const char *name, const shape *s, task *t, call *run)
+{
+    double best[2];
+    size_t in = t->a->length + (t->b == NULL ? 0 : t->b->length);
+    best_times(t, run, read_and_copy, best);
+    printf("| %s, %s | %.1f | %.1f | %.2f | %.2f | %.2f |\n", name, s->name, (double)in / 1e6,
+           (double)t->result / 1e6, best[1] * 1e3, best[0] * 1e3, best[0] / best[1]);
+}
+
+/* Split and combine on files of this shape. */
+static void measure_calls(const shape *s, file *a, file *b, uint8_t *out)
+{
+    make_file(a, s, LARGEST - TAIL, 2);
+    measure_call("split, half of the groups", s, &(task){.a = a, .name = "0000000", .out = out}, library_split);
+    make_file(a, s, LARGEST - TAIL, 1);
+    measure_call("split, all groups", s, &(task){.a = a, .name = "0000000", .out = out}, library_split);
+    make_file(a, s, LARGEST / 2, EACH);
+    make_file(b, s, LARGEST / 2, EACH);
+    measure_call("combine of two", s, &(task){.a = a, .b = b, .out = out}, library_combine);
 }
 
 /* Reads the file on a thread with a small stack. */
@@ -162,10 +251,35 @@ static void small_stack(file *f)
     printf("\nA 16 MiB file was read on a thread with a stack of 64 KiB.\n");
 }
 
-/* The head of a table. */
-static void table(const char *title)
+/* The head of a table: its title, and what stands in its columns. */
+static void put_table(const char *title, const char *columns)
 {
-    printf("\n%s\n\n| file | MB | plain C, ms | library, ms | plain C, MB/s | library, MB/s | ratio |\n|---|---|---|---|---|---|---|\n", title);
+    printf("\n%s\n\n%s\n|", title, columns);
+    for (const char *bar = strchr(columns + 1, '|'); bar != NULL; bar = strchr(bar + 1, '|'))
+        printf("---|");
+    printf("\n");
+}
+
+/* All three tables, over two files and a slice for results. */
+static void put_tables(const shape *shapes, size_t count, file *a, file *b, uint8_t *out)
+{
+    static const char readers[] = "| file | MB | plain C, ms | library, ms | plain C, MB/s | library, MB/s | ratio |";
+    put_table("16 MiB of each shape", readers);
+    for (size_t i = 0; i < count; i++) {
+        make_file(a, &shapes[i], LARGEST, EACH);
+        measure_readers(shapes[i].name, a);
+    }
+    small_stack(a);
+    put_table("Usual lines, by size", readers);
+    for (int size = 1; size <= 16; size *= 2) {
+        char name[20];
+        snprintf(name, sizeof name, "%d MiB", size);
+        make_file(a, &shapes[1], (size_t)size * MIB, EACH);
+        measure_readers(name, a);
+    }
+    put_table("Split and combine", "| call | MB in | MB out | read and copy, ms | call, ms | ratio |");
+    for (size_t i = 0; i < 3; i++)
+        measure_calls(&shapes[i], a, b, out);
 }
 
 int main(void)
@@ -180,23 +294,13 @@ int main(void)
         {"many 88s", "16,165,1500,1,DD1620,,DEALER PAYMENTS", "88,AND A FURTHER PIECE OF TEXT", 10, 20, 20},
         {"one huge group", "16,475,1500,V,040620,2359,DD1620,REF 12,CHEQUE /77", "", 0, 1000, 0},
     };
-    file f = {0};
-    f.bytes = malloc(LARGEST + MIB);
-    if (f.bytes == NULL)
+    file a = {.bytes = malloc(ROOM)}, b = {.bytes = malloc(ROOM)};
+    uint8_t *out = malloc(ROOM);
+    if (a.bytes == NULL || b.bytes == NULL || out == NULL)
         return 1;
-    table("16 MiB of each shape");
-    for (size_t i = 0; i < sizeof shapes / sizeof *shapes; i++) {
-        make_file(&f, &shapes[i], LARGEST);
-        measure(shapes[i].name, &f);
-    }
-    small_stack(&f);
-    table("Usual lines, by size");
-    for (int size = 1; size <= 16; size *= 2) {
-        char name[20];
-        snprintf(name, sizeof name, "%d MiB", size);
-        make_file(&f, &shapes[1], (size_t)size * MIB);
-        measure(name, &f);
-    }
-    free(f.bytes);
+    put_tables(shapes, sizeof shapes / sizeof *shapes, &a, &b, out);
+    free(a.bytes);
+    free(b.bytes);
+    free(out);
     return 0;
 }
