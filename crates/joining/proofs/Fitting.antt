@@ -1,10 +1,9 @@
 -- 18, 15, or the result: the answers by the result's length. Assumes nothing.
-use Prim.Native.Nat.{ℕ, _-_, _≤_, _<_}
+use Prim.Native.Nat.{ℕ, _≤_, _<_}
 use native.Mathlib.Omega.{arith}
 use mathlib.Core.Path.{_≡_, sym, ap, _∙_}
-use mathlib.Core.List.{_++_}
 use borrow.Author.Tests.{le-leb, lt-leb}
-use lib.ListN.{length, take, drop, length-take}
+use lib.ListN.{length, take, drop, length-take, length-drop}
 use lib.Seq.{length-take-le}
 use Rattle.rules.specs.Bytes.{Bytes}
 use Rattle.rules.specs.Verdict.{mostBytes}
@@ -29,9 +28,9 @@ module _ (result before : Bytes) (which : ℕ) where
 
 -- ---- parts of slices
 
--- bytes in front are no more than there are
-pub front : (h : ℕ) (xs : Bytes) → length (take (h - 0) (drop 0 xs)) ≤ length xs
-front h xs = omega (arith, length-take (h - 0) xs)
+-- a part has no more bytes than the whole
+pub part-most : (m n k : ℕ) (xs : Bytes) → length xs ≤ m → length (take n (drop k xs)) ≤ m
+part-most m n k xs h = omega (arith, length-take n (drop k xs), length-drop k xs)
 
 -- so many bytes in front are so many
 pub front-size : (bs xs : Bytes) (k : ℕ) → take k xs ≡ bs → k ≤ length xs → length bs ≡ k

@@ -2,3 +2,5 @@
 pub mod Fitting
 pub mod Naming
 pub mod Splitting
+pub mod Limits
+pub mod Combining

@@ -1,4 +1,4 @@
-// A file split for one receiver: measured first, then written.
+// A file split for one receiver: measured first, then written. `combine` holds two files combined.
 use digits::kinds::Place;
 use digits::kinds::Records;
 use reader::Verdict;
@@ -13,6 +13,8 @@ ghost use Rattle.rules.specs.Split as rules;
 ghost use Rattle.digits.specs.Put.{Put};
 ghost use Rattle.groups.specs.Ahead.{Ahead, matching};
 ghost use Rattle.joining.specs.Answers.{answerMeant, refusal, Accepts, splitFitting};
+
+pub mod combine;
 
 // The longest result.
 const MOST_BYTES: usize = 16_777_216;

@@ -13,7 +13,7 @@ use Rattle.rules.specs.Parts.{headerIn, groupsIn}
 use Rattle.rules.specs.Combine.{joined}
 use Rattle.laws.proofs.Groups.{decomposed, limit-is}
 use Rattle.reader.specs.Meanings.{summaryMeant, stateMeant, Held}
-use Rattle.reader.specs.Running.{runFrom, lastStart, lastFrom, last-of, atEnd, judge-end}
+use Rattle.reader.specs.Running.{runFrom, lastStart, lastFrom, last-of, judge-end}
 use Rattle.reader.specs.Answers.{EndIs, IsGood, JudgedIs}
 use Rattle.reader.specs.declared.state.State.{State}
 use Rattle.reader.specs.declared.Judged.{Judged}

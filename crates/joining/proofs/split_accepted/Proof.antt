@@ -12,7 +12,7 @@ use Rattle.fresh.specs.Fresh.{lastLine}
 use Rattle.groups.specs.Ahead.{matching, Tallied}
 use Rattle.groups.proofs.Opening.{Opened, opened}
 use Rattle.joining.specs.Answers.{splitResult, splitFitting}
-use Rattle.joining.proofs.Fitting.{too-long, no-room, written, front, front-size}
+use Rattle.joining.proofs.Fitting.{too-long, no-room, written, part-most, front-size}
 use Rattle.joining.proofs.Splitting.{last-is, result-is, result-size}
 use borrow.Author.Needs.{needs}
 use Rattle.joining.proofs.split_accepted.Statement.{statement}
@@ -74,7 +74,7 @@ result c =
     let h = header-of c in
     let e : h - 0 ≡ h = omega arith in
     let lines : n ≡ length (linesOf (take h (file-of c))) = c .before .before .before .before .count-lines .ensures .0 ∙ ap (λ (k : ℕ). length (linesOf (take k (file-of c)))) e in
-    let few : n ≤ length (file-of c) = omega (arith, c .before .before .before .before .count-lines .ensures .1, front h (file-of c), known c .inside) in
+    let few : n ≤ length (file-of c) = omega (arith, c .before .before .before .before .count-lines .ensures .1, part-most (length (file-of c)) (h - 0) 0 (file-of c) (omega arith), known c .inside) in
     let first = c .before .before .before .add .ensures in
     let all : records-of c ≡ (n + t .records .0) + 1 = omega (arith, c .before .before .add2 .ensures, first, few, tally c .few, inside c, known c .not-too-long) in
     result-is (name-of c) (file-of c) h (known c) (last-of c) (last-is (name-of c) (file-of c) h (known c) (t .groups) (t .bytes) (sumMeant (t .total)) (t .records .0) n (records-of c) (tally c) lines all)

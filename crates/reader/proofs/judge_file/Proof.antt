@@ -11,7 +11,7 @@ use Rattle.rules.specs.Verdict.{mostBytes}
 use Rattle.lines.specs.Cut.{firstRecord}
 use Rattle.reader.specs.Meanings.{stateMeant, Held}
 use Rattle.reader.specs.Answers.{StepIs}
-use Rattle.reader.specs.Running.{runFrom, run-end, run-stop, run-go, lastFrom, last-end, last-go, judge-empty, judge-long, judge-stop, judge-end}
+use Rattle.reader.specs.Running.{runFrom, run-end, run-stop, run-go, lastFrom, last-end, last-go, judge-empty, judge-long, judge-stop}
 use Rattle.reader.proofs.GoodFiles.{judged-end}
 use Rattle.reader.proofs.judge_file.Statement.{statement}
 use Rattle.rules.specs.Verdict as verdict
