@@ -1,2 +1,3 @@
 -- What the answers to C say in document 01's terms.
 pub mod Answers
+pub mod Writing

@@ -10,6 +10,8 @@ ghost use Rattle.digits.specs.Kinds.{sumMeant};
 ghost use Rattle.rules.specs.Split.{split};
 ghost use Rattle.bai2.specs.Answers.{readMeant, splitMeant};
 
+pub mod writing;
+
 // What reading a file answers.
 #[repr(C)]
 pub struct ReadAnswer {
