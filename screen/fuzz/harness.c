@@ -1,5 +1,6 @@
 /* The fuzzer's entry: everything the program does with a file, on the given bytes and once more with
-   its trailers mended, so that changed files are accepted too. Any broken promise aborts. */
+   its trailers mended, so that changed files are accepted too; and the writer's calls, chosen by the
+   bytes. Any broken promise aborts. */
 #include <stdlib.h>
 #include <string.h>
 
@@ -10,6 +11,7 @@
 #include "refusal.h"
 #include "screen.h"
 #include "show.h"
+#include "write.h"
 
 enum { TRAILER_ROOM = 64, LONGEST_INPUT = 65536 };
 
@@ -123,7 +125,7 @@ static void try_file(slice file)
         try_accepted(file, s, nowhere());
 }
 
-/* Tries the bytes as they are, and with mended trailers. */
+/* Tries the bytes as they are, with mended trailers, and as calls of the writer. */
 int LLVMFuzzerTestOneInput(const uint8_t *data, size_t size)
 {
     if (size > LONGEST_INPUT)
@@ -132,6 +134,7 @@ int LLVMFuzzerTestOneInput(const uint8_t *data, size_t size)
     slice mended = mend(file);
     try_file(file);
     try_file(mended);
+    must_hold(writer_keeps_promises(file));
     free((void *)(uintptr_t)mended.bytes);
     return 0;
 }
