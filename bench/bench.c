@@ -282,6 +282,7 @@ static void put_tables(const shape *shapes, size_t count, file *a, file *b, uint
         measure_calls(&shapes[i], a, b, out);
 }
 
+/* Makes the shapes and prints the tables. */
 int main(void)
 {
     static char text[4001];

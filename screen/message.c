@@ -52,7 +52,7 @@ void complain(const char *format, ...)
 }
 
 /* Ends the program, since there is no memory left. */
-void out_of_memory(void)
+_Noreturn void out_of_memory(void)
 {
     complain("out of memory");
     exit(TROUBLE);

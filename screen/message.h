@@ -10,6 +10,6 @@ __attribute__((format(printf, 1, 2)))
 void complain(const char *format, ...);
 
 void put_name(FILE *to, const char *name);
-void out_of_memory(void);
+_Noreturn void out_of_memory(void);
 
 #endif

@@ -21,7 +21,7 @@ static bool put_report_plain(const outline *o)
 }
 
 /* In the child: becomes the pager, which reads from the pipe. */
-static void become_pager(const int pipe_ends[2])
+static _Noreturn void become_pager(const int pipe_ends[2])
 {
     const char *pager = getenv("PAGER");
     dup2(pipe_ends[0], STDIN_FILENO);

@@ -31,9 +31,10 @@ static void add_row(tree *t, tree_row row)
 {
     if (t->count == t->room) {
         t->room = t->room == 0 ? FIRST_ROOM : t->room * 2;
-        t->rows = realloc(t->rows, t->room * sizeof *t->rows);
-        if (t->rows == NULL)
+        tree_row *larger = realloc(t->rows, t->room * sizeof *t->rows);
+        if (larger == NULL)
             out_of_memory();
+        t->rows = larger;
     }
     t->rows[t->count++] = row;
 }

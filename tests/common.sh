@@ -21,7 +21,7 @@ check() {
 need() {
     command -v "$1" >/dev/null && return
     tell "installing $2, since $1 is missing"
-    apt-get update -qq && apt-get install -y -qq "$2" >/dev/null
+    apt-get update -qq && DEBIAN_FRONTEND=noninteractive apt-get install -y -qq "$2" >/dev/null
 }
 
 # Sets X86_CC, X86_NM and X86_RUN: the compiler for x86-64, for which the library is built, what lists names, and what runs its programs.

@@ -40,13 +40,21 @@ stand_in() {
     ar rcs "$archive" "${objects[@]}"
 }
 
-# Sets $native to the variables of a native build, which the sanitizers, valgrind and the fuzzer need.
+# Sets $native to the variables of a native build, which sanitizers, valgrind, fuzzer and preloaded libraries need.
 choose_native() {
     need gcc gcc
     native=(CC=gcc)
     [ -z "$X86_RUN" ] && return
     tell "the library is for x86-64 and this is $(uname -m): checked here is the C around it, with the independent implementation in its place"
     stand_in gcc "$work/native.a" && native+=(LIB="$work/native.a")
+}
+
+# Sets $native_program to the program built natively, which on x86-64 it is anyway.
+builds_native() {
+    native_program=$work/build/bai2
+    [ -z "$X86_RUN" ] && return
+    native_program=$work/native/bai2
+    build "$work/native" "${native[@]}" all
 }
 
 # Builds the program natively under the sanitizers.
