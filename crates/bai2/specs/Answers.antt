@@ -4,6 +4,8 @@ use Rattle.rules.specs.Answers as rules
 use Rattle.rules.specs.Combine as combine
 use Rattle.bai2.specs.declared.ReadAnswer.{ReadAnswer}
 use Rattle.bai2.specs.declared.SplitAnswer.{SplitAnswer}
+use Rattle.bai2.specs.declared.CombineAnswer.{CombineAnswer}
+use Rattle.bai2.specs.declared.cutting.PartAnswer.{PartAnswer}
 
 abbrev pub readMeant : ReadAnswer → rules.ReadAnswer
 readMeant r =
@@ -20,3 +22,10 @@ readMeant r =
 -- an answer of split, with what the output slice holds
 abbrev pub splitMeant : SplitAnswer → Bytes → combine.Answer
 splitMeant r out = record { number = r .number; place = r .place; which = 0; len = r .length; output = out }
+
+-- an answer of combine, likewise
+abbrev pub combineMeant : CombineAnswer → Bytes → combine.Answer
+combineMeant r out = record { number = r .number; place = r .place; which = r .file; len = r .length; output = out }
+
+abbrev pub partMeant : PartAnswer → rules.PartAnswer
+partMeant r = record { number = r .number; place = r .place; start = r .start; len = r .length }

@@ -8,8 +8,10 @@ ghost use Rattle.rules.specs.Numbers.{asInteger, most};
 ghost use Rattle.rules.specs.Answers.{read};
 ghost use Rattle.digits.specs.Kinds.{sumMeant};
 ghost use Rattle.rules.specs.Split.{split};
-ghost use Rattle.bai2.specs.Answers.{readMeant, splitMeant};
+ghost use Rattle.rules.specs.Combine.{combine};
+ghost use Rattle.bai2.specs.Answers.{readMeant, splitMeant, combineMeant};
 
+pub mod cutting;
 pub mod writing;
 
 // What reading a file answers.
@@ -89,5 +91,29 @@ pub extern "C" fn bai2_split(name: &[u8], file: &[u8], out: &mut [u8]) -> SplitA
         number: r.number,
         place: place.0 as u64,
         length: r.length as u64,
+    }
+}
+
+// What combining two files answers; file: the one that the reader refused, 1 or 2, or 0.
+#[repr(C)]
+pub struct CombineAnswer {
+    pub number: u64,
+    pub place: u64,
+    pub length: u64,
+    pub file: u64,
+}
+
+// The first file's header and groups, then the second's groups, at the front of out.
+#[no_mangle]
+pub extern "C" fn bai2_combine(a: &[u8], b: &[u8], out: &mut [u8]) -> CombineAnswer
+    ensures { λ r. ⌜ combineMeant r (now (out .exit)) ≡ combine (now (a .entry)) (now (b .entry)) (now (out .entry)) ⌝ }
+{
+    let r = joining::combine::combine(a, b, out);
+    let place = r.place;
+    CombineAnswer {
+        number: r.number,
+        place: place.0 as u64,
+        length: r.length as u64,
+        file: r.file,
     }
 }

@@ -1,0 +1,44 @@
+// The calls for C that cut a part out of a file: where it stands, counted from the file's first byte.
+use parts::Part;
+ghost use mathlib.Core.Path.{_≡_};
+ghost use Rattle.rules.specs.Answers.{groupPart, accountPart};
+ghost use Rattle.parts.specs.Meanings as parts;
+ghost use Rattle.bai2.specs.Answers.{partMeant};
+
+// A refusal's number and place, or where the part starts and its length.
+#[repr(C)]
+pub struct PartAnswer {
+    pub number: u64,
+    pub place: u64,
+    pub start: u64,
+    pub length: u64,
+}
+
+// A part in figures.
+fn figures_of(part: Part) -> PartAnswer
+    ensures { λ r. ⌜ partMeant r ≡ parts.partMeant part ⌝ }
+{
+    let place = part.place;
+    PartAnswer {
+        number: part.number,
+        place: place.0 as u64,
+        start: part.start as u64,
+        length: part.length as u64,
+    }
+}
+
+// The group of this number.
+#[no_mangle]
+pub extern "C" fn bai2_group(file: &[u8], group: u64) -> PartAnswer
+    ensures { λ r. ⌜ partMeant r ≡ groupPart (now (file .entry)) group ⌝ }
+{
+    figures_of(parts::find_group(file, group))
+}
+
+// The account of this number in that group.
+#[no_mangle]
+pub extern "C" fn bai2_account(file: &[u8], group: u64, account: u64) -> PartAnswer
+    ensures { λ r. ⌜ partMeant r ≡ accountPart (now (file .entry)) group account ⌝ }
+{
+    figures_of(parts::find_account(file, group, account))
+}
