@@ -17,7 +17,10 @@ use Rattle.reader.specs.declared.Verdict.{Verdict}
 use Rattle.reader.specs.declared.Verdict.the-variants.{Accepted, Refused}
 use Rattle.reader.specs.Meanings.{verdictMeant}
 use Rattle.joining.specs.declared.Answer.{Answer}
-use Rattle.joining.specs.Answers.{answerMeant}
+use Rattle.joining.specs.declared.combine.Combined.{Combined}
+use Rattle.joining.specs.Answers.{answerMeant, combinedMeant}
+use Rattle.parts.specs.declared.Part.{Part}
+use Rattle.parts.specs.Meanings as parts
 use Rattle.writer.specs.declared.state.Summary as written-summary
 use Rattle.writer.specs.declared.state.Phase.{Phase}
 use Rattle.writer.specs.declared.state.Phase.the-variants as phases
@@ -26,7 +29,12 @@ use Rattle.writer.specs.declared.state.Written.{Written}
 use Rattle.writer.specs.States.{phaseMeant, writerMeant, writtenMeant}
 use Rattle.bai2.specs.declared.ReadAnswer.{ReadAnswer}
 use Rattle.bai2.specs.declared.SplitAnswer.{SplitAnswer}
-use Rattle.bai2.specs.Answers.{readMeant, splitMeant}
+use Rattle.bai2.specs.declared.CombineAnswer.{CombineAnswer}
+use Rattle.bai2.specs.declared.cutting.PartAnswer.{PartAnswer}
+use Rattle.bai2.specs.declared.writing.WriterState.{WriterState}
+use Rattle.bai2.specs.declared.writing.WriteAnswer.{WriteAnswer}
+use Rattle.bai2.specs.Answers.{readMeant, splitMeant, combineMeant, partMeant}
+use Rattle.bai2.specs.Writing.{numbersOf, Reply, replied, replyTo}
 
 -- ---- reading
 
@@ -66,6 +74,38 @@ c-split-one name file before =
     one-answer (λ (x : Left SplitAnswer). splitMeant (x .answer) (x .slice))
     (λ (m : combine.Answer). record { answer = record { number = m .number; place = m .place; length = m .len }; slice = m .output })
     (λ x. refl) (split name file before)
+
+-- ---- combining
+
+-- joining::combine::combine
+pub combine-one : (a b before : Bytes) (x y : Left Combined)
+    → combinedMeant (x .answer) (x .slice) ≡ combine.combine a b before → combinedMeant (y .answer) (y .slice) ≡ combine.combine a b before → x ≡ y
+combine-one a b before =
+    one-answer (λ (x : Left Combined). combinedMeant (x .answer) (x .slice))
+    (λ (m : combine.Answer). record { answer = record { number = m .number; place = record { 0 = m .place }; length = m .len; file = m .which }; slice = m .output })
+    (λ x. refl) (combine.combine a b before)
+
+-- bai2_combine
+pub c-combine-one : (a b before : Bytes) (x y : Left CombineAnswer)
+    → combineMeant (x .answer) (x .slice) ≡ combine.combine a b before → combineMeant (y .answer) (y .slice) ≡ combine.combine a b before → x ≡ y
+c-combine-one a b before =
+    one-answer (λ (x : Left CombineAnswer). combineMeant (x .answer) (x .slice))
+    (λ (m : combine.Answer). record { answer = record { number = m .number; place = m .place; length = m .len; file = m .which }; slice = m .output })
+    (λ x. refl) (combine.combine a b before)
+
+-- ---- parts
+
+-- parts::find_group, find_account
+pub part-one : (promised : rules.PartAnswer) (x y : Part) → parts.partMeant x ≡ promised → parts.partMeant y ≡ promised → x ≡ y
+part-one =
+    one-answer parts.partMeant (λ (m : rules.PartAnswer). record { number = m .number; place = record { 0 = m .place }; start = m .start; length = m .len })
+    (λ x. refl)
+
+-- bai2_group, bai2_account
+pub c-part-one : (promised : rules.PartAnswer) (x y : PartAnswer) → partMeant x ≡ promised → partMeant y ≡ promised → x ≡ y
+c-part-one =
+    one-answer partMeant (λ (m : rules.PartAnswer). record { number = m .number; place = m .place; start = m .start; length = m .len })
+    (λ x. refl)
 
 -- ---- writing
 
@@ -121,3 +161,14 @@ write-one w call before =
     one-answer (λ (x : Left Written). writtenMeant (x .answer) (x .slice))
     (λ (m : writing.Written). record { answer = record { number = m .number; place = record { 0 = m .place }; length = m .len; writer = writerOf (m .writer) }; slice = m .output })
     same-written (writing.write w call before)
+
+-- bai2_writer_new
+pub c-new-one : (v w : WriterState) → v ≡ numbersOf writing.freshWriter → w ≡ numbersOf writing.freshWriter → v ≡ w
+c-new-one = one-answer (λ (w : WriterState). w) (λ (w : WriterState). w) (λ w. refl) (numbersOf writing.freshWriter)
+
+-- bai2_write_header, .._group, .._account, .._item, .._detail, .._end_account, .._end_group, .._end_file: each call on any numbers
+pub c-write-one : (given : WriterState) (call : writing.Call) (before : Bytes) (x y : Left WriteAnswer)
+    → replied (x .answer) (x .slice) ≡ replyTo given call before → replied (y .answer) (y .slice) ≡ replyTo given call before → x ≡ y
+c-write-one given call before =
+    one-answer (λ (x : Left WriteAnswer). replied (x .answer) (x .slice)) (λ (m : Reply). record { answer = m .answer; slice = m .output }) (λ x. refl)
+    (replyTo given call before)
