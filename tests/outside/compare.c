@@ -153,6 +153,7 @@ static void print_numbers(void)
         if (numbers[i] > 0)
             printf("%6zu %7" PRIu64 "   %5.2f%%\n", i, numbers[i],
                    100.0 * (double)numbers[i] / (double)all);
+    printf("   all %7" PRIu64 "\n", all);
 }
 
 /* Compares N generated files in one mode. */

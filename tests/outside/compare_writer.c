@@ -6,7 +6,7 @@
 
 #define GREATEST INT64_C(999999999999999999)
 
-enum { FIELDS = 7, ROOM = 1 << 15, LONGEST_WALK = 80 };
+enum { FIELDS = 7, LONGEST_FIELD = 4096, ROOM = 1 << 15, LONGEST_WALK = 80 };
 
 typedef enum {
     HEADER, GROUP, ACCOUNT, ITEM, A_DETAIL, END_ACCOUNT, END_GROUP, END_FILE, CALLS
@@ -57,6 +57,7 @@ static const samples texts = {
     {"/", "/A", "A ", " ", NAME_76 "6", "A\x7F", "\n", "A\x1F" "B"}};
 
 static guarded field_memory[FIELDS], outputs[2];
+static uint8_t digits[LONGEST_FIELD]; /* where a field is to be too long */
 
 /* Prepares the memory once. */
 static void prepare(void)
@@ -64,7 +65,8 @@ static void prepare(void)
     if (outputs[0].bytes != NULL)
         return;
     for (size_t i = 0; i < FIELDS; i++)
-        field_memory[i] = guarded_of(4096);
+        field_memory[i] = guarded_of(LONGEST_FIELD);
+    memset(digits, '1', sizeof digits);
     outputs[0] = guarded_of(ROOM + FRINGE);
     outputs[1] = guarded_of(ROOM + FRINGE);
 }
@@ -78,11 +80,13 @@ static const char *one_of(dice *d, const char *const *from)
     return from[roll(d, count)];
 }
 
-/* Gives a call its next field, now and then a bad one. */
+/* Gives a call its next field, now and then a bad one, seldom one longer than any line. */
 static void give(dice *d, call *c, size_t place, const samples *kind)
 {
     const char *bytes = one_of(d, chance(d, 20) ? kind->bad : kind->good);
-    c->fields[place] = lend(&field_memory[place], (const uint8_t *)bytes, strlen(bytes));
+    c->fields[place] = chance(d, 5)
+        ? lend(&field_memory[place], digits, between(d, 77, sizeof digits))
+        : lend(&field_memory[place], (const uint8_t *)bytes, strlen(bytes));
 }
 
 /* 0, or some number that isn't. */
@@ -184,8 +188,9 @@ static bai2_written perform(const side *s, const call *c, bai2_writer w, uint8_t
     }
 }
 
-/* Makes both sides do the call into their last `room` bytes; the oracle's answer. */
-static bai2_written ask(const call *c, const bai2_writer *w, size_t room)
+/* Makes both sides do the call into their last `room` bytes, and counts the answer's number; the
+   oracle's answer. */
+static bai2_written ask(const call *c, const bai2_writer *w, size_t room, uint64_t *numbers)
 {
     static const char *const words[CALLS] = {"header", "group", "account", "item", "detail",
                                              "end of account", "end of group", "end of file"};
@@ -196,6 +201,7 @@ static bai2_written ask(const call *c, const bai2_writer *w, size_t room)
     same_bytes(words[c->kind], one_out - FRINGE, other_out - FRINGE, room + FRINGE);
     must_hold("a refused call hands the writer back",
               one.number == 0 || memcmp(&one.writer, w, sizeof *w) == 0);
+    numbers[one.number]++;
     return one;
 }
 
@@ -223,20 +229,23 @@ static void fresh_behind(size_t written, size_t room)
         memset(guarded_end(&outputs[i], room) + written, PATTERN, room - written);
 }
 
-/* Tries a call on a made-up writer, whose bytes are then taken back. */
-static void try_made_up(dice *d, const bai2_writer *w, size_t room)
+/* Tries calls one after the other from a made-up writer on; their bytes are then taken back. */
+static void try_made_up(dice *d, const bai2_writer *w, size_t room, uint64_t *numbers)
 {
     static uint8_t before[ROOM];
     memcpy(before, guarded_end(&outputs[0], room), room);
     bai2_writer strange = made_up(d, *w);
-    call c = some_call(d, chance(d, 500) ? w : &strange);
-    ask(&c, &strange, room);
+    for (size_t left = between(d, 1, 4); left > 0; left--) {
+        call c = some_call(d, chance(d, 500) ? w : &strange);
+        strange = ask(&c, &strange, room, numbers).writer;
+    }
     for (size_t i = 0; i < 2; i++)
         memcpy(guarded_end(&outputs[i], room), before, room);
 }
 
 /* Tries the call with slices that are too short, just long enough, or empty. */
-static void try_short(const call *c, const bai2_writer *w, size_t needed, size_t room)
+static void try_short(const call *c, const bai2_writer *w, size_t needed, size_t room,
+                      uint64_t *numbers)
 {
     static uint8_t before[ROOM];
     memcpy(before, guarded_end(&outputs[0], room), room);
@@ -244,7 +253,7 @@ static void try_short(const call *c, const bai2_writer *w, size_t needed, size_t
     for (size_t i = 0; i < sizeof lengths / sizeof *lengths; i++) {
         for (size_t j = 0; j < 2; j++)
             memcpy(guarded_end(&outputs[j], lengths[i]), before, lengths[i]);
-        ask(c, w, lengths[i]);
+        ask(c, w, lengths[i], numbers);
     }
     for (size_t j = 0; j < 2; j++)
         memcpy(guarded_end(&outputs[j], room), before, room);
@@ -261,7 +270,7 @@ static void read_back(const bai2_writer *w, size_t room)
                   && s.details == w->file_details && s.records == w->file_lines);
 }
 
-/* Lets both write one file from a fresh writer on; counts the refusals of its calls. */
+/* Lets both write one file from a fresh writer on; counts the numbers that the calls answer. */
 void compare_writer(dice *d, uint64_t *numbers)
 {
     prepare();
@@ -272,16 +281,15 @@ void compare_writer(dice *d, uint64_t *numbers)
     memset(outputs[1].bytes, PATTERN, outputs[1].room);
     for (int i = 0; i < LONGEST_WALK && (w.phase != 5 || chance(d, 500)); i++) {
         call c = some_call(d, &w);
-        bai2_written answer = ask(&c, &w, room);
-        numbers[answer.number]++;
+        bai2_written answer = ask(&c, &w, room, numbers);
         if (answer.number == 0 && chance(d, 100)) {
             fresh_behind((size_t)w.size, room);
-            try_short(&c, &w, (size_t)answer.length, room);
-            ask(&c, &w, room);
+            try_short(&c, &w, (size_t)answer.length, room, numbers);
+            ask(&c, &w, room, numbers);
         }
         w = answer.writer;
         if (chance(d, 200))
-            try_made_up(d, &w, room);
+            try_made_up(d, &w, room, numbers);
         if (c.kind == END_FILE && answer.number == 0)
             read_back(&w, room);
     }

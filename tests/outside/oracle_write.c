@@ -143,16 +143,13 @@ static bai2_written refused(bai2_writer w, uint64_t number)
     return (bai2_written){.number = number, .writer = w};
 }
 
-/* The writer behind an accepted line. */
+/* The writer behind an accepted line: it adds to the file, and to what is open behind it; what isn't
+   open is nothing. (So where a 02 or 03 comes, only a made-up writer holds an open group or account.) */
 static bai2_writer behind(const bai2_writer *w, const draft *d)
 {
     tally file = file_of(w), group = group_of(w), account = account_of(w);
     file_phase phase = IN_ACCOUNT;
     oracle_in_turn((file_phase)w->phase, d->code, &phase);
-    if (d->code == GROUP_HEADER)
-        group = (tally){0};
-    if (d->code == ACCOUNT_HEADER)
-        account = (tally){0};
     oracle_add(&file, &d->figures);
     oracle_add(&group, &d->figures);
     oracle_add(&account, &d->figures);

@@ -1,6 +1,7 @@
 /* Stands in for the library: the oracle under the library's names, so that the harness itself can be
    tested. Each -D switch plants one bug that the harness must find:
-   BUG_88_NOT_COUNTED, BUG_DEBIT_SUBTRACTED, BUG_TEXT_CUT, BUG_ZERO_DROPPED, BUG_PLACE_OFF.
+   BUG_88_NOT_COUNTED, BUG_DEBIT_SUBTRACTED, BUG_TEXT_CUT, BUG_ZERO_DROPPED, BUG_PLACE_OFF,
+   BUG_BYTE_BEHIND, BUG_REFUSED_MOVES.
    With STAND_IN defined as a weak attribute it answers only the calls that the library lacks. */
 #include <stdlib.h>
 #include <string.h>
@@ -149,7 +150,7 @@ STAND_IN bai2_written bai2_write_item(bai2_writer writer,
                              out_length);
 }
 
-/* As the oracle. */
+/* As the oracle, with a bug where one is planted. */
 STAND_IN bai2_written bai2_write_detail(bai2_writer writer,
                                const uint8_t *type, size_t type_length,
                                uint64_t amount_given, int64_t amount,
@@ -158,9 +159,18 @@ STAND_IN bai2_written bai2_write_detail(bai2_writer writer,
                                const uint8_t *text, size_t text_length,
                                uint8_t *out, size_t out_length)
 {
-    return oracle_write_detail(writer, type, type_length, amount_given, amount, bank_reference,
-                               bank_reference_length, customer_reference, customer_reference_length,
-                               text, text_length, out, out_length);
+    bai2_written w = oracle_write_detail(writer, type, type_length, amount_given, amount,
+                                         bank_reference, bank_reference_length, customer_reference,
+                                         customer_reference_length, text, text_length, out,
+                                         out_length);
+#ifdef BUG_BYTE_BEHIND
+    if (w.number == 0 && w.length < out_length)
+        out[w.length] = 0;
+#endif
+#ifdef BUG_REFUSED_MOVES
+    w.writer.items = 0;
+#endif
+    return w;
 }
 
 /* As the oracle. */
