@@ -15,13 +15,13 @@ use Rattle.lines.specs.Answers.{BlockIs}
 use Rattle.lines.proofs.Runs.{run-stop, run-step, byte-low, byte-high, byte-good}
 
 module _ (s : Bytes) (at high : ℕ) where
-  -- of the first i bytes, `first` is the first outside; or none is, and it is 64
+  -- of the first i bytes, `first` is the first outside; or none is, and it is 255
   pub record Nearest (i first : ℕ) : Type 0 where
     pub plain : (k : ℕ) → k < i → k < first → outside high (getD s (at + k) 0) ≡ false
-    pub low : first ≤ 64
+    pub low : first ≤ 255
     pub there : first < 64 → (first < i) × (outside high (getD s (at + first) 0) ≡ true)
 
-  pub nearest-none : Nearest 0 64
+  pub nearest-none : Nearest 0 255
   nearest-none = record { plain = λ k h l. absurd (omega arith); low = omega arith; there = λ h. absurd (omega arith) }
 
   nearest-hit : (i first : ℕ) → i < 64 → Nearest i first → outside high (getD s (at + i) 0) ≡ true → Known (ltb first 64) → Nearest (i + 1) (min i first)
@@ -35,15 +35,15 @@ module _ (s : Bytes) (at high : ℕ) where
       let z : min i first ≡ i = omega arith in
       rw z (record { plain = λ k a b. n .plain k b (omega arith); low = omega arith; there = λ a. (omega arith, e) })
 
-  nearest-miss : (i first : ℕ) → Nearest i first → outside high (getD s (at + i) 0) ≡ false → Nearest (i + 1) (min 64 first)
+  nearest-miss : (i first : ℕ) → Nearest i first → outside high (getD s (at + i) 0) ≡ false → Nearest (i + 1) (min 255 first)
   nearest-miss i first n e =
-      let z : min 64 first ≡ first = omega (arith, n .low) in
+      let z : min 255 first ≡ first = omega (arith, n .low) in
       rw z (record { plain = below-more _ _ (n .plain) (λ l. e); low = n .low; there = λ a. let f = n .there a in (omega arith, f .1) })
 
-  pub nearest-step : (i first : ℕ) → i < 64 → Nearest i first → Nearest (i + 1) (min (cond (outside high (getD s (at + i) 0)) i 64) first)
+  pub nearest-step : (i first : ℕ) → i < 64 → Nearest i first → Nearest (i + 1) (min (cond (outside high (getD s (at + i) 0)) i 255) first)
   nearest-step i first h n = by-test (known (outside high (getD s (at + i) 0)))
     where
-      by-test : Known (outside high (getD s (at + i) 0)) → Nearest (i + 1) (min (cond (outside high (getD s (at + i) 0)) i 64) first)
+      by-test : Known (outside high (getD s (at + i) 0)) → Nearest (i + 1) (min (cond (outside high (getD s (at + i) 0)) i 255) first)
       by-test (holds e) = rw e (nearest-hit i first h n e (known (ltb first 64)))
       by-test (fails e) = rw e (nearest-miss i first n e)
 

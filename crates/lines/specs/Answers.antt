@@ -19,11 +19,11 @@ use Rattle.lines.specs.declared.checks.Scanned.{Scanned}
 use Rattle.lines.specs.declared.checks.Scanned.the-variants as scanned
 use Rattle.lines.specs.Cut.{run, stopsAt, firstLine, lineLen, firstRecord}
 
--- in the 64 bytes at `at` the first byte outside stands at n; or none does, and n is 64
+-- in the 64 bytes at `at` the first byte outside stands at n; or none does, and n is no place there
 pub record BlockIs (s : Bytes) (at high n : ℕ) : Type 0 where
-  pub low : n ≤ 64
+  pub low : n ≤ 255
   pub found : n < 64 → run (stopsAt high) (drop at s) ≡ n
-  pub missed : n ≡ 64 → at + run (stopsAt high) (drop at s) ≡ at + 64 + run (stopsAt high) (drop (at + 64) s)
+  pub missed : 64 ≤ n → at + run (stopsAt high) (drop at s) ≡ at + 64 + run (stopsAt high) (drop (at + 64) s)
 
 -- a line's code, if it has one
 abbrev pub codeFound : Coded → Option rules.Code

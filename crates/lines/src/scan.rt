@@ -6,14 +6,14 @@ ghost use lib.ListN.{length, drop};
 ghost use Rattle.lines.specs.Cut.{run, outside, stopsAt};
 ghost use Rattle.lines.specs.Answers.{BlockIs};
 
-// i where b is below a blank or above `high`, else 64.
+// i where b is below a blank or above `high`, else 255.
 fn place_of(b: u8, i: u8, high: u8) -> u8
-    ensures { λ r. ⌜ r ≡ cond (outside high b) i 64 ⌝ }
+    ensures { λ r. ⌜ r ≡ cond (outside high b) i 255 ⌝ }
 {
     if b < b' ' || high < b {
         return i;
     }
-    64
+    255
 }
 
 // The smaller of two.
@@ -26,12 +26,12 @@ fn smaller(a: u8, b: u8) -> u8
     b
 }
 
-// How many of the 64 bytes at `at` stand before the first that is below a blank or above `high`.
+// How many of the 64 bytes at `at` stand before the first that is below a blank or above `high`; 255 where none is.
 fn block(s: &[u8], at: usize, high: u8) -> usize
     requires { ⌜ at + 64 ≤ length (now s) ⌝ }
     ensures { λ r. ⌜ BlockIs (now (s .entry)) at high r ⌝ }
 {
-    let mut first: u8 = 64;
+    let mut first: u8 = 255;
     let mut i: usize = 0;
     while i < 64 {
         first = smaller(place_of(s[at + i], i as u8, high), first);

@@ -31,7 +31,7 @@ returns-2 c =
 
 loop-again : tie.Need-loop-again Inv-loop μ-loop
 loop-again c =
-    let b = c .before .block .ensures in let e : c .before .block .result ≡ 64 = omega (arith, b .low) in let m = b .missed e in
+    let m = c .before .block .ensures .missed (omega arith) in
     (omega arith, omega arith)
 
 returns-3 : tie.Need-returns-3 Inv-loop μ-loop
