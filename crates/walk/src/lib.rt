@@ -8,7 +8,7 @@ use wants::want::Want;
 ghost use mathlib.Core.Path.{_≡_};
 ghost use Rattle.wants.specs.Wants.{wantedOf};
 ghost use Rattle.walk.specs.Working.{point, endK};
-ghost use Rattle.walk.specs.Answers.{walkedOf, Walks};
+ghost use Rattle.walk.specs.Answers.{walkedOf, Leads, Walks};
 
 // The number of a refusal and its place in the record, or what was kept.
 pub enum Walked {
@@ -26,35 +26,34 @@ fn finish(want: Want, kept: Kept, slash: Place) -> Walked
     Walked::Refused(8, slash)
 }
 
-// The walk stops at the first fault found; places are counted from the record's start. `before`: the magnitudes of the records before.
-pub fn walk_record(rec: &[u8], first: Want, before: u64) -> Walked
+// The walk stops at the first fault found; places are counted from the record's start. `rest`: the file from the record on, for the search of line
+// ends; `before`: the magnitudes of the records before.
+pub fn walk_record(rest: &[u8], rec: &[u8], first: Want, before: u64) -> Walked
+    requires { ⌜ Leads (now rec) (now rest) ⌝ }
     ensures { λ r. ⌜ Walks (now (rec .entry)) first before r ⌝ }
 {
     let mut want = first;
     let mut kept = Kept::none(before);
     let mut slash = Place(0);
     let mut at: usize = 0;
-    'walk: loop {
-        if rec.len() <= at {
-            break 'walk finish(want, kept, slash);
-        }
-        let e = lines::body_end(rec, at);
+    while at < rec.len() {
+        let e = lines::body_end(rest, at);
         let mut a = at + 3;
         at = e + lines::end_len(rec, e);
         if e < a {
-            break 'walk Walked::Refused(7, Place(a));
+            return Walked::Refused(7, Place(a));
         }
         loop {
             let text = want::is_text(want);
             let Cut::Field(n) = fields::cut_field(text, &rec[a..e]) else {
-                break 'walk Walked::Refused(7, Place(e));
+                return Walked::Refused(7, Place(e));
             };
             let f = a + n;
             if kept::is_kept(want) {
                 kept = kept.keep(want, Place(a), &rec[a..f]);
             }
             match fields::take_field(want, &rec[a..f]) {
-                Taken::Refused(k) => break 'walk Walked::Refused(k, Place(a)),
+                Taken::Refused(k) => return Walked::Refused(k, Place(a)),
                 Taken::Next(next) => want = next,
             }
             if text {
@@ -64,11 +63,12 @@ pub fn walk_record(rec: &[u8], first: Want, before: u64) -> Walked
             if rec[f] == b'/' {
                 let t = a + fields::blanks_len(&rec[a..e]);
                 if t < e {
-                    break 'walk Walked::Refused(7, Place(t));
+                    return Walked::Refused(7, Place(t));
                 }
                 slash = Place(f);
                 break;
             }
         }
     }
+    finish(want, kept, slash)
 }

@@ -4,15 +4,18 @@ use mathlib.Core.Path.{_≡_, refl, ap, sym, _∙_}
 use mathlib.Core.Bool.{Bool, false}
 use mathlib.Core.Logic.{⊎-elim}
 use native.Mathlib.Omega.{arith}
-use lib.ListN.{length, drop, take}
-use lib.Seq.{slice, length-slice}
+use mathlib.Core.List.{_++_}
+use lib.ListN.{length, drop, take, length-drop}
+use lib.Seq.{slice, length-slice, drop-drop}
 use borrow.Author.Needs.{needs}
 use Rattle.rules.specs.Bytes.{Bytes}
 use Rattle.rules.specs.Outcome.{refused, fine}
 use Rattle.rules.specs.Lines.{linesOf}
 use Rattle.rules.specs.Cells.{cellsFrom, leadingBlanks}
 use Rattle.rules.specs.Grammar.{takeNext, nextKind, isText}
-use Rattle.lines.specs.Cut.{lineLen}
+use Rattle.lines.specs.Cut.{bodyLen, isEnd, lineLen}
+use Rattle.lines.specs.Cutting.{run-le}
+use Rattle.lines.specs.OneRecord.{same-body, same-behind}
 use Rattle.lines.proofs.Passing.{next-is, next-within, next-behind}
 use Rattle.wants.specs.Wants.{wantedOf, purpose}
 use Rattle.wants.specs.Takes.{judgedOf}
@@ -28,38 +31,42 @@ use Rattle.walk.proofs.Walking.{took-bad, took-good, open-here, field-w
 use Rattle.walk.proofs.walk_record.Statement.{statement}
 use Rattle.walk.proofs.walk_record.Tie as tie
 
-abbrev Inv-loop : tie.InvT-loop
-Inv-loop rec before want₀ kept₀ slash₀ at e a₀ want kept slash a =
+abbrev Inv-loop2 : tie.InvT-loop2
+Inv-loop2 rest rec before want₀ kept₀ slash₀ at e a₀ want kept slash a =
     (a ≤ e)
     × (e ≤ length rec)
     × Fits (length rec) before (point (wantedOf want) kept (slash .0))
     × (walkCellsK (point (wantedOf want₀) kept₀ (slash₀ .0)) (cellsFrom a₀ (slice a₀ e rec)) ≡ walkCellsK (point (wantedOf want) kept (slash .0)) (cellsFrom a (slice a e rec)))
 
-abbrev μ-loop : tie.MeasureT-loop
-μ-loop rec before want₀ kept₀ slash₀ at e a₀ want kept slash a = e - a
+abbrev μ-loop2 : tie.MeasureT-loop2
+μ-loop2 rest rec before want₀ kept₀ slash₀ at e a₀ want kept slash a = e - a
 
-abbrev Inv-walk : tie.InvT-walk
-Inv-walk rec before want₀ kept₀ slash₀ at₀ want kept slash at =
+abbrev Inv-loop : tie.InvT-loop
+Inv-loop rest rec before want₀ kept₀ slash₀ at₀ want kept slash at =
     (at ≤ length rec)
     × Fits (length rec) before (point (wantedOf want) kept (slash .0))
     × (walkLinesK 0 (point (wantedOf want₀) kept₀ (slash₀ .0)) (linesOf rec) ≡ walkLinesK at (point (wantedOf want) kept (slash .0)) (linesOf (drop at rec)))
+    × (linesOf (drop at rest) ≡ linesOf (drop at rec) ++ linesOf (drop (length rec) rest))
 
-abbrev μ-walk : tie.MeasureT-walk
-μ-walk rec before want₀ kept₀ slash₀ at₀ want kept slash at = length rec - at
+abbrev μ-loop : tie.MeasureT-loop
+μ-loop rest rec before want₀ kept₀ slash₀ at₀ want kept slash at = length rec - at
 
 -- ---- at a line: the record, the line's start and end, the next line, and the walk where the line starts
 
 abbrev Line : Type 0
-Line = tie.After-end-len Inv-loop μ-loop Inv-walk μ-walk
+Line = tie.After-end-len Inv-loop2 μ-loop2 Inv-loop μ-loop
 
-abbrev entry : Line → tie.Start Inv-loop μ-loop Inv-walk μ-walk
-entry c = c .before .before .before .before .before .before
+abbrev entry : Line → tie.Start Inv-loop2 μ-loop2 Inv-loop μ-loop
+entry c = c .before .before .before .before .before .before .before
 
 abbrev rec-of : Line → Bytes
 rec-of c = entry c .args .rec .now
 
+abbrev rest-of : Line → Bytes
+rest-of c = entry c .args .rest .now
+
 abbrev start-of : Line → ℕ
-start-of c = c .before .before .before .walk .at
+start-of c = c .before .before .before .loop .at
 
 abbrev end-of : Line → ℕ
 end-of c = c .before .body-end .result
@@ -69,93 +76,113 @@ next-of c = end-of c + c .end-len .result
 
 abbrev from-of : Line → WalkK
 from-of c =
-    let w = c .before .before .before .walk in
+    let w = c .before .before .before .loop in
     point (wantedOf (w .want)) (w .kept) (w .slash .0)
 
 -- the walk where the record starts
 abbrev Made : Type 0
-Made = tie.After-none Inv-loop μ-loop Inv-walk μ-walk
+Made = tie.After-none Inv-loop2 μ-loop2 Inv-loop μ-loop
 
 abbrev first-of : Made → WalkK
-first-of c = point (wantedOf (c .before .before .args .first)) (c .none .result) 0
+first-of c = point (wantedOf (c .before .before .before .args .first)) (c .none .result) 0
 
-first-is : (c : Made) → first-of c ≡ point (wantedOf (c .before .before .args .first)) (fresh (c .before .before .args .before)) 0
-first-is c = ap (λ (k : Kept). point (wantedOf (c .before .before .args .first)) k 0) (c .none .ensures)
+first-is : (c : Made) → first-of c ≡ point (wantedOf (c .before .before .before .args .first)) (fresh (c .before .before .before .args .before)) 0
+first-is c = ap (λ (k : Kept). point (wantedOf (c .before .before .before .args .first)) k 0) (c .none .ensures)
 
 some-byte : (c : Line) → start-of c < length (rec-of c)
-some-byte c = c .before .before .if1 .left
+some-byte c = c .before .before .loop-test .taken
+
+-- what is left of the record has a line, and it is the next of the file
+some-left : (c : Line) → 0 < length (drop (start-of c) (rec-of c))
+some-left c = omega (arith, some-byte c, length-drop (start-of c) (rec-of c))
+
+end-is : (c : Line) → end-of c ≡ start-of c + bodyLen (drop (start-of c) (rec-of c))
+end-is c =
+    c .before .body-end .ensures .0
+    ∙ ap (λ (n : ℕ). start-of c + n) (same-body (drop (start-of c) (rest-of c)) (drop (start-of c) (rec-of c)) (linesOf (drop (length (rec-of c)) (rest-of c))) (c .before .before .before .loop .inv .3) (some-left c))
 
 ends : (c : Line) → end-of c ≤ length (rec-of c)
-ends c = omega (arith, some-byte c, c .before .body-end .ensures .1)
+ends c = omega (arith, some-byte c, end-is c, run-le isEnd (drop (start-of c) (rec-of c)), length-drop (start-of c) (rec-of c))
 
 next-at : (c : Line) → next-of c ≡ start-of c + lineLen (drop (start-of c) (rec-of c))
 next-at c =
-    next-is (rec-of c) (start-of c) (end-of c) (next-of c) (c .before .body-end .ensures .0) (ap (λ (n : ℕ). end-of c + n) (c .end-len .ensures))
+    next-is (rec-of c) (start-of c) (end-of c) (next-of c) (end-is c) (ap (λ (n : ℕ). end-of c + n) (c .end-len .ensures))
 
 within : (c : Line) → next-of c ≤ length (rec-of c)
 within c =
     omega (
       arith,
       some-byte c,
-      next-within (rec-of c) (start-of c) (end-of c) (next-of c) (c .before .body-end .ensures .0) (ap (λ (n : ℕ). end-of c + n) (c .end-len .ensures)),
+      next-within (rec-of c) (start-of c) (end-of c) (next-of c) (end-is c) (ap (λ (n : ℕ). end-of c + n) (c .end-len .ensures)),
     )
 
 behind : (c : Line) → start-of c < next-of c
 behind c =
-    next-behind (rec-of c) (start-of c) (end-of c) (next-of c) (c .before .body-end .ensures .0) (ap (λ (n : ℕ). end-of c + n) (c .end-len .ensures)) (some-byte c)
+    next-behind (rec-of c) (start-of c) (end-of c) (next-of c) (end-is c) (ap (λ (n : ℕ). end-of c + n) (c .end-len .ensures)) (some-byte c)
 
 -- the record is refused where this line is
 stop : (c : Line) (n q : ℕ) → walkCellsK (from-of c) (cellsFrom (start-of c + 3) (slice (start-of c + 3) (end-of c) (rec-of c))) ≡ refused n q
     → refused n q ≡ walkFrom (wantedOf (entry c .args .first)) (fresh (entry c .args .before)) (linesOf (rec-of c))
 stop c n q r =
     from-stop _ _ (linesOf (rec-of c)) (first-of (c .before .before .before .before)) (first-is (c .before .before .before .before)) n q
-    (c .before .before .before .walk .inv .2 ∙ line-stop (rec-of c) (start-of c) (end-of c) (next-of c) (some-byte c) (c .before .body-end .ensures .0) (next-at c) (from-of c) n q r)
+    (c .before .before .before .loop .inv .2 ∙ line-stop (rec-of c) (start-of c) (end-of c) (next-of c) (some-byte c) (end-is c) (next-at c) (from-of c) n q r)
 
 -- the walk goes on at the next line where this one is good
 go-on : (c : Line) (v : WalkK) → walkCellsK (from-of c) (cellsFrom (start-of c + 3) (slice (start-of c + 3) (end-of c) (rec-of c))) ≡ fine v
     → walkLinesK 0 (first-of (c .before .before .before .before)) (linesOf (rec-of c)) ≡ walkLinesK (next-of c) v (linesOf (drop (next-of c) (rec-of c)))
 go-on c v r =
-    c .before .before .before .walk .inv .2 ∙ line-go (rec-of c) (start-of c) (end-of c) (next-of c) (some-byte c) (c .before .body-end .ensures .0) (next-at c) (from-of c) v r
+    c .before .before .before .loop .inv .2 ∙ line-go (rec-of c) (start-of c) (end-of c) (next-of c) (some-byte c) (end-is c) (next-at c) (from-of c) v r
+
+-- and so are the next line and those behind it
+leads-on : (c : Line) → linesOf (drop (next-of c) (rest-of c)) ≡ linesOf (drop (next-of c) (rec-of c)) ++ linesOf (drop (length (rec-of c)) (rest-of c))
+leads-on c =
+    let more = linesOf (drop (length (rec-of c)) (rest-of c)) in
+    let n = lineLen (drop (start-of c) (rec-of c)) in
+    ap (λ (k : ℕ). linesOf (drop k (rest-of c))) (next-at c)
+    ∙ ap linesOf (sym (drop-drop n (start-of c) (rest-of c)))
+    ∙ same-behind (drop (start-of c) (rest-of c)) (drop (start-of c) (rec-of c)) more (c .before .before .before .loop .inv .3) (some-left c)
+    ∙ ap (λ (bs : Bytes). linesOf bs ++ more) (drop-drop n (start-of c) (rec-of c))
+    ∙ ap (λ (k : ℕ). linesOf (drop k (rec-of c)) ++ more) (sym (next-at c))
 
 -- ---- at a field: its line, where it starts, and the walk there
 
 abbrev Head : Type 0
-Head = tie.At-loop Inv-loop μ-loop Inv-walk μ-walk
+Head = tie.At-loop2 Inv-loop2 μ-loop2 Inv-loop μ-loop
 
 abbrev line : Head → Line
 line c = c .before .before
 
 abbrev at-of : Head → ℕ
-at-of c = c .loop .a
+at-of c = c .loop2 .a
 
 abbrev here : Head → WalkK
-here c = point (wantedOf (c .loop .want)) (c .loop .kept) (c .loop .slash .0)
+here c = point (wantedOf (c .loop2 .want)) (c .loop2 .kept) (c .loop2 .slash .0)
 
 abbrev left : Head → Bytes
 left c = slice (at-of c) (end-of (line c)) (rec-of (line c))
 
 abbrev wants-text : Head → Bool
-wants-text c = isText (nextKind (wantedOf (c .loop .want)))
+wants-text c = isText (nextKind (wantedOf (c .loop2 .want)))
 
 -- ---- the field is cut
 
 abbrev Cutting : Type 0
-Cutting = tie.After-cut-field Inv-loop μ-loop Inv-walk μ-walk
+Cutting = tie.After-cut-field Inv-loop2 μ-loop2 Inv-loop μ-loop
 
 cut-is : (c : Cutting) → c .cut-field .result ≡ cutOf (wants-text (c .before .before .before)) (left (c .before .before .before))
 cut-is c =
     let h = c .before .before .before in
     c .cut-field .ensures
     ∙ ap (λ (t : Bool). cutOf t (take (end-of (line h) - at-of h) (drop (at-of h) (rec-of (line h))))) (c .before .before .is-text .ensures)
-    ∙ ap (λ (bs : Bytes). cutOf (wants-text h) bs) (part-slice (at-of h) (end-of (line h)) (rec-of (line h)) (h .loop .inv .0))
+    ∙ ap (λ (bs : Bytes). cutOf (wants-text h) bs) (part-slice (at-of h) (end-of (line h)) (rec-of (line h)) (h .loop2 .inv .0))
 
 abbrev Field : Type 0
-Field = tie.After-known-told Inv-loop μ-loop Inv-walk μ-walk
+Field = tie.After-known-told Inv-loop2 μ-loop2 Inv-loop μ-loop
 
 abbrev head : Field → Head
 head c = c .before .before .before .before .before .before
 
-abbrev asked : Field → tie.After-is-text Inv-loop μ-loop Inv-walk μ-walk
+abbrev asked : Field → tie.After-is-text Inv-loop2 μ-loop2 Inv-loop μ-loop
 asked c = c .before .before .before .before .before
 
 abbrev size : Field → ℕ
@@ -166,7 +193,7 @@ field-cut c = sym (c .before .n .given .1) ∙ cut-is (c .before .before .before
 
 inside : (c : Field) → at-of (head c) + size c ≤ end-of (line (head c))
 inside c =
-    field-within (rec-of (line (head c))) (here (head c)) (at-of (head c)) (end-of (line (head c))) (head c .loop .inv .0) (head c .loop .inv .1) (size c) (field-cut c)
+    field-within (rec-of (line (head c))) (here (head c)) (at-of (head c)) (end-of (line (head c))) (head c .loop2 .inv .0) (head c .loop2 .inv .1) (size c) (field-cut c)
 
 abbrev bytes : Field → Bytes
 bytes c = slice (at-of (head c)) (at-of (head c) + size c) (rec-of (line (head c)))
@@ -178,24 +205,24 @@ lent c = part-slice (at-of (head c)) (at-of (head c) + size c) (rec-of (line (he
 -- ---- the field is kept
 
 abbrev Noted : Type 0
-Noted = tie.Joined3 Inv-loop μ-loop Inv-walk μ-walk
+Noted = tie.Joined2 Inv-loop2 μ-loop2 Inv-loop μ-loop
 
 abbrev noted-field : Noted → Field
 noted-field c = c .before .before
 
-kept-is : (c : Noted) → c .if3 .kept ≡ keepRead (purpose (nextKind (here (head (noted-field c)) .wanted))) (here (head (noted-field c)) .kept) (at-of (head (noted-field c))) (bytes (noted-field c))
+kept-is : (c : Noted) → c .if2 .kept ≡ keepRead (purpose (nextKind (here (head (noted-field c)) .wanted))) (here (head (noted-field c)) .kept) (at-of (head (noted-field c))) (bytes (noted-field c))
 kept-is c =
     let g = noted-field c in
     let h = head g in
     ⊎-elim
     (λ t. t .3 ∙ t .2 .ensures ∙ ap (λ (bs : Bytes). keepRead (purpose (nextKind (here h .wanted))) (here h .kept) (at-of h) bs) (lent g))
     (λ t. t .1 ∙ kept-for-nothing (purpose (nextKind (here h .wanted))) (here h .kept) (at-of h) (bytes g) (sym (c .before .is-kept .ensures) ∙ t .0 .left))
-    (c .if3 .came)
+    (c .if2 .came)
 
 -- ---- the field is judged
 
 abbrev Judged : Type 0
-Judged = tie.After-take-field Inv-loop μ-loop Inv-walk μ-walk
+Judged = tie.After-take-field Inv-loop2 μ-loop2 Inv-loop μ-loop
 
 abbrev noted : Judged → Noted
 noted c = c .before .before
@@ -207,13 +234,13 @@ judged-is : (c : Judged) → judgedOf (c .take-field .result) ≡ takeNext (here
 judged-is c = c .take-field .ensures ∙ ap (λ (bs : Bytes). takeNext (here (head (field c)) .wanted) bs) (lent (field c))
 
 abbrev Good : Type 0
-Good = tie.After-known-told3 Inv-loop μ-loop Inv-walk μ-walk
+Good = tie.After-known-told3 Inv-loop2 μ-loop2 Inv-loop μ-loop
 
 abbrev good-field : Good → Field
 good-field c = field (c .before .before .before)
 
 abbrev then : Good → WalkK
-then c = point (wantedOf (c .before .next .given .0 .0)) (noted (c .before .before .before) .if3 .kept) (here (head (good-field c)) .lastSlash)
+then c = point (wantedOf (c .before .next .given .0 .0)) (noted (c .before .before .before) .if2 .kept) (here (head (good-field c)) .lastSlash)
 
 took : (c : Good) → takenK (at-of (head (good-field c))) (bytes (good-field c)) (here (head (good-field c))) ≡ fine (then c)
 unfolding judgedOf
@@ -225,26 +252,26 @@ took c =
 fits : (c : Good) → Fits (length (rec-of (line (head (good-field c))))) (entry (line (head (good-field c))) .args .before) (then c)
 fits c =
     let h = head (good-field c) in
-    taken-fits (length (rec-of (line h))) _ (at-of h) (bytes (good-field c)) (here h) (then c) (took c) (omega (arith, h .loop .inv .0, h .loop .inv .1)) (h .loop .inv .2)
+    taken-fits (length (rec-of (line h))) _ (at-of h) (bytes (good-field c)) (here h) (then c) (took c) (omega (arith, h .loop2 .inv .0, h .loop2 .inv .1)) (h .loop2 .inv .2)
 
 -- ---- the field is no text
 
 abbrev Plain : Type 0
-Plain = tie.Else4 Inv-loop μ-loop Inv-walk μ-walk
+Plain = tie.Else3 Inv-loop2 μ-loop2 Inv-loop μ-loop
 
 no-text : (c : Plain) → wants-text (head (good-field (c .before))) ≡ false
-no-text c = sym (asked (good-field (c .before)) .is-text .ensures) ∙ c .if4 .left
+no-text c = sym (asked (good-field (c .before)) .is-text .ensures) ∙ c .if3 .left
 
 short : (c : Plain) → at-of (head (good-field (c .before))) + size (good-field (c .before)) < end-of (line (head (good-field (c .before))))
 short c =
     let g = good-field (c .before) in
     field-short (rec-of (line (head g))) (here (head g)) (at-of (head g)) (end-of (line (head g)))
-    (head g .loop .inv .0) (head g .loop .inv .1) (size g) (field-cut g) (no-text c)
+    (head g .loop2 .inv .0) (head g .loop2 .inv .1) (size g) (field-cut g) (no-text c)
 
 -- ---- behind a slash, blanks
 
 abbrev Blanks : Type 0
-Blanks = tie.After-blanks-len Inv-loop μ-loop Inv-walk μ-walk
+Blanks = tie.After-blanks-len Inv-loop2 μ-loop2 Inv-loop μ-loop
 
 abbrev blank-field : Blanks → Field
 blank-field c = good-field (c .before .before .before .before .before)
@@ -269,67 +296,68 @@ blanks-in c =
       arith,
       c .blanks-len .ensures .1,
       ap length (part-slice (at-of h + size g + 1) (end-of (line h)) (rec-of (line h)) (omega arith)),
-      length-slice (at-of h + size g + 1) (end-of (line h)) (rec-of (line h)) (h .loop .inv .1),
+      length-slice (at-of h + size g + 1) (end-of (line h)) (rec-of (line h)) (h .loop2 .inv .1),
     )
 
-walk-holds : tie.Need-walk-holds Inv-loop μ-loop Inv-walk μ-walk
-walk-holds c = (zero-le, start-fits _ _ (first-of c) (c .none .ensures) refl, refl)
+loop-holds : tie.Need-loop-holds Inv-loop2 μ-loop2 Inv-loop μ-loop
+loop-holds c = (zero-le, start-fits _ _ (first-of c) (c .none .ensures) refl, refl, c .before .before .before .pre)
 
-add-a : tie.Need-add-a Inv-loop μ-loop Inv-walk μ-walk
-add-a c = omega (arith, c .before .if1 .left)
+add-a : tie.Need-add-a Inv-loop2 μ-loop2 Inv-loop μ-loop
+add-a c = omega (arith, c .before .loop-test .taken)
 
-add-at : tie.Need-add-at Inv-loop μ-loop Inv-walk μ-walk
+add-at : tie.Need-add-at Inv-loop2 μ-loop2 Inv-loop μ-loop
 add-at c = omega (arith, within c)
 
-loop-holds : tie.Need-loop-holds Inv-loop μ-loop Inv-walk μ-walk
-loop-holds c = (omega arith, ends (c .before), c .before .before .before .before .walk .inv .1, refl)
+loop2-holds : tie.Need-loop2-holds Inv-loop2 μ-loop2 Inv-loop μ-loop
+loop2-holds c = (omega arith, ends (c .before), c .before .before .before .before .loop .inv .1, refl)
 
-add-f : tie.Need-add-f Inv-loop μ-loop Inv-walk μ-walk
+add-f : tie.Need-add-f Inv-loop2 μ-loop2 Inv-loop μ-loop
 add-f c = omega (arith, inside c, ends (line (head c)))
 
-part-keep-end : tie.Need-part-keep-end Inv-loop μ-loop Inv-walk μ-walk
+part-keep-end : tie.Need-part-keep-end Inv-loop2 μ-loop2 Inv-loop μ-loop
 part-keep-end c = let g = c .before .before in omega (arith, inside g, ends (line (head g)))
 
-part-take-field-end : tie.Need-part-take-field-end Inv-loop μ-loop Inv-walk μ-walk
+part-take-field-end : tie.Need-part-take-field-end Inv-loop2 μ-loop2 Inv-loop μ-loop
 part-take-field-end c = let g = noted-field c in omega (arith, inside g, ends (line (head g)))
 
-walk-less : tie.Need-walk-less Inv-loop μ-loop Inv-walk μ-walk
-walk-less c = let l = line (head (good-field (c .before))) in omega (arith, behind l, within l)
+loop-less : tie.Need-loop-less Inv-loop2 μ-loop2 Inv-loop μ-loop
+loop-less c = let l = line (head (good-field (c .before))) in omega (arith, behind l, within l)
 
-walk-again : tie.Need-walk-again Inv-loop μ-loop Inv-walk μ-walk
-walk-again c =
+loop-again : tie.Need-loop-again Inv-loop2 μ-loop2 Inv-loop μ-loop
+loop-again c =
     let g = good-field (c .before) in
     let h = head g in (
       within (line h),
       fits (c .before),
-      go-on (line h) (then (c .before)) (h .loop .inv .3
+      go-on (line h) (then (c .before)) (h .loop2 .inv .3
           ∙ text-here (rec-of (line h)) (here h) (at-of h) (end-of (line h))
-          (h .loop .inv .0) (h .loop .inv .1) (size g) (field-cut g) (then (c .before))
-          (sym (asked (good-field (c .before)) .is-text .ensures) ∙ c .if4 .taken) (took (c .before))),
+          (h .loop2 .inv .0) (h .loop2 .inv .1) (size g) (field-cut g) (then (c .before))
+          (sym (asked (good-field (c .before)) .is-text .ensures) ∙ c .if3 .taken) (took (c .before))),
+      leads-on (line h),
     )
 
-add-a-2 : tie.Need-add-a-2 Inv-loop μ-loop Inv-walk μ-walk
+add-a-2 : tie.Need-add-a-2 Inv-loop2 μ-loop2 Inv-loop μ-loop
 add-a-2 c = omega (arith, short c, ends (line (head (good-field (c .before)))))
 
-shared-slice-read-if5 : tie.Need-shared-slice-read-if5 Inv-loop μ-loop Inv-walk μ-walk
-shared-slice-read-if5 c = omega (arith, short (c .before), ends (line (head (good-field (c .before .before)))))
+shared-slice-read-if4 : tie.Need-shared-slice-read-if4 Inv-loop2 μ-loop2 Inv-loop μ-loop
+shared-slice-read-if4 c = omega (arith, short (c .before), ends (line (head (good-field (c .before .before)))))
 
-sub-blanks-len : tie.Need-sub-blanks-len Inv-loop μ-loop Inv-walk μ-walk
+sub-blanks-len : tie.Need-sub-blanks-len Inv-loop2 μ-loop2 Inv-loop μ-loop
 sub-blanks-len c = omega (arith, short (c .before .before))
 
-part-blanks-len-start : tie.Need-part-blanks-len-start Inv-loop μ-loop Inv-walk μ-walk
+part-blanks-len-start : tie.Need-part-blanks-len-start Inv-loop2 μ-loop2 Inv-loop μ-loop
 part-blanks-len-start c = omega (arith, short (c .before .before))
 
-add-t : tie.Need-add-t Inv-loop μ-loop Inv-walk μ-walk
+add-t : tie.Need-add-t Inv-loop2 μ-loop2 Inv-loop μ-loop
 add-t c =
     let l = line (head (blank-field c)) in
     omega (arith, blanks-in c, ends l, entry l .good)
 
-walk-less-2 : tie.Need-walk-less-2 Inv-loop μ-loop Inv-walk μ-walk
-walk-less-2 c = let l = line (head (good-field (c .before .before .before .before .before .before))) in omega (arith, behind l, within l)
+loop-less-2 : tie.Need-loop-less-2 Inv-loop2 μ-loop2 Inv-loop μ-loop
+loop-less-2 c = let l = line (head (good-field (c .before .before .before .before .before .before))) in omega (arith, behind l, within l)
 
-walk-again-2 : tie.Need-walk-again-2 Inv-loop μ-loop Inv-walk μ-walk
-walk-again-2 c =
+loop-again-2 : tie.Need-loop-again-2 Inv-loop2 μ-loop2 Inv-loop μ-loop
+loop-again-2 c =
     let good = c .before .before .before .before .before .before in
     let plain = c .before .before .before .before .before in
     let g = good-field good in
@@ -337,102 +365,103 @@ walk-again-2 c =
     let b = blanks-from (c .before) in (
       within (line h),
       record { kept = fits good .kept; slash = omega (arith, short plain, ends (line h)) },
-      go-on (line h) _ (h .loop .inv .3
+      go-on (line h) _ (h .loop2 .inv .3
           ∙ blanks-here (rec-of (line h)) (here h) (at-of h) (end-of (line h))
-          (h .loop .inv .0) (h .loop .inv .1) (size g) (field-cut g)
-          (no-text plain) (then good) (took good) (c .before .before .before .if5 .taken) _ b (c .if6 .left) (blanks-in (c .before))),
+          (h .loop2 .inv .0) (h .loop2 .inv .1) (size g) (field-cut g)
+          (no-text plain) (then good) (took good) (c .before .before .before .if4 .taken) _ b (c .if5 .left) (blanks-in (c .before))),
+      leads-on (line h),
     )
 
-loop-less : tie.Need-loop-less Inv-loop μ-loop Inv-walk μ-walk
-loop-less c = omega (arith, short (c .before .before))
+loop2-less : tie.Need-loop2-less Inv-loop2 μ-loop2 Inv-loop μ-loop
+loop2-less c = omega (arith, short (c .before .before))
 
-loop-again : tie.Need-loop-again Inv-loop μ-loop Inv-walk μ-walk
-loop-again c =
+loop2-again : tie.Need-loop2-again Inv-loop2 μ-loop2 Inv-loop μ-loop
+loop2-again c =
     let good = c .before .before .before in
     let plain = c .before .before in
     let g = good-field good in
     let h = head g in (
       omega (arith, short plain),
-      h .loop .inv .1,
+      h .loop2 .inv .1,
       fits good,
-      h .loop .inv .3
+      h .loop2 .inv .3
           ∙ comma-here (rec-of (line h)) (here h) (at-of h) (end-of (line h))
-          (h .loop .inv .0) (h .loop .inv .1) (size g) (field-cut g)
-          (no-text plain) (then good) (took good) (c .if5 .left),
+          (h .loop2 .inv .0) (h .loop2 .inv .1) (size g) (field-cut g)
+          (no-text plain) (then good) (took good) (c .if4 .left),
     )
 
-returns : tie.Need-returns Inv-loop μ-loop Inv-walk μ-walk
-returns c =
+returns-5 : tie.Need-returns-5 Inv-loop2 μ-loop2 Inv-loop μ-loop
+returns-5 c =
     let w = c .before .before in
-    let s = w .before .before .before .args .rec .now in
-    let p = point (wantedOf (w .walk .want)) (w .walk .kept) (w .walk .slash .0) in
+    let s = w .before .before .before .before .args .rec .now in
+    let p = point (wantedOf (w .loop .want)) (w .loop .kept) (w .loop .slash .0) in
     record {
       answer = from-end _ _ (linesOf s) (first-of (w .before)) (first-is (w .before)) p _
-          (w .walk .inv .2 ∙ lines-end s p (w .walk .at) (c .before .if1 .taken)) (c .finish .ensures);
-      bounds = end-bounds _ _ (c .finish .result) p (c .finish .ensures) (w .walk .inv .1);
+          (w .loop .inv .2 ∙ lines-end s p (w .loop .at) (c .before .loop-test .left)) (c .finish .ensures);
+      bounds = end-bounds _ _ (c .finish .result) p (c .finish .ensures) (w .loop .inv .1);
     }
 
-returns-2 : tie.Need-returns-2 Inv-loop μ-loop Inv-walk μ-walk
-returns-2 c =
+returns : tie.Need-returns Inv-loop2 μ-loop2 Inv-loop μ-loop
+returns c =
     let l = c .before in
     record {
-      answer = stop l 7 (start-of l + 3) (short-here (rec-of l) (from-of l) (start-of l + 3) (end-of l) (c .if2 .taken));
+      answer = stop l 7 (start-of l + 3) (short-here (rec-of l) (from-of l) (start-of l + 3) (end-of l) (c .if1 .taken));
       bounds = omega (arith, some-byte l);
     }
 
-returns-3 : tie.Need-returns-3 Inv-loop μ-loop Inv-walk μ-walk
-returns-3 c =
+returns-2 : tie.Need-returns-2 Inv-loop2 μ-loop2 Inv-loop μ-loop
+returns-2 c =
     let h = c .before .before .before .before .before in
     record {
-      answer = stop (line h) 7 (end-of (line h)) (h .loop .inv .3 ∙ open-here (rec-of (line h)) (here h) (at-of h) (end-of (line h))
-          (h .loop .inv .0) (h .loop .inv .1) (sym (c .enum-told .given .1) ∙ cut-is (c .before .before)));
+      answer = stop (line h) 7 (end-of (line h)) (h .loop2 .inv .3 ∙ open-here (rec-of (line h)) (here h) (at-of h) (end-of (line h))
+          (h .loop2 .inv .0) (h .loop2 .inv .1) (sym (c .enum-told .given .1) ∙ cut-is (c .before .before)));
       bounds = omega (arith, ends (line h));
     }
 
-returns-4 : tie.Need-returns-4 Inv-loop μ-loop Inv-walk μ-walk
+returns-3 : tie.Need-returns-3 Inv-loop2 μ-loop2 Inv-loop μ-loop
 unfolding judgedOf
-returns-4 c =
+returns-3 c =
     let g = field (c .before .before .before) in
     let h = head g in
     record {
-      answer = stop (line h) _ (at-of h) (h .loop .inv .3
+      answer = stop (line h) _ (at-of h) (h .loop2 .inv .3
           ∙ wrong-here (rec-of (line h)) (here h) (at-of h) (end-of (line h))
-          (h .loop .inv .0) (h .loop .inv .1) (size g) (field-cut g) _
+          (h .loop2 .inv .0) (h .loop2 .inv .1) (size g) (field-cut g) _
           (took-bad (at-of h) (bytes g) (here h) _ (sym (judged-is (c .before .before .before)) ∙ ap judgedOf (c .before .k .given .1))));
-      bounds = omega (arith, ends (line h), h .loop .inv .0);
+      bounds = omega (arith, ends (line h), h .loop2 .inv .0);
     }
 
-returns-5 : tie.Need-returns-5 Inv-loop μ-loop Inv-walk μ-walk
-returns-5 c =
+returns-4 : tie.Need-returns-4 Inv-loop2 μ-loop2 Inv-loop μ-loop
+returns-4 c =
     let good = c .before .before .before .before .before .before in
     let plain = c .before .before .before .before .before in
     let g = good-field good in
     let h = head g in
     let b = blanks-from (c .before) in
     record {
-      answer = stop (line h) 7 _ (h .loop .inv .3
+      answer = stop (line h) 7 _ (h .loop2 .inv .3
           ∙ byte-here (rec-of (line h)) (here h) (at-of h) (end-of (line h))
-          (h .loop .inv .0) (h .loop .inv .1) (size g) (field-cut g)
-          (no-text plain) (then good) (took good) (c .before .before .before .if5 .taken) _ b (c .if6 .taken));
-      bounds = omega (arith, ends (line h), c .if6 .taken);
+          (h .loop2 .inv .0) (h .loop2 .inv .1) (size g) (field-cut g)
+          (no-text plain) (then good) (took good) (c .before .before .before .if4 .taken) _ b (c .if5 .taken));
+      bounds = omega (arith, ends (line h), c .if5 .taken);
     }
 
 pub walk-record-spec : {M : Type 1} → statement M
 walk-record-spec =
     tie.close
     (tie.spec
+    Inv-loop2
+    μ-loop2
     Inv-loop
     μ-loop
-    Inv-walk
-    μ-walk
     (λ c κs. search needs)
-    walk-holds
-    (λ c κs. search needs)
+    loop-holds
     (λ c κs. search needs)
     add-a
     (λ c κs. search needs)
     add-at
-    loop-holds
+    returns
+    loop2-holds
     (λ c κs. search needs)
     (λ c. search needs)
     (λ c. search needs)
@@ -440,6 +469,7 @@ walk-record-spec =
     (λ c κs. search needs)
     (λ c. search needs)
     (λ c. search needs)
+    returns-2
     add-f
     (λ c κs. search needs)
     (λ c. search needs)
@@ -451,22 +481,21 @@ walk-record-spec =
     part-take-field-end
     (λ c κs. search needs)
     (λ c. search needs)
+    returns-3
     (λ c. search needs)
-    walk-less
-    walk-again
+    loop-less
+    loop-again
     add-a-2
-    shared-slice-read-if5
+    shared-slice-read-if4
     sub-blanks-len
     part-blanks-len-start
     (λ c. search needs)
     (λ c κs. search needs)
     add-t
-    walk-less-2
-    walk-again-2
-    loop-less
-    loop-again
-    returns
-    returns-2
-    returns-3
     returns-4
+    loop-less-2
+    loop-again-2
+    loop2-less
+    loop2-again
+    (λ c κs. search needs)
     returns-5)

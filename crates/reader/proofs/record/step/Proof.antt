@@ -2,7 +2,7 @@
 use Prim.Native.Nat.{ℕ, _-_, _<_}
 use mathlib.Core.Path.{_≡_, ap, sym, _∙_}
 use mathlib.Core.Bool.{true}
-use mathlib.Core.List.{List}
+use mathlib.Core.List.{List, _++_}
 use native.Mathlib.Omega.{arith}
 use borrow.Author.Tests.{not-true, not-false}
 use lib.ListN.{length, take, drop, length-take}
@@ -15,12 +15,12 @@ use Rattle.rules.specs.Order.{among}
 use Rattle.rules.specs.Verdict.{step, inOrder}
 use Rattle.codes.specs.Meanings.{codeMeant}
 use Rattle.lines.specs.Cut.{firstRecord}
-use Rattle.lines.specs.OneRecord.{first-part}
+use Rattle.lines.specs.OneRecord.{first-part, record-first}
 use Rattle.lines.specs.Answers.{Whole}
 use Rattle.kept.specs.Keeping.{fresh, Within}
 use Rattle.wants.specs.Wants.{wantedOf}
 use Rattle.walk.specs.Working.{walkFrom}
-use Rattle.walk.specs.Answers.{walkedOf}
+use Rattle.walk.specs.Answers.{walkedOf, Leads}
 use Rattle.reader.specs.Expecting.{expectedMeant}
 use Rattle.reader.specs.Meanings.{stateMeant}
 use Rattle.reader.specs.Stepping.{settledK, stepK}
@@ -54,6 +54,17 @@ rec-lines c =
 
 rec-length : (c : tie.After-code) → length (take (c .code .given .0 .1 .1 .0 - 0) (drop 0 (c .before .before .before .before .args .rest .now))) ≡ c .code .given .0 .1 .1 .0
 rec-length c = length-take (c .code .given .0 .1 .1 .0 - 0) (c .before .before .before .before .args .rest .now) ∙ omega (arith, whole c .fits)
+
+leads : (c : tie.After-code) → Leads (take (c .code .given .0 .1 .1 .0 - 0) (drop 0 (c .before .before .before .before .args .rest .now))) (c .before .before .before .before .args .rest .now)
+leads c =
+    let rest = c .before .before .before .before .args .rest .now in
+    let size = c .code .given .0 .1 .1 .0 in
+    record-first rest size (whole c .extent) (some-byte c)
+    ∙ ap (λ (ls : Record). ls ++ linesOf (drop size rest)) (sym (rec-lines c))
+    ∙ ap (λ (n : ℕ). linesOf (take (size - 0) (drop 0 rest)) ++ linesOf (drop n rest)) (sym (rec-length c))
+
+walk-record-requires : tie.Need-walk-record-requires
+walk-record-requires c κs = leads (c .before .before .before .before .before .before .before .before)
 
 walked : (c : tie.After-walk-record)
     → walkFrom (fieldsOf (codeMeant (c .before .before .before .before .before .before .before .before .before .code .given .0 .0))) (fresh (magnitudes (stateMeant (c .before .before .before .before .before .before .before .before .before .before .before .before .before .args .st) .file .sum))) (firstRecord (linesOf (c .before .before .before .before .before .before .before .before .before .before .before .before .before .args .rest .now)))
@@ -154,7 +165,7 @@ step-spec =
     part-rec-end
     (λ c κs. search needs)
     (λ c. search needs)
-    (λ c κs. search needs)
+    walk-record-requires
     (λ c. search needs)
     returns-4
     (λ c. search needs)
