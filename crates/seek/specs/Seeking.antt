@@ -1,0 +1,55 @@
+-- The walk of rules' Records that stops at the first field of a kind. Assumes nothing.
+use Prim.Native.Nat.{ℕ, _+_}
+use mathlib.Core.Bool.{Bool, true, false, cond}
+use mathlib.Core.List.{List, [], _∷_}
+use Rattle.rules.specs.Bytes.{Bytes, trimmed}
+use Rattle.rules.specs.Lines.{Line, sizeOf, Record}
+use Rattle.rules.specs.Cells.{Mark, atComma, atSlash, atLineEnd, Cell, cellsOf}
+use Rattle.rules.specs.Grammar.{Kind, Judged, bad, good, takeNext, nextKind, sameKind, isText}
+
+-- in a line: the field, by its place and bytes; or what is wanted behind the line; or the line is not as it was wanted
+pub data Sighted : Type 0 where
+  seen : (place : ℕ) → Bytes → Sighted
+  onto : List Kind → Sighted
+  lost : Sighted
+
+-- behind a field that was judged so
+unfoldable pub onward : Judged → (List Kind → Sighted) → Sighted
+onward (bad n) f = lost
+onward (good next) f = f next
+
+-- a field with these bytes at p: it is the one sought, or the search goes on behind it
+unfoldable pub sight : Kind → List Kind → ℕ → Bytes → (List Kind → Sighted) → Sighted
+sight k ks p bs f = onward (takeNext ks bs) (λ next. cond (sameKind k (nextKind ks)) (seen p bs) (f next))
+
+-- the line ended before a comma or slash
+abbrev pub isOpen : Mark → Bool
+isOpen atComma = false
+isOpen (atSlash after) = false
+isOpen atLineEnd = true
+
+-- a line's cells, where these kinds are wanted
+unfoldable pub seekCells : Kind → List Kind → List Cell → Sighted
+seekCells k ks [] = onto ks
+seekCells k ks (c ∷ cs) =
+    cond (isText (nextKind ks)) (sight k ks (c .place) (trimmed (c .rest)) (λ next. onto next))
+    (cond (isOpen (c .mark)) lost (sight k ks (c .place) (c .bytes) (λ next. seekCells k next cs)))
+
+-- a field's place and bytes; 0 and none where there is no such field
+pub record Found : Type 0 where
+  pub place : ℕ
+  pub bytes : Bytes
+
+abbrev pub nothingFound : Found
+nothingFound = record { place = 0; bytes = [] }
+
+-- behind a line
+unfoldable pub orBehind : Sighted → (List Kind → Found) → Found
+orBehind (seen p bs) f = record { place = p; bytes = bs }
+orBehind (onto ks) f = f ks
+orBehind lost f = nothingFound
+
+-- a record's lines, the first of which starts at p
+unfoldable pub seekLines : Kind → ℕ → List Kind → Record → Found
+seekLines k p ks [] = nothingFound
+seekLines k p ks (l ∷ ls) = orBehind (seekCells k ks (cellsOf p l)) (λ next. seekLines k (p + sizeOf l) next ls)

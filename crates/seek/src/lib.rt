@@ -1,0 +1,118 @@
+// The first field of a kind in a record: where it stands, and its length.
+use fields::Cut;
+use wants::Taken;
+use wants::want;
+use wants::want::Want;
+ghost use mathlib.Core.Path.{_≡_};
+ghost use Rattle.rules.specs.Grammar.{sameKind, nextKind};
+ghost use Rattle.wants.specs.Wants.{wantedOf};
+ghost use Rattle.seek.specs.Meanings.{kindMeant, Sights, Spots};
+
+// The kinds of field that can be sought: a detail's type, its amount, and its first text piece.
+pub enum Sought {
+    Type,
+    Amount,
+    Text,
+}
+
+// Where a field starts, and its length; 0 and 0 where there is none.
+pub struct Spot {
+    pub start: usize,
+    pub length: usize,
+}
+
+// In a line: the field, by its start and length; or what is wanted behind the line; or the line is not as it was wanted.
+enum Seen {
+    At(usize, usize),
+    Next(Want),
+    Lost,
+}
+
+// The next field is the one sought.
+fn is_sought(want: Want, sought: Sought) -> bool
+    ensures { λ r. ⌜ r ≡ sameKind (kindMeant sought) (nextKind (wantedOf want)) ⌝ }
+{
+    match sought {
+        Sought::Type => match want {
+            Want::DetailType => true,
+            _ => false,
+        },
+        Sought::Amount => match want {
+            Want::ItemAmount => true,
+            Want::DetailAmount => true,
+            _ => false,
+        },
+        Sought::Text => match want {
+            Want::Text => true,
+            _ => false,
+        },
+    }
+}
+
+// The field sought among those of a line behind its code, where this is wanted first.
+fn seek_line(rest: &[u8], first: Want, sought: Sought) -> Seen
+    ensures { λ r. ⌜ Sights (now (rest .entry)) first sought r ⌝ }
+{
+    let mut want = first;
+    let mut a: usize = 0;
+    loop {
+        let text = want::is_text(want);
+        let Cut::Field(n) = fields::cut_field(text, &rest[a..]) else {
+            return Seen::Lost;
+        };
+        let f = a + n;
+        let Taken::Next(next) = fields::take_field(want, &rest[a..f]) else {
+            return Seen::Lost;
+        };
+        if is_sought(want, sought) {
+            return Seen::At(a, n);
+        }
+        if text {
+            return Seen::Next(next);
+        }
+        if rest[f] == b'/' {
+            return Seen::Next(next);
+        }
+        want = next;
+        a = f + 1;
+    }
+}
+
+// The field sought in a record, where this is wanted first.
+pub fn seek(rec: &[u8], first: Want, sought: Sought) -> Spot
+    ensures { λ r. ⌜ Spots (now (rec .entry)) first sought r ⌝ }
+{
+    let mut want = first;
+    let mut at: usize = 0;
+    while at < rec.len() {
+        let e = lines::body_end(rec, at);
+        let next = lines::next_line(rec, at);
+        let a = at + 3;
+        if e < a {
+            return Spot {
+                start: 0,
+                length: 0,
+            };
+        }
+        match seek_line(&rec[a..e], want, sought) {
+            Seen::At(i, n) => {
+                return Spot {
+                    start: a + i,
+                    length: n,
+                };
+            }
+            Seen::Next(w) => want = w,
+            Seen::Lost => {
+                return Spot {
+                    start: 0,
+                    length: 0,
+                };
+            }
+        }
+        at = next;
+    }
+    Spot {
+        start: 0,
+        length: 0,
+    }
+}
