@@ -254,7 +254,7 @@ static void small_stack(file *f)
 /* The head of a table: its title, and what stands in its columns. */
 static void put_table(const char *title, const char *columns)
 {
-    printf("\n%s\n\n%s\n|", title, columns);
+    printf("\n### %s\n\n%s\n|", title, columns);
     for (const char *bar = strchr(columns + 1, '|'); bar != NULL; bar = strchr(bar + 1, '|'))
         printf("---|");
     printf("\n");
