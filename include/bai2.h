@@ -1,7 +1,7 @@
 /* bai2.h: judge, cut, split, combine and write BAI2 (version 2) cash files.
 
-   Link libbai2.a; it needs the C library's memcpy and nothing else. docs/EMBED.md has programs and a
-   Makefile to begin with.
+   Link libbai2.a; of the C library it needs memcpy and its kin, no more. docs/EMBED.md has programs
+   and a Makefile to begin with.
 
    HOW TO CALL
    Every call takes byte slices, each a pointer and a length, and answers numbers. No call
