@@ -1,10 +1,13 @@
 -- One answer for each public call: two results that both meet its promise are equal, and so are the output slices. Each is `one-answer` of crate
 -- `laws`, with the way from the meaning back to the answer. Assumes nothing.
+use Prim.Native.Nat.{ℕ}
 use mathlib.Core.Path.{_≡_, refl, ap}
+use mathlib.Core.List.{_++_}
 use Rattle.rules.specs.Bytes.{Bytes}
-use Rattle.rules.specs.Outcome.{Outcome, refused, fine}
+use Rattle.rules.specs.Outcome.{Outcome, refused, fine, _>>=_}
 use Rattle.rules.specs.Totals as totals
 use Rattle.rules.specs.Verdict.{judge}
+use Rattle.rules.specs.Parts.{headerIn, groupsIn, sizeOfAll}
 use Rattle.rules.specs.Answers as rules
 use Rattle.rules.specs.Combine as combine
 use Rattle.rules.specs.Split.{split}
@@ -15,7 +18,10 @@ use Rattle.digits.specs.Kinds.{unitsOf}
 use Rattle.reader.specs.declared.Summary.{Summary}
 use Rattle.reader.specs.declared.Verdict.{Verdict}
 use Rattle.reader.specs.declared.Verdict.the-variants.{Accepted, Refused}
-use Rattle.reader.specs.Meanings.{verdictMeant}
+use Rattle.reader.specs.declared.Judged.{Judged}
+use Rattle.reader.specs.declared.Judged.the-variants as judged
+use Rattle.reader.specs.Meanings.{summaryMeant, verdictMeant}
+use Rattle.reader.specs.Answers.{JudgedIs}
 use Rattle.joining.specs.declared.Answer.{Answer}
 use Rattle.joining.specs.declared.combine.Combined.{Combined}
 use Rattle.joining.specs.Answers.{answerMeant, combinedMeant}
@@ -38,8 +44,11 @@ use Rattle.bai2.specs.Writing.{numbersOf, Reply, replied, replyTo}
 
 -- ---- reading
 
+abbrev fileSummaryOf : totals.Summary → Summary
+fileSummaryOf s = record { total = unitsOf (s .sum); groups = s .groups; accounts = s .accounts; details = s .details; records = record { 0 = s .lines } }
+
 abbrev verdictOf : Outcome totals.Summary → Verdict
-verdictOf (fine s) = Accepted (record { total = unitsOf (s .sum); groups = s .groups; accounts = s .accounts; details = s .details; records = record { 0 = s .lines } })
+verdictOf (fine s) = Accepted (fileSummaryOf s)
 verdictOf (refused n p) = Refused n (record { 0 = p })
 
 same-verdict : (v : Verdict) → verdictOf (verdictMeant v) ≡ v
@@ -49,6 +58,37 @@ same-verdict (Refused n p) = refl
 -- reader::read
 pub read-one : (file : Bytes) (v w : Verdict) → verdictMeant v ≡ judge file → verdictMeant w ≡ judge file → v ≡ w
 read-one file = one-answer verdictMeant verdictOf same-verdict (judge file)
+
+-- what is known of an accepted file: its summary, its longest line, and where its 99 starts
+record Known : Type 0 where
+  summary : totals.Summary
+  limit : ℕ
+  last : ℕ
+
+abbrev judgedMeant : Judged → Outcome Known
+judgedMeant (judged.Accepted g) = fine (record { summary = summaryMeant (g .summary); limit = g .limit; last = g .last })
+judgedMeant (judged.Refused n p) = refused n (p .0)
+
+abbrev judgedOf : Outcome Known → Judged
+judgedOf (fine k) = judged.Accepted (record { summary = fileSummaryOf (k .summary); limit = k .limit; last = k .last })
+judgedOf (refused n p) = judged.Refused n (record { 0 = p })
+
+same-judged : (v : Judged) → judgedOf (judgedMeant v) ≡ v
+same-judged (judged.Accepted g) = refl
+same-judged (judged.Refused n p) = refl
+
+abbrev known : Bytes → Outcome Known
+known file =
+    judge file
+    >>= λ s. fine (record { summary = s; limit = combine.limitOf (headerIn file); last = sizeOfAll (headerIn file ++ combine.joined (groupsIn file)) })
+
+judged-says : (file : Bytes) (v : Judged) → JudgedIs v file → judgedMeant v ≡ known file
+judged-says file (judged.Accepted g) good = rw (good .accepts, good .limit, good .last)
+judged-says file (judged.Refused n p) e = rw e
+
+-- reader::judge_file
+pub judged-one : (file : Bytes) (v w : Judged) → JudgedIs v file → JudgedIs w file → v ≡ w
+judged-one file v w x y = one-answer judgedMeant judgedOf same-judged (known file) v w (judged-says file v x) (judged-says file w y)
 
 -- bai2_read
 pub c-read-one : (file : Bytes) (r s : ReadAnswer) → readMeant r ≡ rules.read file → readMeant s ≡ rules.read file → r ≡ s
@@ -94,6 +134,10 @@ c-combine-one a b before =
     (λ x. refl) (combine.combine a b before)
 
 -- ---- parts
+
+-- parts::group, account, detail_text: the part's bytes are promised themselves
+pub slice-one : (promised x y : Bytes) → x ≡ promised → y ≡ promised → x ≡ y
+slice-one = one-answer (λ (x : Bytes). x) (λ (x : Bytes). x) (λ x. refl)
 
 -- parts::find_group, find_account
 pub part-one : (promised : rules.PartAnswer) (x y : Part) → parts.partMeant x ≡ promised → parts.partMeant y ≡ promised → x ≡ y
