@@ -109,12 +109,12 @@ fn combine_fitting(
 {
     let s = first.summary;
     let t = second.summary;
-    let x = first.last;
-    let y = second.last;
-    let records = records_left(s.records, t.records, &a[x..], &b[0..header], &b[y..]);
+    let a99 = first.last;
+    let b99 = second.last;
+    let records = records_left(s.records, t.records, &a[a99..], &b[0..header], &b[b99..]);
     let last = fresh::fresh_trailer(total, s.groups + t.groups, records.add(Records(1)));
     let size = last.length;
-    let length = x + (y - header) + size;
+    let length = a99 + (b99 - header) + size;
     if MOST_BYTES < length {
         return refused(18, Place(0), 0);
     }
@@ -125,7 +125,7 @@ fn combine_fitting(
     Combined {
         number: 0,
         place: Place(0),
-        length: put_three(&a[0..x], &b[header..y], &bytes[0..size], out),
+        length: put_three(&a[0..a99], &b[header..b99], &bytes[0..size], out),
         file: 0,
     }
 }
@@ -148,8 +148,8 @@ fn combine_accepted(
         UnitsSum::Beyond => refused(10, Place(0), 0),
         UnitsSum::Within(total) => {
             let header = lines::record_end(b, 0);
-            let y = second.last;
-            if !within(&b[header..y], second.limit, first.limit) {
+            let b99 = second.last;
+            if !within(&b[header..b99], second.limit, first.limit) {
                 return refused(18, Place(0), 0);
             }
             combine_fitting(a, b, first, second, header, total, out)
