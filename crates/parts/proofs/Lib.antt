@@ -2,3 +2,4 @@
 pub mod Turns
 pub mod Moving
 pub mod Standing
+pub mod Answering

@@ -45,6 +45,11 @@ pub in-refuses : (p : ℕ) (x : Pieces) (i n q : ℕ) → pieceIn p x i ≡ refu
 unfolding pieceIn
 in-refuses p x i n q h = from-refuses (p + sizeOfAll (x .waiting)) (x .cut) i n q h
 
+pub bind-refuses : {A : Type 0} (o : Outcome A) (f : A → Outcome Piece) → ((n p : ℕ) → o ≡ refused n p → 0 < n) → ((x : A) (n p : ℕ) → f x ≡ refused n p → 0 < n)
+    → (n p : ℕ) → (o >>= f) ≡ refused n p → 0 < n
+bind-refuses (refused m q) f h g n p e = let z : m ≡ n = cc in omega (arith, h m q refl)
+bind-refuses (fine x) f h g n p e = g x n p e
+
 -- ---- the answer within
 
 -- the outer part was refused

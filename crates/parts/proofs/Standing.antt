@@ -1,29 +1,34 @@
--- An accepted file, its groups and its accounts are envelopes, and slices of the file that read as themselves. Assumes nothing.
-use Prim.Native.Nat.{ℕ, _<_}
-use native.Mathlib.Omega.{arith}
+-- An accepted file, its groups and its accounts are envelopes, and slices of the file that read as themselves; its details are 16s that were read. Assumes nothing.
+use Prim.Native.Nat.{ℕ, _+_, _<_}
 use mathlib.Core.Path.{_≡_, refl, sym, ap, subst, _∙_}
-use mathlib.Core.List.{List, [], _∷_, _++_}
+use mathlib.Core.List.{List, [], _∷_, _++_, append-nil}
+use lib.Dec.{T}
+use lib.ListN.{length, take, drop}
 use Rattle.rules.specs.Bytes.{Bytes, sameBytes}
-use Rattle.rules.specs.Outcome.{Outcome, refused, fine, _>>=_}
-use Rattle.rules.specs.Lines.{Code, groupHeader, accountHeader, detail, accountTrailer, groupTrailer, fileTrailer, Record, fileRecords}
+use Rattle.rules.specs.Outcome.{refused, fine, moved}
+use Rattle.rules.specs.Lines.{Code, groupHeader, accountHeader, detail, accountTrailer, groupTrailer, fileTrailer, linesOf, Record, recordSize, recordBytes, fileRecords}
 use Rattle.rules.specs.Order.{among}
+use Rattle.rules.specs.Records.{Field, walkRecord}
 use Rattle.rules.specs.Totals.{Summary}
-use Rattle.rules.specs.Verdict.{judge}
-use Rattle.rules.specs.Parts.{pieces, Piece, groupPieces, accountPieces, detailPieces, pieceIn, groupsIn, groupAt, accountAt, partBytes}
+use Rattle.rules.specs.Verdict.{State, start, step, run, judge}
+use Rattle.rules.specs.Parts.{heads, pieces, Piece, groupPieces, accountPieces, detailPieces, pieceIn, groupsIn, groupAt, accountAt, detailPieceAt, partBytes}
 use Rattle.rules.specs.Combine.{joined}
 use Rattle.rules.specs.Answers.{PartAnswer, partAnswer, groupPart}
-use Rattle.rules.proofs.Binds.{refused-fine, from-bind}
-use Rattle.laws.specs.Words.{All, accountsIn, detailsIn, Enclosed, IsAccount, IsGroup}
-use Rattle.laws.proofs.Codes.{Begins}
+use Rattle.rules.proofs.Accepted.{stepped, accepted}
+use Rattle.rules.proofs.Binds.{from-bind, moved-fine}
+use Rattle.laws.specs.Words.{All, accountsIn, detailsIn, Enclosed, IsDetail, IsAccount, IsGroup}
+use Rattle.laws.proofs.Lists.{all-left, all-right}
+use Rattle.laws.proofs.Codes.{Begins, one-code, order-fine}
 use Rattle.laws.proofs.Kept.{Kept, IsRecord, kept-left, kept-right, kept-alone}
 use Rattle.laws.proofs.Pieces.{accountCodes, groupCodes}
 use Rattle.laws.proofs.Envelopes.{details-begin, accounts-begin, groups-begin, group-cut, account-cut}
 use Rattle.laws.proofs.Shape.{is-file, file-cut}
-use Rattle.laws.proofs.Groups.{GoodGroup, decomposed, good-kept}
-use Rattle.laws.proofs.Slices.{piece-has, group-part, account-part}
-use Rattle.laws.proofs.FileTheorems.{group-is-slice, account-is-slice, reader-numbers}
+use Rattle.laws.proofs.Groups.{decomposed, good-kept}
+use Rattle.laws.proofs.Slices.{piece-has, group-part, account-part, detail-part}
+use Rattle.laws.proofs.FileTheorems.{group-is-slice, account-is-slice, detail-is-slice, reader-numbers}
+use Rattle.groups.proofs.Records.{lines-are}
 use Rattle.parts.specs.Enclosing.{Apart, Envelope, Stands, Outer}
-use Rattle.parts.proofs.Moving.{in-refuses}
+use Rattle.parts.proofs.Moving.{in-refuses, bind-refuses}
 
 -- ---- envelopes
 
@@ -41,14 +46,46 @@ enveloped h c d others ps rs a e b i cut =
       cut = cut;
     }
 
--- records of an envelope that stay themselves: so do those between its ends, and each part
+-- ---- records of an accepted file
+
+-- a record that was read: its code and its fields
+pub record Read (r : Record) : Type 0 where
+  pub code : Code
+  pub is-code : T (heads code r)
+  pub fields : List Field
+  pub walked : walkRecord code r ≡ fine fields
+
+run-read : (p : ℕ) (s u : State) (rs : List Record) → run p s rs ≡ fine u → All Read rs
+unfolding run
+run-read p s u [] h = tt
+run-read p s u (r ∷ rs) h =
+    from-bind (moved p (step s r)) _ u h (λ t first rest.
+    let x = stepped s r t (moved-fine p (step s r) t first) in (
+      record { code = x .code; is-code = order-fine (s .expected) r (x .code) (x .in-order) .0; fields = x .fields; walked = x .walked },
+      run-read (p + recordSize r) t u rs rest,
+    ))
+
+-- records that stay themselves and were read; so do those between an envelope's ends, and each part
+pub record Sound (rs : List Record) : Type 0 where
+  pub kept : Kept rs
+  pub read : All Read rs
+
+parts-sound : (ps : List (List Record)) → Kept (joined ps) → All Read (joined ps) → All Sound ps
+unfolding joined
+parts-sound [] k a = tt
+parts-sound (p ∷ ps) k a = (
+  record { kept = kept-left p (joined ps) k; read = all-left Read p (joined ps) a },
+  parts-sound ps (kept-right p (joined ps) k) (all-right Read p (joined ps) a),
+)
+
+inner-read : {h d : Code} (ps : List (List Record)) (rs : List Record) → Enclosed h d ps rs → All Read rs → All Read (joined ps)
+inner-read ps rs e a = all-left Read (joined ps) (e .trailer ∷ []) (all-right Read (e .header ∷ []) (joined ps ++ (e .trailer ∷ [])) (subst (All Read) (e .whole) a))
+
 inner-kept : {h d : Code} (ps : List (List Record)) (rs : List Record) → Enclosed h d ps rs → Kept rs → Kept (joined ps)
 inner-kept ps rs e k = kept-left (joined ps) (e .trailer ∷ []) (kept-right (e .header ∷ []) (joined ps ++ (e .trailer ∷ [])) (subst Kept (e .whole) k))
 
-parts-kept : (ps : List (List Record)) → Kept (joined ps) → All Kept ps
-unfolding joined
-parts-kept [] k = tt
-parts-kept (p ∷ ps) k = (kept-left p (joined ps) k, parts-kept ps (kept-right p (joined ps) k))
+inner-sound : {h d : Code} (ps : List (List Record)) (rs : List Record) → Enclosed h d ps rs → Sound rs → All Sound ps
+inner-sound ps rs e s = parts-sound ps (inner-kept ps rs e (s .kept)) (inner-read ps rs e (s .read))
 
 -- ---- the file
 
@@ -72,10 +109,15 @@ group-accepted file s g r h e = e ∙ rw h
 
 -- ---- a group
 
-group-kept : (file : Bytes) (g : ℕ) (x : Piece) → groupAt file g ≡ fine x → Kept (x .records)
+groups-sound : (file : Bytes) (s : Summary) → judge file ≡ fine s → All Sound (groupsIn file)
+groups-sound file s h =
+    let gs = groupsIn file in
+    let a = accepted file s h in
+    parts-sound gs (good-kept gs (decomposed file s h .groups)) (inner-read gs (fileRecords file) (is-file file s h .enclosed) (run-read 0 start (a .last) (fileRecords file) (a .runs)))
+
+group-sound : (file : Bytes) (g : ℕ) (x : Piece) → groupAt file g ≡ fine x → Sound (x .records)
 unfolding groupAt pieceIn groupsIn
-group-kept file g x h =
-    from-bind (judge file) _ x h (λ s accepts rest. piece-has GoodGroup _ (groupsIn file) g x (decomposed file s accepts .groups) rest .kept)
+group-sound file g x h = from-bind (judge file) _ x h (λ s accepts rest. piece-has Sound _ (groupsIn file) g x (groups-sound file s accepts) rest)
 
 group-envelope : (rs : List Record) → IsGroup rs → Kept rs → Envelope accountHeader groupTrailer rs
 unfolding accountPieces among sameBytes
@@ -85,28 +127,25 @@ group-envelope rs i k =
 
 group-refuses : (file : Bytes) (g n p : ℕ) → groupAt file g ≡ refused n p → 0 < n
 unfolding groupAt
-group-refuses file g n p h = by-verdict (judge file) refl h
-  where
-    by-verdict : (o : Outcome Summary) → judge file ≡ o → (o >>= λ _. pieceIn 0 (groupPieces (fileRecords file)) g) ≡ refused n p → 0 < n
-    by-verdict (refused m q) e k = let z : m ≡ n = cc in omega (arith, reader-numbers file m q e .0)
-    by-verdict (fine s) e k = in-refuses 0 (groupPieces (fileRecords file)) g n p k
+group-refuses file g n p h =
+    bind-refuses (judge file) _ (λ m q e. reader-numbers file m q e .0) (λ s m q e. in-refuses 0 (groupPieces (fileRecords file)) g m q e) n p h
 
 pub outer-group : (file : Bytes) (g : ℕ) → Outer accountHeader groupTrailer file (groupAt file g)
 outer-group file g =
     record {
       stands = λ x h.
-          record { slice = group-is-slice file g x h; alone = kept-alone (x .records) (group-kept file g x h); envelope = group-envelope (x .records) (group-part file g x h .is-part) (group-kept file g x h) };
+          record { slice = group-is-slice file g x h; alone = kept-alone (x .records) (group-sound file g x h .kept); envelope = group-envelope (x .records) (group-part file g x h .is-part) (group-sound file g x h .kept) };
       refuses = group-refuses file g;
     }
 
 -- ---- an account
 
-account-kept : (file : Bytes) (g a : ℕ) (x : Piece) → accountAt file g a ≡ fine x → Kept (x .records)
+account-sound : (file : Bytes) (g a : ℕ) (x : Piece) → accountAt file g a ≡ fine x → Sound (x .records)
 unfolding accountAt pieceIn accountsIn
-account-kept file g a x h =
+account-sound file g a x h =
     from-bind (groupAt file g) _ x h (λ group first rest.
     let rs = group .records in
-    piece-has Kept _ (accountsIn rs) a x (parts-kept (accountsIn rs) (inner-kept (accountsIn rs) rs (group-part file g group first .is-part .enclosed) (group-kept file g group first))) rest)
+    piece-has Sound _ (accountsIn rs) a x (inner-sound (accountsIn rs) rs (group-part file g group first .is-part .enclosed) (group-sound file g group first)) rest)
 
 account-envelope : (rs : List Record) → IsAccount rs → Kept rs → Envelope detail accountTrailer rs
 unfolding detailPieces among sameBytes
@@ -116,16 +155,53 @@ account-envelope rs i k =
 
 account-refuses : (file : Bytes) (g a n p : ℕ) → accountAt file g a ≡ refused n p → 0 < n
 unfolding accountAt
-account-refuses file g a n p h = by-group (groupAt file g) refl h
-  where
-    by-group : (o : Outcome Piece) → groupAt file g ≡ o → (o >>= λ group. pieceIn (group .place) (accountPieces (group .records)) a) ≡ refused n p → 0 < n
-    by-group (refused m q) e k = let z : m ≡ n = cc in omega (arith, group-refuses file g m q e)
-    by-group (fine x) e k = in-refuses (x .place) (accountPieces (x .records)) a n p k
+account-refuses file g a n p h =
+    bind-refuses (groupAt file g) _ (group-refuses file g) (λ x m q e. in-refuses (x .place) (accountPieces (x .records)) a m q e) n p h
 
 pub outer-account : (file : Bytes) (g a : ℕ) → Outer detail accountTrailer file (accountAt file g a)
 outer-account file g a =
     record {
       stands = λ x h.
-          record { slice = account-is-slice file g a x h; alone = kept-alone (x .records) (account-kept file g a x h); envelope = account-envelope (x .records) (account-part file g a x h .is-part) (account-kept file g a x h) };
+          record { slice = account-is-slice file g a x h; alone = kept-alone (x .records) (account-sound file g a x h .kept); envelope = account-envelope (x .records) (account-part file g a x h .is-part) (account-sound file g a x h .kept) };
       refuses = account-refuses file g a;
     }
+
+-- ---- a detail
+
+detail-sound : (file : Bytes) (g a d : ℕ) (x : Piece) → detailPieceAt file g a d ≡ fine x → Sound (x .records)
+unfolding detailPieceAt pieceIn detailsIn
+detail-sound file g a d x h =
+    from-bind (accountAt file g a) _ x h (λ account first rest.
+    let rs = account .records in
+    piece-has Sound _ (detailsIn rs) d x (inner-sound (detailsIn rs) rs (account-part file g a account first .is-part .enclosed) (account-sound file g a account first)) rest)
+
+pub detail-refuses : (file : Bytes) (g a d n p : ℕ) → detailPieceAt file g a d ≡ refused n p → 0 < n
+unfolding detailPieceAt
+detail-refuses file g a d n p h =
+    bind-refuses (accountAt file g a) _ (account-refuses file g a) (λ x m q e. in-refuses (x .place) (detailPieces (x .records)) d m q e) n p h
+
+-- one record, read as a 16, in a slice of the file that has its lines
+pub record DetailStands (file : Bytes) (x : Piece) : Type 0 where
+  pub record-of : Record
+  pub one : x .records ≡ record-of ∷ []
+  pub fields : List Field
+  pub walked : walkRecord detail record-of ≡ fine fields
+  pub lines : linesOf (take (length (recordBytes (x .records))) (drop (x .place) file)) ≡ record-of
+
+one-detail : (file : Bytes) (x : Piece) (rs : List Record) → x .records ≡ rs → IsDetail rs → Sound rs
+    → take (length (recordBytes (x .records))) (drop (x .place) file) ≡ recordBytes rs → DetailStands file x
+unfolding joined
+one-detail file x [] e i s slice = absurd i
+one-detail file x (r ∷ q ∷ rs) e i s slice = absurd i
+one-detail file x (r ∷ []) e i s slice =
+    let read = s .read .0 in
+    record {
+      record-of = r;
+      one = e;
+      fields = read .fields;
+      walked = ap (λ (c : Code). walkRecord c r) (one-code detail (read .code) r i (read .is-code)) ∙ read .walked;
+      lines = ap linesOf slice ∙ lines-are (recordBytes (r ∷ [])) (r ∷ []) (kept-alone (r ∷ []) (s .kept)) ∙ append-nil r;
+    }
+
+pub detail-stands : (file : Bytes) (g a d : ℕ) (x : Piece) → detailPieceAt file g a d ≡ fine x → DetailStands file x
+detail-stands file g a d x h = one-detail file x (x .records) refl (detail-part file g a d x h .is-part) (detail-sound file g a d x h) (detail-is-slice file g a d x h)

@@ -1,3 +1,4 @@
--- What the answers of src/ say, and the envelopes that parts are found in.
+-- What the answers of src/ say, the envelopes that parts are found in, and a detail's text.
 pub mod Meanings
 pub mod Enclosing
+pub mod Texts

@@ -2,3 +2,4 @@
 pub mod Asking
 pub mod Sighting
 pub mod Agreeing
+pub mod Reading

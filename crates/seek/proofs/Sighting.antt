@@ -24,6 +24,13 @@ use Rattle.walk.proofs.Parts.{take-drop, part-slice, part-front}
 use Rattle.walk.proofs.FirstCell.{first-open, first-comma, first-slash, comma-there, Starts, starts, cells-start}
 use Rattle.seek.specs.Seeking.{Sighted, seen, onto, lost, onward, sight, seekCells, Found, nothingFound, orBehind, seekLines}
 
+-- ---- a part of a part
+
+pub part-of-part : (s : Bytes) (a e i m : ℕ) → a ≤ e → i + m ≤ e - a → take m (drop i (take (e - a) (drop a s))) ≡ take m (drop (a + i) s)
+part-of-part s a e i m fits w =
+    let part : drop i (take (e - a) (drop a s)) ≡ slice (a + i) e s = ap (λ (xs : Bytes). drop i xs) (part-slice a e s fits) ∙ drop-drop i a (take e s) in
+    ap (λ (xs : Bytes). take m xs) part ∙ part-front s (a + i) e m (omega arith) ∙ sym (take-drop (a + i) m s)
+
 -- ---- what is left of a line, xs at p
 
 module _ (k : Kind) (ks : List Kind) (p : ℕ) (xs : Bytes) where
@@ -146,11 +153,7 @@ module _ (s : Bytes) (at e n : ℕ) (h : at < length s) (he : e ≡ at + bodyLen
         → seekLines k at ks (linesOf (drop at s)) ≡ record { place = at + 3 + i; bytes = take m (drop (at + 3 + i) s) }
     unfolding orBehind
     line-seen i m q w =
-        let a = at + 3 in
-        let part : drop i (take (e - a) (drop a s)) ≡ slice (a + i) e s = ap (λ (xs : Bytes). drop i xs) (part-slice a e s fits) ∙ drop-drop i a (take e s) in
-        let bytes : take m (drop i (take (e - a) (drop a s))) ≡ take m (drop (a + i) s) =
-        ap (λ (xs : Bytes). take m xs) part ∙ part-front s (a + i) e m (omega arith) ∙ sym (take-drop (a + i) m s) in
-        line-saw ∙ rw (q, bytes)
+        line-saw ∙ rw (q, part-of-part s (at + 3) e i m fits w)
 
 -- the record is over
 pub lines-over : (s : Bytes) (k : Kind) (ks : List Kind) (at : ℕ) → length s ≤ at → seekLines k at ks (linesOf (drop at s)) ≡ nothingFound

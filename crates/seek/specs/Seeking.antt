@@ -3,9 +3,9 @@ use Prim.Native.Nat.{ℕ, _+_}
 use mathlib.Core.Bool.{Bool, true, false, cond}
 use mathlib.Core.List.{List, [], _∷_}
 use Rattle.rules.specs.Bytes.{Bytes, trimmed}
-use Rattle.rules.specs.Lines.{Line, sizeOf, Record}
+use Rattle.rules.specs.Lines.{Line, sizeOf, linesOf, detail, Record}
 use Rattle.rules.specs.Cells.{Mark, atComma, atSlash, atLineEnd, Cell, cellsOf}
-use Rattle.rules.specs.Grammar.{Kind, Judged, bad, good, takeNext, nextKind, sameKind, isText}
+use Rattle.rules.specs.Grammar.{Kind, Judged, bad, good, takeNext, nextKind, sameKind, isText, fieldsOf}
 
 -- in a line: the field, by its place and bytes; or what is wanted behind the line; or the line is not as it was wanted
 pub data Sighted : Type 0 where
@@ -53,3 +53,7 @@ orBehind lost f = nothingFound
 unfoldable pub seekLines : Kind → ℕ → List Kind → Record → Found
 seekLines k p ks [] = nothingFound
 seekLines k p ks (l ∷ ls) = orBehind (seekCells k ks (cellsOf p l)) (λ next. seekLines k (p + sizeOf l) next ls)
+
+-- in the bytes of a detail's record
+unfoldable pub inDetail : Kind → Bytes → Found
+inDetail k rec = seekLines k 0 (fieldsOf detail) (linesOf rec)

@@ -1,11 +1,16 @@
-// The first field of a kind in a record: where it stands, and its length.
+// The first field of a kind in a record: where it stands, and its length; and what a detail's type and amount say.
+use codes::Code;
 use fields::Cut;
 use wants::Taken;
 use wants::want;
 use wants::want::Want;
 ghost use mathlib.Core.Path.{_≡_};
-ghost use Rattle.rules.specs.Grammar.{sameKind, nextKind};
+ghost use mathlib.Core.Bool.{not};
+ghost use Rattle.rules.specs.Bytes.{isEmpty};
+ghost use Rattle.rules.specs.Numbers.{number, withoutSign};
+ghost use Rattle.rules.specs.Grammar.{detailType, amount, sameKind, nextKind};
 ghost use Rattle.wants.specs.Wants.{wantedOf};
+ghost use Rattle.seek.specs.Seeking.{inDetail};
 ghost use Rattle.seek.specs.Meanings.{kindMeant, Sights, Spots};
 
 // The kinds of field that can be sought: a detail's type, its amount, and its first text piece.
@@ -19,6 +24,12 @@ pub enum Sought {
 pub struct Spot {
     pub start: usize,
     pub length: usize,
+}
+
+// A detail's amount: whether one is given, and which; 0 where none is.
+pub struct Given {
+    pub given: bool,
+    pub amount: u64,
 }
 
 // In a line: the field, by its start and length; or what is wanted behind the line; or the line is not as it was wanted.
@@ -114,5 +125,29 @@ pub fn seek(rec: &[u8], first: Want, sought: Sought) -> Spot
     Spot {
         start: 0,
         length: 0,
+    }
+}
+
+// The number that a detail's type stands for.
+pub fn type_of(rec: &[u8]) -> u64
+    ensures { λ r. ⌜ r ≡ number (inDetail detailType (now (rec .entry)) .bytes) ⌝ }
+{
+    let spot = seek(rec, want::first_want(Code::Detail), Sought::Type);
+    let from = spot.start;
+    let to = from + spot.length;
+    digits::value(&rec[from..to])
+}
+
+// A detail's amount.
+pub fn amount_of(rec: &[u8]) -> Given
+    ensures { λ r. ⌜ (r .given ≡ not (isEmpty (inDetail amount (now (rec .entry)) .bytes))) × (r .amount ≡ number (withoutSign (inDetail amount (now (rec .entry)) .bytes))) ⌝ }
+{
+    let spot = seek(rec, want::first_want(Code::Detail), Sought::Amount);
+    let from = spot.start;
+    let to = from + spot.length;
+    let f = &rec[from..to];
+    Given {
+        given: !values::is_empty(f),
+        amount: digits::value(digits::behind_sign(f)),
     }
 }
