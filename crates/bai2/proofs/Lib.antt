@@ -1,6 +1,7 @@
 -- Laws that belong to no one call.
 pub mod Signs
 pub mod Reading
+pub mod Details
 pub mod Magnitudes
 pub mod Replies
 pub mod WriterStates

@@ -1,8 +1,10 @@
 -- One answer for each public call: two results that both meet its promise are equal, and so are the output slices. Each is `one-answer` of crate
 -- `laws`, with the way from the meaning back to the answer. Assumes nothing.
 use Prim.Native.Nat.{ℕ}
-use mathlib.Core.Path.{_≡_, refl, ap}
+use mathlib.Core.Path.{_≡_, refl, sym, ap, ap₂, _∙_}
+use mathlib.Core.Bool.{Bool, true, false}
 use mathlib.Core.List.{_++_}
+use lib.Dec.{eqb}
 use Rattle.rules.specs.Bytes.{Bytes}
 use Rattle.rules.specs.Outcome.{Outcome, refused, fine, _>>=_}
 use Rattle.rules.specs.Totals as totals
@@ -26,6 +28,8 @@ use Rattle.joining.specs.declared.Answer.{Answer}
 use Rattle.joining.specs.declared.combine.Combined.{Combined}
 use Rattle.joining.specs.Answers.{answerMeant, combinedMeant}
 use Rattle.parts.specs.declared.Part.{Part}
+use Rattle.parts.specs.declared.Refusal.{Refusal}
+use Rattle.parts.specs.declared.DetailAnswer.{DetailAnswer}
 use Rattle.parts.specs.Meanings as parts
 use Rattle.writer.specs.declared.state.Summary as written-summary
 use Rattle.writer.specs.declared.state.Phase.{Phase}
@@ -37,9 +41,10 @@ use Rattle.bai2.specs.declared.ReadAnswer.{ReadAnswer}
 use Rattle.bai2.specs.declared.SplitAnswer.{SplitAnswer}
 use Rattle.bai2.specs.declared.CombineAnswer.{CombineAnswer}
 use Rattle.bai2.specs.declared.cutting.PartAnswer.{PartAnswer}
+use Rattle.bai2.specs.declared.cutting.DetailFigures.{DetailFigures}
 use Rattle.bai2.specs.declared.writing.WriterState.{WriterState}
 use Rattle.bai2.specs.declared.writing.WriteAnswer.{WriteAnswer}
-use Rattle.bai2.specs.Answers.{readMeant, splitMeant, combineMeant, partMeant}
+use Rattle.bai2.specs.Answers.{readMeant, splitMeant, combineMeant, partMeant, detailMeant}
 use Rattle.bai2.specs.Writing.{numbersOf, Reply, replied, replyTo}
 
 -- ---- reading
@@ -149,6 +154,69 @@ part-one =
 pub c-part-one : (promised : rules.PartAnswer) (x y : PartAnswer) → partMeant x ≡ promised → partMeant y ≡ promised → x ≡ y
 c-part-one =
     one-answer partMeant (λ (m : rules.PartAnswer). record { number = m .number; place = m .place; start = m .start; length = m .len })
+    (λ x. refl)
+
+-- parts::group_refusal, account_refusal
+pub refusal-one : (number place : ℕ) (x y : Refusal) → (x .number ≡ number) × (x .place .0 ≡ place) → (y .number ≡ number) × (y .place .0 ≡ place) → x ≡ y
+refusal-one number place x y (n, p) (m, q) = ap₂ (λ (a b : ℕ). record { number = a; place = record { 0 = b } }) (n ∙ sym m) (p ∙ sym q)
+
+same-given : (b : Bool) → eqb (parts.oneIf b) 1 ≡ b
+same-given true = refl
+same-given false = refl
+
+same-detail : (d : DetailAnswer)
+    → _≡_ {A = DetailAnswer}
+    (record {
+      number = d .number;
+      place = d .place;
+      «type_code» = d .«type_code»;
+      «amount_given» = eqb (parts.oneIf (d .«amount_given»)) 1;
+      amount = d .amount;
+      «text_start» = d .«text_start»;
+      «text_length» = d .«text_length»;
+    })
+    d
+same-detail d =
+    ap
+    (λ (b : Bool). record {
+      number = d .number;
+      place = d .place;
+      «type_code» = d .«type_code»;
+      «amount_given» = b;
+      amount = d .amount;
+      «text_start» = d .«text_start»;
+      «text_length» = d .«text_length»;
+    })
+    (same-given (d .«amount_given»))
+
+-- parts::detail
+pub detail-one : (promised : rules.DetailAnswer) (x y : DetailAnswer) → parts.detailMeant x ≡ promised → parts.detailMeant y ≡ promised → x ≡ y
+detail-one =
+    one-answer parts.detailMeant
+    (λ (m : rules.DetailAnswer). record {
+      number = m .number;
+      place = record { 0 = m .place };
+      «type_code» = m .type;
+      «amount_given» = eqb (m .amountGiven) 1;
+      amount = m .amount;
+      «text_start» = m .textStart;
+      «text_length» = m .textLength;
+    })
+    same-detail
+
+-- bai2_detail_of
+pub c-detail-one : (promised : rules.DetailAnswer) (x y : DetailFigures) → detailMeant x ≡ promised → detailMeant y ≡ promised → x ≡ y
+c-detail-one =
+    one-answer detailMeant
+    (λ (m : rules.DetailAnswer). record {
+      number = m .number;
+      place = m .place;
+      «type_code» = m .type;
+      «amount_given» = m .amountGiven;
+      amount = m .amount;
+      «text_start» = m .textStart;
+      «text_length» = m .textLength;
+    })
     (λ x. refl)
 
 -- ---- writing

@@ -6,6 +6,7 @@ use Rattle.bai2.specs.declared.ReadAnswer.{ReadAnswer}
 use Rattle.bai2.specs.declared.SplitAnswer.{SplitAnswer}
 use Rattle.bai2.specs.declared.CombineAnswer.{CombineAnswer}
 use Rattle.bai2.specs.declared.cutting.PartAnswer.{PartAnswer}
+use Rattle.bai2.specs.declared.cutting.DetailFigures.{DetailFigures}
 
 abbrev pub readMeant : ReadAnswer → rules.ReadAnswer
 readMeant r =
@@ -29,3 +30,15 @@ combineMeant r out = record { number = r .number; place = r .place; which = r .f
 
 abbrev pub partMeant : PartAnswer → rules.PartAnswer
 partMeant r = record { number = r .number; place = r .place; start = r .start; len = r .length }
+
+abbrev pub detailMeant : DetailFigures → rules.DetailAnswer
+detailMeant r =
+    record {
+      number = r .number;
+      place = r .place;
+      type = r .«type_code»;
+      amountGiven = r .«amount_given»;
+      amount = r .amount;
+      textStart = r .«text_start»;
+      textLength = r .«text_length»;
+    }

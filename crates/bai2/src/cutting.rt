@@ -1,9 +1,10 @@
 // The calls for C that cut a part out of a file: where it stands, counted from the file's first byte.
+use crate::writing;
 use parts::Part;
 ghost use mathlib.Core.Path.{_≡_};
-ghost use Rattle.rules.specs.Answers.{groupPart, accountPart};
+ghost use Rattle.rules.specs.Answers.{groupPart, accountPart, detailOfFile};
 ghost use Rattle.parts.specs.Meanings as parts;
-ghost use Rattle.bai2.specs.Answers.{partMeant};
+ghost use Rattle.bai2.specs.Answers.{partMeant, detailMeant};
 
 // A refusal's number and place, or where the part starts and its length.
 #[repr(C)]
@@ -41,4 +42,39 @@ pub extern "C" fn bai2_account(file: &[u8], group: u64, account: u64) -> PartAns
     ensures { λ r. ⌜ partMeant r ≡ accountPart (now (file .entry)) group account ⌝ }
 {
     figures_of(parts::find_account(file, group, account))
+}
+
+// A refusal's number and place; or the type, the amount if it is given, and where the first text piece starts, and its length.
+#[repr(C)]
+pub struct DetailFigures {
+    pub number: u64,
+    pub place: u64,
+    pub type_code: u64,
+    pub amount_given: u64,
+    pub amount: u64,
+    pub text_start: u64,
+    pub text_length: u64,
+}
+
+// The detail of this number in that account of that group.
+#[no_mangle]
+pub extern "C" fn bai2_detail_of(
+    file: &[u8],
+    group: u64,
+    account: u64,
+    detail: u64,
+) -> DetailFigures
+    ensures { λ r. ⌜ detailMeant r ≡ detailOfFile (now (file .entry)) group account detail ⌝ }
+{
+    let d = parts::detail(file, group, account, detail);
+    let place = d.place;
+    DetailFigures {
+        number: d.number,
+        place: place.0 as u64,
+        type_code: d.type_code,
+        amount_given: writing::flag_of(d.amount_given),
+        amount: d.amount,
+        text_start: d.text_start as u64,
+        text_length: d.text_length as u64,
+    }
 }

@@ -108,7 +108,7 @@ fn phase_figure(p: Phase) -> u64
 }
 
 // 1 where it holds, else 0.
-fn flag_of(holds: bool) -> u64
+pub fn flag_of(holds: bool) -> u64
     ensures { λ r. ⌜ r ≡ flag holds ⌝ }
 {
     if holds {

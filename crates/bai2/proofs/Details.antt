@@ -1,0 +1,27 @@
+-- A detail in figures: the flag of its amount as a number. Assumes nothing.
+use Prim.Native.Nat.{ℕ}
+use mathlib.Core.Path.{_≡_, refl}
+use mathlib.Core.Bool.{Bool, true, false}
+use Rattle.rules.specs.Answers as rules
+use Rattle.parts.specs.declared.DetailAnswer.{DetailAnswer}
+use Rattle.parts.specs.Meanings.{oneIf, detailMeant}
+use Rattle.bai2.specs.Writing.{flag}
+
+same-flag : (b : Bool) → flag b ≡ oneIf b
+same-flag true = refl
+same-flag false = refl
+
+-- with the flag's number in its place the figures mean what the answer means
+pub detail-figures : (d : DetailAnswer) (given : ℕ) → given ≡ flag (d .«amount_given»)
+    → _≡_ {A = rules.DetailAnswer}
+    (record {
+      number = d .number;
+      place = d .place .0;
+      type = d .«type_code»;
+      amountGiven = given;
+      amount = d .amount;
+      textStart = d .«text_start»;
+      textLength = d .«text_length»;
+    })
+    (detailMeant d)
+detail-figures d given e = rw (e, same-flag (d .«amount_given»))
