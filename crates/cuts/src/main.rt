@@ -7,6 +7,8 @@ fn main() {
     splits();
     combinations();
     groups();
+    accounts();
+    details();
 }
 
 // K2, K3, and splits that are refused.
@@ -100,6 +102,59 @@ fn group(path: &[u8], n: u64) {
     answer(r.number, place);
     say(b"\n");
     say(parts::group(&file[..k], n));
+}
+
+// Accounts of groups, and one past the last.
+fn accounts() {
+    account(b"two.bai", 0, 1);
+    account(b"two.bai", 1, 0);
+    account(b"two.bai", 1, 1);
+    account(b"two.bai", 3, 0);
+}
+
+// One call for an account.
+fn account(path: &[u8], g: u64, n: u64) {
+    let mut file = io::buffer();
+    let k = load(path, &mut file);
+    let r = parts::account_refusal(&file[..k], g, n);
+    let place = r.place;
+    say(b"account ");
+    say(path);
+    figure(g);
+    figure(n);
+    answer(r.number, place);
+    say(b"\n");
+    say(parts::account(&file[..k], g, n));
+}
+
+// Details with an amount and a text, with neither, over two lines, and one past the last.
+fn details() {
+    detail(b"two.bai", 0, 0, 0);
+    detail(b"two.bai", 0, 0, 1);
+    detail(b"two.bai", 1, 0, 0);
+    detail(b"two.bai", 0, 1, 0);
+    detail(b"k05.bai", 0, 0, 0);
+}
+
+// One call for a detail: its type, its amount or none, and its text.
+fn detail(path: &[u8], g: u64, a: u64, n: u64) {
+    let mut file = io::buffer();
+    let k = load(path, &mut file);
+    let d = parts::detail(&file[..k], g, a, n);
+    let place = d.place;
+    say(b"detail ");
+    say(path);
+    figure(g);
+    figure(a);
+    figure(n);
+    answer(d.number, place);
+    figure(d.type_code);
+    if d.amount_given {
+        figure(d.amount);
+    }
+    say(b" \"");
+    say(parts::detail_text(&file[..k], g, a, n));
+    say(b"\"\n");
 }
 
 // The file's bytes at the front of buf: how many.
