@@ -1,14 +1,14 @@
 -- The checks of a record's lines, line by line, and the record's extent, at the places that the code reaches. Assumes nothing.
-use Prim.Native.Nat.{ℕ, _+_, _-_, _≤_, _<_}
+use Prim.Native.Nat.{ℕ, zero, suc, _+_, _-_, _≤_, _<_}
 use mathlib.Core.Path.{_≡_, refl, ap, sym, _∙_}
 use mathlib.Core.List.{[], _∷_}
 use mathlib.Core.Bool.{true, false}
 use mathlib.Core.Option.{none, some}
 use native.Mathlib.Omega.{arith}
-use native.Mathlib.Nat.{zero-add, add-zero}
+use native.Mathlib.Nat.{zero-add, add-zero, suc-add}
 use borrow.Author.Tests.{le-leb, lt-leb, leb-true, leb-false}
-use lib.ListN.{length, take, drop, drop-of-length-le, length-drop}
-use lib.Seq.{drop-drop}
+use lib.ListN.{length, take, drop, drop-of-length-le, length-drop, length-take}
+use lib.Seq.{drop-drop, take-nil}
 use lib.Dec.{leb}
 use Rattle.rules.specs.Bytes.{Bytes, sameBytes}
 use Rattle.rules.specs.Outcome.{Outcome, refused, fine, _>>=_}
@@ -17,7 +17,7 @@ use Rattle.rules.specs.Verdict.{notLonger, allAllowed, coded, goodLine, goodLin
 use Rattle.rules.proofs.Binds.{then-fine, or-fine}
 use Rattle.rules.proofs.Tests.{Known, holds, fails, known}
 use Rattle.lines.specs.Cut.{run, stopsAt, bodyLen, endLen, lineLen, plainLen, firstLine, further, firstRecord}
-use Rattle.lines.specs.Cutting.{first-of, first-body, line-some, line-fits}
+use Rattle.lines.specs.Cutting.{first-of, first-body, line-some, line-fits, body-of-part}
 use Rattle.lines.specs.OneRecord.{first-size}
 use Rattle.lines.proofs.Fronts.{body-behind, allowed-body, allowed-not, begins-front}
 
@@ -67,6 +67,32 @@ module _ (s : Bytes) (at e n : ℕ) (p : e ≡ at + bodyLen (drop at s)) (q : n 
 
   pub next-behind : at < length s → at < n
   next-behind h = let l = length-drop at s in let b = line-some (drop at s) (omega arith) in omega (arith, next-is)
+
+-- ---- among the first bytes
+
+pub take-drop : (a k : ℕ) (l : Bytes) → take k (drop a l) ≡ drop a (take (a + k) l)
+take-drop zero k l = ap (λ (n : ℕ). take n l) (sym (zero-add k))
+take-drop (suc a) k [] = take-nil k ∙ sym (ap (λ (l : Bytes). drop (suc a) l) (take-nil (suc a + k)))
+take-drop (suc a) k (x ∷ xs) = take-drop a k xs ∙ ap (λ (n : ℕ). drop (suc a) (take n (x ∷ xs))) (sym (suc-add a k))
+
+-- a line that ends there with its end is found there
+pub body-in : (s : Bytes) (size at e n : ℕ) → e ≡ at + bodyLen (drop at s) → n ≡ e + endLen (drop e s) → n ≤ size → e ≡ at + bodyLen (drop at (take size s))
+unfolding run
+body-in s size at e n p q h = by-size (known (leb (length s) at))
+  where
+    by-size : Known (leb (length s) at) → e ≡ at + bodyLen (drop at (take size s))
+    by-size (holds t) =
+        let l = leb-true (length s) at t in
+        let a = drop-of-length-le s {i = at} l in
+        let b = drop-of-length-le (take size s) {i = at} (omega (arith, length-take size s)) in
+        p ∙ rw (a, b)
+    by-size (fails t) =
+        let l = leb-false (length s) at t in
+        let next = next-is s at e n p q in
+        let m : at + (size - at) ≡ size = omega arith in
+        let part : take (size - at) (drop at s) ≡ drop at (take size s) = take-drop at (size - at) s ∙ ap (λ (k : ℕ). drop at (take k s)) m in
+        let same = body-of-part (drop at s) (size - at) (omega (arith, length-drop at s)) (omega arith) in
+        p ∙ ap (λ (k : ℕ). at + k) (sym same ∙ ap (λ (xs : Bytes). bodyLen xs) part)
 
 -- ---- lines one after the other
 

@@ -1,5 +1,5 @@
 -- The first line of bytes, and what follows it. Assumes nothing.
-use Prim.Native.Nat.{ℕ, suc, _+_, _≤_, _<_}
+use Prim.Native.Nat.{ℕ, suc, _+_, _-_, _≤_, _<_}
 use mathlib.Core.Path.{_≡_, refl, ap, sym, _∙_}
 use mathlib.Core.List.{[], _∷_}
 use mathlib.Core.Bool.{Bool, true, false}
@@ -137,3 +137,13 @@ line-some (b ∷ bs) h = go (eqb b LF) (eqb b CR) (beginsLf bs) refl refl refl
     go false true true e f g = simp (e, f, g) (omega arith)
     go false true false e f g = simp (e, f, g) (omega arith)
     go false false z e f g = simp (e, f) (omega arith)
+
+-- a part that holds the first line whole begins with it
+pub body-of-part : (xs : Bytes) (m : ℕ) → 0 < length xs → lineLen xs ≤ m → bodyLen (take m xs) ≡ bodyLen xs
+body-of-part xs m h g =
+    let k : lineLen xs + (m - lineLen xs) ≡ m = omega arith in
+    let some : 0 < length (take m xs) = omega (arith, length-take m xs, line-some xs h) in
+    let both : firstLine (take m xs) ∷ linesOf (drop (lineLen (take m xs)) (take m xs)) ≡ firstLine xs ∷ linesOf (take (m - lineLen xs) (drop (lineLen xs) xs)) =
+    sym (first-of (take m xs) some) ∙ ap (λ (n : ℕ). linesOf (take n xs)) (sym k) ∙ first-of-part xs (m - lineLen xs) h in
+    let same : firstLine (take m xs) ≡ firstLine xs = cc in
+    sym (first-body (take m xs)) ∙ ap (λ (l : Line). length (l .body)) same ∙ first-body xs

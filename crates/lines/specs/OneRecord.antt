@@ -1,7 +1,7 @@
 -- The first record of bytes is the lines of a part of them. Assumes nothing.
 use Prim.Native.Nat.{ℕ, suc, _+_, _<_}
 use mathlib.Core.Path.{_≡_, refl, ap, sym, _∙_}
-use mathlib.Core.List.{List, [], _∷_, _++_}
+use mathlib.Core.List.{List, [], _∷_}
 use mathlib.Core.Bool.{cond}
 use native.Mathlib.Omega.{arith}
 use native.Mathlib.Nat.{suc-add}
@@ -11,7 +11,7 @@ use lib.Dec.{eqb}
 use Rattle.rules.specs.Bytes.{Bytes, LF, CR}
 use Rattle.rules.specs.Lines.{LineEnd, lacking, lf, crlf, endBytes, Line, sizeOf, longerLine, longerFirst, linesOf, begins, continuation, lineBefore, recordsOf, recordSize}
 use Rattle.rules.proofs.Tests.{Known, holds, fails, known}
-use Rattle.lines.specs.Cut.{bodyLen, lineLen, firstLine, further, firstRecord}
+use Rattle.lines.specs.Cut.{lineLen, firstLine, further, firstRecord}
 use Rattle.lines.specs.Cutting.{first-of, first-of-part, first-body}
 
 -- the lines behind the 88 lines in front
@@ -30,16 +30,6 @@ first-record : (ls : List Line) (l : Line) → recordsOf (l ∷ ls) ≡ (l ∷ f
 unfolding recordsOf further rest
 first-record [] l = refl
 first-record (m ∷ ls) l = first-record-step l m ls (first-record ls) (known (begins continuation m))
-
--- the 88 lines in front, and the lines behind them, are all
-further-rest : (ls : List Line) → ls ≡ further ls ++ rest ls
-unfolding further rest
-further-rest [] = refl
-further-rest (l ∷ ls) = go (known (begins continuation l)) (further-rest ls)
-  where
-    go : Known (begins continuation l) → ls ≡ further ls ++ rest ls → l ∷ ls ≡ further (l ∷ ls) ++ rest (l ∷ ls)
-    go (holds e) ih = rw e (ap (λ (ms : List Line). l ∷ ms) ih)
-    go (fails e) ih = rw e
 
 -- a line's size
 pub first-size : (xs : Bytes) → sizeOf (firstLine xs) ≡ lineLen xs
@@ -86,42 +76,13 @@ module _ (xs : Bytes) (k : ℕ) (e : k ≡ recordSize (firstRecord (linesOf xs))
       let i = cuts ls (drop (lineLen xs) xs) refl in
       rw (extent, first-of xs h) (first-of-part xs (recordSize (further ls)) h ∙ rw (i .0))
 
-  -- the lines behind it
-  behind : linesOf (drop k xs) ≡ rest (linesOf (drop (lineLen xs) xs))
-  behind = rw extent (rw (← drop-drop) (cuts (linesOf (drop (lineLen xs) xs)) (drop (lineLen xs) xs) refl .1))
-
-  -- its lines, then those behind it
-  pub record-first : linesOf xs ≡ firstRecord (linesOf xs) ++ linesOf (drop k xs)
-  unfolding firstRecord
-  record-first = rw (behind, first-of xs h) (ap (λ (ls : List Line). firstLine xs ∷ ls) (further-rest (linesOf (drop (lineLen xs) xs))))
-
   pub one-record : recordsOf (linesOf xs) ≡ firstRecord (linesOf xs) ∷ recordsOf (linesOf (drop k xs))
   unfolding firstRecord
-  one-record = rw (behind, first-of xs h) (first-record (linesOf (drop (lineLen xs) xs)) (firstLine xs))
-
--- BYTES WHOSE FIRST LINES are the lines of ys: their first line is that of ys
-module _ (xs ys : Bytes) (ls : List Line) (e : linesOf xs ≡ linesOf ys ++ ls) (h : 0 < length ys) where
-  leads : linesOf xs ≡ firstLine ys ∷ (linesOf (drop (lineLen ys) ys) ++ ls)
-  leads = e ∙ ap (λ (ms : List Line). ms ++ ls) (first-of ys h)
-
-  both : firstLine xs ∷ linesOf (drop (lineLen xs) xs) ≡ firstLine ys ∷ (linesOf (drop (lineLen ys) ys) ++ ls)
-  both = sym (first-of xs (some-bytes (firstLine ys) (linesOf (drop (lineLen ys) ys) ++ ls) xs leads)) ∙ leads
-
-  same-line : firstLine xs ≡ firstLine ys
-  same-line = let e′ = both in cc
-
-  pub same-body : bodyLen xs ≡ bodyLen ys
-  same-body = sym (first-body xs) ∙ ap (λ (l : Line). length (l .body)) same-line ∙ first-body ys
-
-  same-length : lineLen xs ≡ lineLen ys
-  same-length = sym (first-size xs) ∙ ap (λ (l : Line). sizeOf l) same-line ∙ first-size ys
-
-  -- and so on behind it
-  pub same-behind : linesOf (drop (lineLen ys) xs) ≡ linesOf (drop (lineLen ys) ys) ++ ls
-  same-behind =
-      let e′ = both in
-      let rests : linesOf (drop (lineLen xs) xs) ≡ linesOf (drop (lineLen ys) ys) ++ ls = cc in
-      ap (λ (n : ℕ). linesOf (drop n xs)) (sym same-length) ∙ rests
+  one-record =
+      let ls : List Line = linesOf (drop (lineLen xs) xs) in
+      let i = cuts ls (drop (lineLen xs) xs) refl in
+      let b : linesOf (drop k xs) ≡ rest ls = rw extent (rw (← drop-drop) (i .1)) in
+      rw (b, first-of xs h) (first-record ls (firstLine xs))
 
 -- how many bytes lines have
 longer-size : (b : ℕ) (bs : Bytes) (e : LineEnd) → sizeOf (longerLine b bs e) ≡ suc (length bs + length (endBytes e))

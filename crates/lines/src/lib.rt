@@ -54,6 +54,27 @@ pub fn body_end(s: &[u8], at: usize) -> usize
     i
 }
 
+// The first `size` bytes, or all.
+pub fn front(s: &[u8], size: usize) -> &[u8]
+    ensures { λ r. ⌜ now r ≡ take size (now (s .entry)) ⌝ }
+{
+    if s.len() <= size {
+        return s;
+    }
+    &s[0..size]
+}
+
+// Where the line that starts at `at` ends among the first `size` bytes; behind them more bytes help to search by blocks.
+pub fn body_end_in(s: &[u8], size: usize, at: usize) -> usize
+    ensures { λ r. ⌜ r ≡ at + bodyLen (drop at (take size (now (s .entry)))) ⌝ }
+{
+    let e = body_end(s, at);
+    if e + end_len(s, e) <= size {
+        return e;
+    }
+    body_end(front(s, size), at)
+}
+
 // Where the line behind the one at `at` starts.
 pub fn next_line(s: &[u8], at: usize) -> usize
     ensures { λ r. ⌜ (r ≡ at + lineLen (drop at (now (s .entry)))) × (r ≤ length (now (s .entry)) + (at - length (now (s .entry)))) ⌝ }

@@ -111,7 +111,7 @@ pub fn step(st: State, rest: &[u8]) -> Stepped
             let file = st.file;
             let total = file.total;
             let rec = &rest[0..size];
-            match walk::walk_record(rest, rec, want::first_want(code), total.0 + total.1) {
+            match walk::walk_record(rest, size, want::first_want(code), total.0 + total.1) {
                 Walked::Refused(k, p) => return Stepped::Refused(k, p),
                 Walked::Done(kept) => match settle(st, rec, code, records, kept) {
                     Settled::Refused(k, p) => return Stepped::Refused(k, p),

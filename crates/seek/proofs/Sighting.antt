@@ -20,7 +20,8 @@ use Rattle.fields.specs.declared.Cut.the-variants.{Field, Open}
 use Rattle.fields.specs.Lengths.{fieldLen, cutOf}
 use Rattle.fields.proofs.Cutting.{cut-short, cut-open, cut-text}
 use Rattle.kept.proofs.EachKind.{told}
-use Rattle.walk.proofs.Parts.{take-drop, part-slice, part-front}
+use Rattle.lines.proofs.Passing.{take-drop}
+use Rattle.walk.proofs.Parts.{part-slice, part-front}
 use Rattle.walk.proofs.FirstCell.{first-open, first-comma, first-slash, comma-there, Starts, starts, cells-start}
 use Rattle.seek.specs.Seeking.{Sighted, seen, onto, lost, onward, sight, seekCells, Found, nothingFound, orBehind, seekLines}
 

@@ -1,17 +1,13 @@
 -- Parts of a record, from a to e, in two forms. Assumes nothing.
 use Prim.Native.Nat.{ℕ, zero, suc, _+_, _-_, _≤_, _<_}
-use mathlib.Core.Path.{_≡_, ap, sym, _∙_}
+use mathlib.Core.Path.{_≡_, refl, ap, sym, _∙_}
 use mathlib.Core.List.{[], _∷_}
 use native.Mathlib.Nat.{suc-add, zero-add}
 use native.Mathlib.Omega.{arith}
-use lib.ListN.{take, drop, getD}
+use lib.ListN.{length, take, drop, getD}
 use lib.Seq.{slice, take-take, drop-drop, getD-drop, getD-take, take-nil}
 use Rattle.rules.specs.Bytes.{Bytes}
-
-pub take-drop : (a k : ℕ) (l : Bytes) → take k (drop a l) ≡ drop a (take (a + k) l)
-take-drop zero k l = ap (λ (n : ℕ). take n l) (sym (zero-add k))
-take-drop (suc a) k [] = take-nil k ∙ sym (ap (λ (l : Bytes). drop (suc a) l) (take-nil (suc a + k)))
-take-drop (suc a) k (x ∷ xs) = take-drop a k xs ∙ ap (λ (n : ℕ). drop (suc a) (take n (x ∷ xs))) (sym (suc-add a k))
+use Rattle.lines.proofs.Passing.{take-drop}
 
 -- as the code lends it
 pub part-slice : (a e : ℕ) (s : Bytes) → a ≤ e → take (e - a) (drop a s) ≡ slice a e s
@@ -26,3 +22,9 @@ module _ (s : Bytes) (a e k : ℕ) (h : a + k ≤ e) where
 
 pub part-get : (s : Bytes) (a e k : ℕ) → a + k < e → getD (slice a e s) k 0 ≡ getD s (a + k) 0
 part-get s a e k h = getD-drop a (take e s) k 0 ∙ getD-take e s (a + k) 0 h
+
+-- what stands in front stands there by its own length
+pub front-length : (n : ℕ) (s : Bytes) → take n s ≡ take (length (take n s)) s
+front-length zero s = refl
+front-length (suc n) [] = refl
+front-length (suc n) (x ∷ xs) = ap (λ (l : Bytes). x ∷ l) (front-length n xs)

@@ -25,7 +25,8 @@ use Rattle.kept.specs.declared.Kept.{Kept}
 use Rattle.kept.specs.Keeping.{keepRead}
 use Rattle.kept.proofs.EachKind.{told}
 use Rattle.walk.specs.Working.{WalkK, point, behindK, takenK, pastSlashK, takenToK, walkCellsK, walkLinesK, endK, walkFrom}
-use Rattle.walk.proofs.Parts.{take-drop, part-front, part-back, part-get}
+use Rattle.lines.proofs.Passing.{take-drop}
+use Rattle.walk.proofs.Parts.{part-front, part-back, part-get}
 use Rattle.walk.proofs.FirstCell.{first-open, first-comma, first-slash, comma-there, Starts, starts, cells-start}
 
 -- ---- a field that was judged

@@ -1,8 +1,7 @@
 -- What the answers of src/ stand for, and what `walk_record` promises. Assumes nothing.
 use Prim.Native.Nat.{ℕ, _+_, _≤_}
 use mathlib.Core.Path.{_≡_}
-use mathlib.Core.List.{_++_}
-use lib.ListN.{length, drop}
+use lib.ListN.{length}
 use Rattle.rules.specs.Bytes.{Bytes}
 use Rattle.rules.specs.Outcome.{Outcome, refused, fine}
 use Rattle.rules.specs.Lines.{linesOf}
@@ -23,10 +22,6 @@ walkedOf (Done k) = fine k
 abbrev pub Bounds : ℕ → ℕ → Walked → Type 0
 Bounds n m (Refused k p) = p .0 ≤ n + 3
 Bounds n m (Done k) = Within n m k
-
--- the record's lines are the first of these bytes
-abbrev pub Leads : Bytes → Bytes → Type 0
-Leads rec rest = linesOf rest ≡ linesOf rec ++ linesOf (drop (length rec) rest)
 
 -- a record's bytes, what is wanted first, the magnitudes before, and the answer
 pub record Walks (rec : Bytes) (first : Want) (before : ℕ) (r : Walked) : Type 0 where

@@ -6,9 +6,10 @@ use wants::Taken;
 use wants::want;
 use wants::want::Want;
 ghost use mathlib.Core.Path.{_≡_};
+ghost use lib.ListN.{length, take};
 ghost use Rattle.wants.specs.Wants.{wantedOf};
 ghost use Rattle.walk.specs.Working.{point, endK};
-ghost use Rattle.walk.specs.Answers.{walkedOf, Leads, Walks};
+ghost use Rattle.walk.specs.Answers.{walkedOf, Walks};
 
 // The number of a refusal and its place in the record, or what was kept.
 pub enum Walked {
@@ -26,34 +27,37 @@ fn finish(want: Want, kept: Kept, slash: Place) -> Walked
     Walked::Refused(8, slash)
 }
 
-// The walk stops at the first fault found; places are counted from the record's start. `rest`: the file from the record on, for the search of line
-// ends; `before`: the magnitudes of the records before.
-pub fn walk_record(rest: &[u8], rec: &[u8], first: Want, before: u64) -> Walked
-    requires { ⌜ Leads (now rec) (now rest) ⌝ }
+// The walk over the record in front of rest stops at the first fault found; places are counted from the record's start. `before`: the magnitudes of the
+// records before.
+fn walk_lines(rest: &[u8], rec: &[u8], first: Want, before: u64) -> Walked
+    requires { ⌜ now rec ≡ take (length (now rec)) (now rest) ⌝ }
     ensures { λ r. ⌜ Walks (now (rec .entry)) first before r ⌝ }
 {
     let mut want = first;
     let mut kept = Kept::none(before);
     let mut slash = Place(0);
     let mut at: usize = 0;
-    while at < rec.len() {
-        let e = lines::body_end(rest, at);
+    'walk: loop {
+        if rec.len() <= at {
+            break 'walk finish(want, kept, slash);
+        }
+        let e = lines::body_end_in(rest, rec.len(), at);
         let mut a = at + 3;
         at = e + lines::end_len(rec, e);
         if e < a {
-            return Walked::Refused(7, Place(a));
+            break 'walk Walked::Refused(7, Place(a));
         }
         loop {
             let text = want::is_text(want);
             let Cut::Field(n) = fields::cut_field(text, &rec[a..e]) else {
-                return Walked::Refused(7, Place(e));
+                break 'walk Walked::Refused(7, Place(e));
             };
             let f = a + n;
             if kept::is_kept(want) {
                 kept = kept.keep(want, Place(a), &rec[a..f]);
             }
             match fields::take_field(want, &rec[a..f]) {
-                Taken::Refused(k) => return Walked::Refused(k, Place(a)),
+                Taken::Refused(k) => break 'walk Walked::Refused(k, Place(a)),
                 Taken::Next(next) => want = next,
             }
             if text {
@@ -63,12 +67,18 @@ pub fn walk_record(rest: &[u8], rec: &[u8], first: Want, before: u64) -> Walked
             if rec[f] == b'/' {
                 let t = a + fields::blanks_len(&rec[a..e]);
                 if t < e {
-                    return Walked::Refused(7, Place(t));
+                    break 'walk Walked::Refused(7, Place(t));
                 }
                 slash = Place(f);
                 break;
             }
         }
     }
-    finish(want, kept, slash)
+}
+
+// The walk over a record, the first `size` bytes of what is left of the file; `before`: the magnitudes of the records before.
+pub fn walk_record(rest: &[u8], size: usize, first: Want, before: u64) -> Walked
+    ensures { λ r. ⌜ Walks (take size (now (rest .entry))) first before r ⌝ }
+{
+    walk_lines(rest, lines::front(rest, size), first, before)
 }

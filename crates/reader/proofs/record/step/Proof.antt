@@ -1,8 +1,8 @@
 -- `reader::record::step` meets its contract. Assumes nothing.
 use Prim.Native.Nat.{ℕ, _-_, _<_}
-use mathlib.Core.Path.{_≡_, ap, sym, _∙_}
+use mathlib.Core.Path.{_≡_, ap, sym, subst, _∙_}
 use mathlib.Core.Bool.{true}
-use mathlib.Core.List.{List, _++_}
+use mathlib.Core.List.{List}
 use native.Mathlib.Omega.{arith}
 use borrow.Author.Tests.{not-true, not-false}
 use lib.ListN.{length, take, drop, length-take}
@@ -15,12 +15,12 @@ use Rattle.rules.specs.Order.{among}
 use Rattle.rules.specs.Verdict.{step, inOrder}
 use Rattle.codes.specs.Meanings.{codeMeant}
 use Rattle.lines.specs.Cut.{firstRecord}
-use Rattle.lines.specs.OneRecord.{first-part, record-first}
+use Rattle.lines.specs.OneRecord.{first-part}
 use Rattle.lines.specs.Answers.{Whole}
 use Rattle.kept.specs.Keeping.{fresh, Within}
 use Rattle.wants.specs.Wants.{wantedOf}
 use Rattle.walk.specs.Working.{walkFrom}
-use Rattle.walk.specs.Answers.{walkedOf, Leads}
+use Rattle.walk.specs.Answers.{walkedOf, Walks}
 use Rattle.reader.specs.Expecting.{expectedMeant}
 use Rattle.reader.specs.Meanings.{stateMeant}
 use Rattle.reader.specs.Stepping.{settledK, stepK}
@@ -55,16 +55,11 @@ rec-lines c =
 rec-length : (c : tie.After-code) → length (take (c .code .given .0 .1 .1 .0 - 0) (drop 0 (c .before .before .before .before .args .rest .now))) ≡ c .code .given .0 .1 .1 .0
 rec-length c = length-take (c .code .given .0 .1 .1 .0 - 0) (c .before .before .before .before .args .rest .now) ∙ omega (arith, whole c .fits)
 
-leads : (c : tie.After-code) → Leads (take (c .code .given .0 .1 .1 .0 - 0) (drop 0 (c .before .before .before .before .args .rest .now))) (c .before .before .before .before .args .rest .now)
-leads c =
-    let rest = c .before .before .before .before .args .rest .now in
-    let size = c .code .given .0 .1 .1 .0 in
-    record-first rest size (whole c .extent) (some-byte c)
-    ∙ ap (λ (ls : Record). ls ++ linesOf (drop size rest)) (sym (rec-lines c))
-    ∙ ap (λ (n : ℕ). linesOf (take (size - 0) (drop 0 rest)) ++ linesOf (drop n rest)) (sym (rec-length c))
-
-walk-record-requires : tie.Need-walk-record-requires
-walk-record-requires c κs = leads (c .before .before .before .before .before .before .before .before)
+walks : (c : tie.After-walk-record)
+    → Walks (take (c .before .before .before .before .before .before .before .before .before .code .given .0 .1 .1 .0 - 0) (drop 0 (c .before .before .before .before .before .before .before .before .before .before .before .before .before .args .rest .now))) (c .before .before .first-want .result) (magnitudes (stateMeant (c .before .before .before .before .before .before .before .before .before .before .before .before .before .args .st) .file .sum)) (c .walk-record .result)
+walks c =
+    let z : c .before .before .before .before .before .before .before .before .before .code .given .0 .1 .1 .0 - 0 ≡ c .before .before .before .before .before .before .before .before .before .code .given .0 .1 .1 .0 = omega arith in
+    subst (λ (n : ℕ). Walks (take n (c .before .before .before .before .before .before .before .before .before .before .before .before .before .args .rest .now)) (c .before .before .first-want .result) (magnitudes (stateMeant (c .before .before .before .before .before .before .before .before .before .before .before .before .before .args .st) .file .sum)) (c .walk-record .result)) (sym z) (c .walk-record .ensures)
 
 walked : (c : tie.After-walk-record)
     → walkFrom (fieldsOf (codeMeant (c .before .before .before .before .before .before .before .before .before .code .given .0 .0))) (fresh (magnitudes (stateMeant (c .before .before .before .before .before .before .before .before .before .before .before .before .before .args .st) .file .sum))) (firstRecord (linesOf (c .before .before .before .before .before .before .before .before .before .before .before .before .before .args .rest .now)))
@@ -72,7 +67,7 @@ walked : (c : tie.After-walk-record)
 walked c =
     ap (λ (ks : List Kind). walkFrom ks (fresh (magnitudes (stateMeant (c .before .before .before .before .before .before .before .before .before .before .before .before .before .args .st) .file .sum))) (firstRecord (linesOf (c .before .before .before .before .before .before .before .before .before .before .before .before .before .args .rest .now)))) (sym (c .before .before .first-want .ensures))
     ∙ ap (λ (ls : Record). walkFrom (wantedOf (c .before .before .first-want .result)) (fresh (magnitudes (stateMeant (c .before .before .before .before .before .before .before .before .before .before .before .before .before .args .st) .file .sum))) ls) (sym (rec-lines (c .before .before .before .before .before .before .before .before .before)))
-    ∙ sym (c .walk-record .ensures .answer)
+    ∙ sym (walks c .answer)
 
 settled : (c : tie.After-kept)
     → stepK (stateMeant (c .before .before .before .before .before .before .before .before .before .before .before .before .before .before .before .args .st)) (firstRecord (linesOf (c .before .before .before .before .before .before .before .before .before .before .before .before .before .before .before .args .rest .now)))
@@ -82,7 +77,7 @@ settled c =
     ∙ ap (λ (ls : Record). settledK (stateMeant (c .before .before .before .before .before .before .before .before .before .before .before .before .before .before .before .args .st)) ls (codeMeant (c .before .before .before .before .before .before .before .before .before .before .before .code .given .0 .0)) (c .kept .given .0 .0)) (sym (rec-lines (c .before .before .before .before .before .before .before .before .before .before .before)))
 
 within : (c : tie.After-kept) → Within (length (take (c .before .before .before .before .before .before .before .before .before .before .before .code .given .0 .1 .1 .0 - 0) (drop 0 (c .before .before .before .before .before .before .before .before .before .before .before .before .before .before .before .args .rest .now)))) (magnitudes (stateMeant (c .before .before .before .before .before .before .before .before .before .before .before .before .before .before .before .args .st) .file .sum)) (c .kept .given .0 .0)
-within c = rw (c .kept .given .1) at (c .before .before .walk-record .ensures .bounds)
+within c = rw (c .kept .given .1) at (walks (c .before .before) .bounds)
 
 returns : tie.Need-returns
 returns c = rw (c .enum-told .given .1) at (c .before .before .scan-record .ensures)
@@ -108,7 +103,7 @@ part-rec-end c = whole (c .before .before .before .before .before) .fits
 returns-4 : tie.Need-returns-4
 returns-4 c =
     let a = c .before .before .before .before .before .before .before .before .before .before .before .before .before .before .before .before .args in
-    let b = rw (c .before .k2 .given .1) at (c .before .before .before .walk-record .ensures .bounds) in
+    let b = rw (c .before .k2 .given .1) at (walks (c .before .before .before) .bounds) in
     let l = rec-length (c .before .before .before .before .before .before .before .before .before .before .before .before) in
     record {
       stops =
@@ -165,7 +160,7 @@ step-spec =
     part-rec-end
     (λ c κs. search needs)
     (λ c. search needs)
-    walk-record-requires
+    (λ c κs. search needs)
     (λ c. search needs)
     returns-4
     (λ c. search needs)
