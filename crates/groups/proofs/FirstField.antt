@@ -2,25 +2,24 @@
 use Prim.Native.Nat.{ℕ, suc, _+_, _-_, _<_}
 use native.Mathlib.Omega.{arith}
 use mathlib.Core.Path.{_≡_, refl, sym, ap, subst, _∙_}
-use mathlib.Core.Bool.{Bool, true, false}
+use mathlib.Core.Bool.{false}
 use mathlib.Core.List.{List, [], _∷_, _++_}
 use borrow.Author.Tests.{ltb-true, ltb-false, eqb-true, eqb-false}
 use lib.Dec.{eqb, ltb}
 use lib.ListN.{length, take, drop, getD, length-append, length-drop}
 use lib.Seq.{take-all, take-append-le, drop-append-le}
 use Rattle.rules.specs.Bytes.{Bytes, slash}
-use Rattle.rules.specs.Outcome.{Outcome, fine, _>>=_, _>>_, check}
+use Rattle.rules.specs.Outcome.{fine, _>>=_, _>>_, check}
 use Rattle.rules.specs.Lines.{Line, sizeOf}
 use Rattle.rules.specs.Cells.{Cell, cellsFrom, cellsOf, leadingBlanks}
 use Rattle.rules.specs.Grammar.{Kind, Judged, bad, good, judged, andThen, takeNext, mayLack}
 use Rattle.rules.specs.Records.{Field, Walk, behind, taken, pastSlash, takenTo, walkCells, walkLines}
 use Rattle.rules.proofs.Tests.{Known, holds, fails, known}
 use Rattle.rules.proofs.Binds.{refused-fine, from-bind, then-fine, fine-same}
-use Rattle.fields.specs.declared.Cut.{Cut}
 use Rattle.fields.specs.declared.Cut.the-variants.{Open}
 use Rattle.fields.specs.declared.Cut.the-variants as cut
 use Rattle.fields.specs.Lengths.{until, isMark, fieldLen, cutOf}
-use Rattle.walk.proofs.FirstCell.{first-open, first-comma, first-slash, comma-there, field-fits}
+use Rattle.walk.proofs.FirstCell.{first-open, first-comma, first-slash, comma-there}
 use Rattle.laws.proofs.Walks.{cells-keep, lines-keep}
 
 -- the bytes from a line's fourth on, up to the first comma or slash

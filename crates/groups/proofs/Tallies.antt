@@ -1,24 +1,22 @@
 -- The numbers of the groups for a name, added up group by group: their totals as their 98s state them, and their lines. Assumes nothing.
-use Prim.Native.Nat.{ℕ, _+_, _≤_, _<_}
+use Prim.Native.Nat.{ℕ, _+_, _≤_}
 use native.Mathlib.Omega.{arith}
 use mathlib.Core.Path.{_≡_, refl, sym, ap, subst, _∙_}
-use mathlib.Core.Bool.{Bool, true, false, cond}
+use mathlib.Core.Bool.{Bool, true, false}
 use mathlib.Core.List.{List, [], _∷_, _++_}
 use borrow.Author.Tests.{eq-eqb}
-use lib.Dec.{T, eqb→eq}
+use lib.Dec.{eqb→eq}
 use lib.ListN.{length, length-append}
 use Rattle.rules.specs.Bytes.{Bytes, sameBytes}
-use Rattle.rules.specs.Numbers.{Signed, signed, Sum, zeroSum, _⊕_, asSum, equals, magnitudes, most}
-use Rattle.rules.specs.Outcome.{fine}
-use Rattle.rules.specs.Lines.{Code, groupHeader, groupTrailer, Record, lineBytes, recordBytes}
+use Rattle.rules.specs.Numbers.{Signed, signed, Sum, zeroSum, _⊕_, asSum, magnitudes, most}
+use Rattle.rules.specs.Lines.{Code, groupHeader, Record, recordBytes}
 use Rattle.rules.specs.Grammar.{total}
-use Rattle.rules.specs.Records.{Field, the, walkRecord}
+use Rattle.rules.specs.Records.{the}
 use Rattle.rules.specs.Totals.{Summary, _⊞_, one, adding, ofRecord}
-use Rattle.rules.specs.Parts.{receiverOf, fieldsIn}
+use Rattle.rules.specs.Parts.{receiverOf}
 use Rattle.rules.specs.Combine.{summaryOf, summaryOfAll, joined}
 use Rattle.rules.specs.Split.{groupsFor}
 use Rattle.rules.proofs.Tests.{Known, holds, fails, known}
-use Rattle.rules.proofs.Binds.{fine-same}
 use Rattle.laws.specs.Words.{All}
 use Rattle.laws.proofs.Codes.{of-each, Of, Begins}
 use Rattle.laws.proofs.Pieces.{groupCodes}

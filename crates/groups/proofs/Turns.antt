@@ -1,21 +1,20 @@
 -- One turn of a loop over the groups ahead, at the places that the code reaches. Assumes nothing.
-use Prim.Native.Nat.{ℕ, _+_, _-_, _≤_, _<_}
+use Prim.Native.Nat.{ℕ, _+_, _-_, _≤_}
 use native.Mathlib.Omega.{arith}
-use mathlib.Core.Path.{_≡_, refl, sym, ap, subst, _∙_}
-use mathlib.Core.Bool.{Bool, true, false, cond, _||_}
+use mathlib.Core.Path.{_≡_, sym, ap, subst, _∙_}
+use mathlib.Core.Bool.{true, false}
 use mathlib.Core.List.{List, [], _∷_, _++_, append-nil}
-use lib.Dec.{T}
 use lib.ListN.{length, take, drop, length-take, length-drop}
 use lib.Seq.{drop-drop, length-take-le}
 use Rattle.rules.specs.Bytes.{Bytes, sameBytes}
 use Rattle.rules.specs.Numbers.{Sum, _⊕_, magnitudes, most}
-use Rattle.rules.specs.Lines.{Line, sizeOf, endBytes, linesOf, lineBytes, Code, groupHeader, groupTrailer, fileTrailer, codeBytes, begins, Record, recordSize, recordBytes}
+use Rattle.rules.specs.Lines.{linesOf, lineBytes, groupHeader, groupTrailer, fileTrailer, codeBytes, begins, Record, recordSize, recordBytes}
 use Rattle.rules.specs.Order.{among}
 use Rattle.rules.specs.Parts.{groupsIn, receiverOf, sizeOfAll}
 use Rattle.rules.specs.Combine.{joined}
 use Rattle.rules.specs.Split.{groupsFor}
 use Rattle.rules.proofs.Tests.{same-eq}
-use Rattle.lines.specs.Cut.{firstLine, firstRecord, lineLen}
+use Rattle.lines.specs.Cut.{firstLine, firstRecord}
 use Rattle.lines.specs.Cutting.{first-of}
 use Rattle.lines.proofs.Fronts.{begins-front}
 use Rattle.marks.specs.Marks.{markLen}
@@ -25,7 +24,7 @@ use Rattle.slices.proofs.Writing.{wrote-put}
 use Rattle.laws.proofs.Codes.{of-own, not-of}
 use Rattle.laws.proofs.WholeLines.{wholes-stay}
 use Rattle.laws.proofs.Kept.{bytes-append, bytes-joined}
-use Rattle.groups.specs.Ahead.{Stands, Ahead, matching}
+use Rattle.groups.specs.Ahead.{Ahead, matching}
 use Rattle.groups.specs.Reading.{isFor, Stated}
 use Rattle.groups.proofs.Extents.{before, last, group-size, Next, next, none}
 use Rattle.groups.proofs.Receivers.{for-receiver}

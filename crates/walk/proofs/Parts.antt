@@ -1,11 +1,10 @@
 -- Parts of a record, from a to e, in two forms. Assumes nothing.
 use Prim.Native.Nat.{ℕ, zero, suc, _+_, _-_, _≤_, _<_}
-use mathlib.Core.Path.{_≡_, refl, ap, sym, _∙_}
+use mathlib.Core.Path.{_≡_, refl, ap, _∙_}
 use mathlib.Core.List.{[], _∷_}
-use native.Mathlib.Nat.{suc-add, zero-add}
 use native.Mathlib.Omega.{arith}
 use lib.ListN.{length, take, drop, getD}
-use lib.Seq.{slice, take-take, drop-drop, getD-drop, getD-take, take-nil}
+use lib.Seq.{slice, take-take, drop-drop, getD-drop, getD-take}
 use Rattle.rules.specs.Bytes.{Bytes}
 use Rattle.lines.proofs.Passing.{take-drop}
 

@@ -2,7 +2,7 @@ use Prim.Native.Nat.{ℕ, _+_, _-_}
 use native.Mathlib.Omega.{arith}
 use mathlib.Core.Path.{_≡_, sym, ap, _∙_}
 use lib.ListN.{take, drop, length-drop}
-use Rattle.digits.specs.Reading.{amountIn, amountMeant}
+use Rattle.digits.specs.Reading.{amountIn}
 use Rattle.groups.proofs.FirstField.{cut-field}
 use Rattle.groups.proofs.Stating.{stated-short, stated-open, stated-field}
 use borrow.Author.Needs.{needs}

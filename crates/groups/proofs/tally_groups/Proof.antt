@@ -1,11 +1,11 @@
 use Prim.Native.Nat.{ℕ, _+_, _-_, _≤_}
 use native.Mathlib.Omega.{arith}
-use mathlib.Core.Path.{_≡_, refl, sym, ap, subst, _∙_}
+use mathlib.Core.Path.{_≡_, sym, subst, _∙_}
 use mathlib.Core.Bool.{true, false}
-use mathlib.Core.List.{List, [], _++_}
+use mathlib.Core.List.{List}
 use lib.ListN.{length, take, drop}
 use Rattle.rules.specs.Bytes.{Bytes, sameBytes}
-use Rattle.rules.specs.Lines.{groupHeader, codeBytes, linesOf, Record, recordBytes}
+use Rattle.rules.specs.Lines.{groupHeader, codeBytes, linesOf, Record}
 use Rattle.groups.specs.Ahead.{Ahead, matching}
 use Rattle.groups.specs.Reading.{isFor, Stated}
 use Rattle.rules.specs.Numbers.{Sum, _⊕_, magnitudes, most}
