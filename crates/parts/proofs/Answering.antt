@@ -1,7 +1,7 @@
 -- A detail's answer, by what the search finds in its record. Assumes nothing.
 use Prim.Native.Nat.{ℕ, _+_, _-_, _≤_, _<_}
 use native.Mathlib.Omega.{arith}
-use mathlib.Core.Path.{_≡_, refl, sym, ap, subst, _∙_}
+use mathlib.Core.Path.{_≡_, refl, sym, ap, _∙_}
 use mathlib.Core.Bool.{Bool, true, false, cond, not}
 use mathlib.Core.List.{List, [], _∷_}
 use mathlib.Core.Option.{none, some}
@@ -10,13 +10,13 @@ use lib.Seq.{length-take-le}
 use Rattle.rules.specs.Bytes.{Bytes, slash, isEmpty, just}
 use Rattle.rules.specs.Numbers.{number, numberFrom, withoutSign}
 use Rattle.rules.specs.Outcome.{Outcome, refused, fine, _>>=_, orElse}
-use Rattle.rules.specs.Lines.{detail, Record, linesOf, recordBytes}
+use Rattle.rules.specs.Lines.{detail, Record, recordBytes}
 use Rattle.rules.specs.Grammar.{Kind, detailType, amount, text, fieldsOf}
-use Rattle.rules.specs.Records.{Field, the, walkRecord}
-use Rattle.rules.specs.Parts.{Piece, detailPieceAt, partBytes, fieldsIn, firstFields, Detail, detailIn, detailAt}
-use Rattle.rules.specs.Answers.{PartAnswer, partAnswer, DetailAnswer, noDetail, isGiven, orZero, detailAnswer, detailOfFile}
+use Rattle.rules.specs.Records.{Field, the}
+use Rattle.rules.specs.Parts.{Piece, detailPieceAt, partBytes, fieldsIn, firstFields, detailIn, detailAt}
+use Rattle.rules.specs.Answers.{PartAnswer, partAnswer, noDetail, isGiven, orZero, detailAnswer, detailOfFile}
 use Rattle.rules.proofs.Tests.{Known, holds, fails, known}
-use Rattle.seek.specs.Seeking.{Found, nothingFound, seekLines, inDetail}
+use Rattle.seek.specs.Seeking.{Found, seekLines, inDetail}
 use Rattle.seek.proofs.Agreeing.{found-is}
 use Rattle.seek.proofs.Sighting.{part-of-part}
 use Rattle.parts.specs.Meanings.{oneIf}

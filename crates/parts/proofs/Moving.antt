@@ -10,7 +10,6 @@ use Rattle.rules.specs.Lines.{Code, Record, recordBytes, fileRecords}
 use Rattle.rules.specs.Parts.{pieces, Piece, Pieces, pieceFrom, pieceIn, partBytes, sizeOfAll}
 use Rattle.rules.specs.Answers.{PartAnswer, partAnswer}
 use Rattle.rules.proofs.Binds.{refused-fine}
-use Rattle.parts.specs.Meanings.{Inside}
 use Rattle.parts.specs.Enclosing.{Envelope, Finds, Stands, Outer}
 
 -- ---- places counted from p bytes before

@@ -1,6 +1,6 @@
 -- An accepted file, its groups and its accounts are envelopes, and slices of the file that read as themselves; its details are 16s that were read. Assumes nothing.
 use Prim.Native.Nat.{ℕ, _+_, _<_}
-use mathlib.Core.Path.{_≡_, refl, sym, ap, subst, _∙_}
+use mathlib.Core.Path.{_≡_, refl, ap, subst, _∙_}
 use mathlib.Core.List.{List, [], _∷_, _++_, append-nil}
 use lib.Dec.{T}
 use lib.ListN.{length, take, drop}
@@ -27,7 +27,7 @@ use Rattle.laws.proofs.Groups.{decomposed, good-kept}
 use Rattle.laws.proofs.Slices.{piece-has, group-part, account-part, detail-part}
 use Rattle.laws.proofs.FileTheorems.{group-is-slice, account-is-slice, detail-is-slice, reader-numbers}
 use Rattle.groups.proofs.Records.{lines-are}
-use Rattle.parts.specs.Enclosing.{Apart, Envelope, Stands, Outer}
+use Rattle.parts.specs.Enclosing.{Apart, Envelope, Outer}
 use Rattle.parts.proofs.Moving.{in-refuses, bind-refuses}
 
 -- ---- envelopes

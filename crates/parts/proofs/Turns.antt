@@ -5,15 +5,15 @@ use mathlib.Core.Path.{_≡_, refl, sym, ap, subst, _∙_}
 use mathlib.Core.Bool.{Bool, true, false, _||_}
 use mathlib.Core.List.{List, [], _∷_, _++_, append-assoc}
 use lib.Dec.{T}
-use lib.ListN.{length, take, drop, length-drop}
+use lib.ListN.{length, take, drop}
 use lib.Seq.{drop-drop}
 use Rattle.rules.specs.Bytes.{Bytes, sameBytes}
 use Rattle.rules.specs.Outcome.{Outcome}
-use Rattle.rules.specs.Lines.{Line, linesOf, Code, fileHeader, groupHeader, accountHeader, detail, accountTrailer, groupTrailer, fileTrailer, continuation, codeBytes, Record, recordSize, recordBytes, fileRecords}
+use Rattle.rules.specs.Lines.{linesOf, Code, fileHeader, groupHeader, accountHeader, detail, accountTrailer, groupTrailer, fileTrailer, continuation, codeBytes, Record, recordSize, recordBytes, fileRecords}
 use Rattle.rules.specs.Parts.{heads, pieces, Piece, Pieces, pieceFrom, pieceIn, partBytes, sizeOfAll}
 use Rattle.rules.specs.Combine.{joined}
-use Rattle.rules.specs.Answers.{PartAnswer, partAnswer}
-use Rattle.rules.proofs.Tests.{is-true, same-eq}
+use Rattle.rules.specs.Answers.{partAnswer}
+use Rattle.rules.proofs.Tests.{is-true}
 use Rattle.lines.specs.Cut.{firstRecord}
 use Rattle.lines.specs.Cutting.{first-of, line-some}
 use Rattle.lines.specs.OneRecord.{first-size}

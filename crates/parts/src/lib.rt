@@ -122,7 +122,7 @@ pub fn find_account(file: &[u8], g: u64, n: u64) -> Part
 }
 
 // Where the detail of this number in that account stands: its 16, to the end of its last line.
-pub fn find_detail(file: &[u8], g: u64, a: u64, n: u64) -> Part
+fn find_detail(file: &[u8], g: u64, a: u64, n: u64) -> Part
     ensures { λ r. ⌜ (partMeant r ≡ partAnswer (rules.detailPieceAt (now (file .entry)) g a n)) × Inside (now (file .entry)) (partMeant r) ⌝ }
 {
     part_within(

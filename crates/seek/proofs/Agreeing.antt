@@ -1,22 +1,22 @@
 -- The search finds the first field of its kind among those that the rules' walk gives of an accepted record. Assumes nothing.
 use Prim.Native.Nat.{ℕ, _+_}
 use mathlib.Core.Path.{_≡_, refl, sym, ap, subst, _∙_}
-use mathlib.Core.Bool.{Bool, true, false, cond}
+use mathlib.Core.Bool.{true, false, cond}
 use mathlib.Core.List.{List, [], _∷_, _++_, append-assoc, append-nil}
 use lib.Dec.{eqb}
 use lib.ListN.{length}
 use Rattle.rules.specs.Bytes.{Bytes, trimmed}
-use Rattle.rules.specs.Outcome.{Outcome, refused, fine, _>>=_, check}
+use Rattle.rules.specs.Outcome.{fine, check}
 use Rattle.rules.specs.Lines.{Line, sizeOf, Code, Record}
 use Rattle.rules.specs.Cells.{Mark, atComma, atSlash, atLineEnd, Cell, markPlace, cellsOf, leadingBlanks}
-use Rattle.rules.specs.Grammar.{Kind, Judged, bad, good, judged, takeNext, nextKind, sameKind, isText, mayLack, fieldsOf}
+use Rattle.rules.specs.Grammar.{Kind, Judged, bad, good, takeNext, nextKind, sameKind, isText, mayLack, fieldsOf}
 use Rattle.rules.specs.Records.{Field, Walk, behind, taken, pastSlash, takenTo, walkCells, walkLines, walkRecord, the}
 use Rattle.rules.proofs.Tests.{Known, holds, fails, known}
 use Rattle.rules.proofs.Binds.{refused-fine, from-bind, then-fine, fine-same}
 use Rattle.laws.specs.Words.{All}
 use Rattle.laws.proofs.Lists.{all-both}
 use Rattle.laws.proofs.Walks.{cells-keep, lines-keep}
-use Rattle.seek.specs.Seeking.{Sighted, seen, onto, lost, onward, sight, isOpen, seekCells, Found, nothingFound, orBehind, seekLines}
+use Rattle.seek.specs.Seeking.{Sighted, seen, onto, lost, onward, sight, isOpen, seekCells, Found, orBehind, seekLines}
 
 -- ---- the walk's own steps
 

@@ -2,7 +2,7 @@
 use Prim.Native.Nat.{ℕ, _+_, _-_}
 use native.Mathlib.Omega.{arith}
 use mathlib.Core.Path.{_≡_, refl, sym, ap, _∙_}
-use mathlib.Core.Bool.{Bool, true, false, cond, _||_}
+use mathlib.Core.Bool.{Bool, true, false, cond}
 use mathlib.Core.List.{List, [], _∷_, _++_}
 use mathlib.Core.Logic.{_⊎_, inl, inr}
 use lib.ListN.{take, drop}
@@ -19,7 +19,7 @@ use Rattle.digits.specs.Reading.{valueOf, amountIn}
 use Rattle.digits.proofs.Reading.{value-is}
 use Rattle.wants.specs.Wants.{forAmount, forNothing, samePurpose, purpose}
 use Rattle.kept.proofs.EachKind.{told}
-use Rattle.seek.specs.Seeking.{Sighted, seen, onto, lost, onward, sight, isOpen, seekCells, Found, nothingFound, orBehind, seekLines, inDetail}
+use Rattle.seek.specs.Seeking.{Sighted, seen, onto, lost, onward, sight, isOpen, seekCells, Found, orBehind, seekLines, inDetail}
 
 -- ---- what holds of every good field of a kind holds of what is found
 

@@ -1,15 +1,15 @@
 -- What the search gives at each place that the code reaches: in a line by the length of its first field, in a record by its first line. Assumes nothing.
 use Prim.Native.Nat.{ℕ, suc, _+_, _-_, _≤_, _<_}
 use native.Mathlib.Omega.{arith}
-use mathlib.Core.Path.{_≡_, refl, sym, ap, _∙_}
-use mathlib.Core.Bool.{Bool, true, false}
+use mathlib.Core.Path.{_≡_, sym, ap, _∙_}
+use mathlib.Core.Bool.{true, false}
 use mathlib.Core.List.{List, [], _∷_}
 use borrow.Author.Tests.{eqb-true, eqb-false}
 use lib.Dec.{eqb}
 use lib.ListN.{length, take, drop, getD, length-take, length-drop, drop-of-length-le}
 use lib.Seq.{slice, drop-drop}
 use Rattle.rules.specs.Bytes.{Bytes, slash, trimmed}
-use Rattle.rules.specs.Lines.{Line, sizeOf, linesOf}
+use Rattle.rules.specs.Lines.{sizeOf, linesOf}
 use Rattle.rules.specs.Cells.{Cell, cellsFrom, cellsOf}
 use Rattle.rules.specs.Grammar.{Kind, bad, good, andThen, takeNext, nextKind, sameKind, isText}
 use Rattle.rules.proofs.Tests.{Known, holds, fails, known}
@@ -23,7 +23,7 @@ use Rattle.kept.proofs.EachKind.{told}
 use Rattle.lines.proofs.Passing.{take-drop}
 use Rattle.walk.proofs.Parts.{part-slice, part-front}
 use Rattle.walk.proofs.FirstCell.{first-open, first-comma, first-slash, comma-there, Starts, starts, cells-start}
-use Rattle.seek.specs.Seeking.{Sighted, seen, onto, lost, onward, sight, seekCells, Found, nothingFound, orBehind, seekLines}
+use Rattle.seek.specs.Seeking.{Sighted, seen, onto, lost, onward, sight, seekCells, nothingFound, orBehind, seekLines}
 
 -- ---- a part of a part
 

@@ -3,7 +3,7 @@ use Prim.Native.Nat.{ℕ, _+_}
 use mathlib.Core.Bool.{Bool, true, false, cond}
 use mathlib.Core.List.{List, [], _∷_}
 use Rattle.rules.specs.Bytes.{Bytes, trimmed}
-use Rattle.rules.specs.Lines.{Line, sizeOf, linesOf, detail, Record}
+use Rattle.rules.specs.Lines.{sizeOf, linesOf, detail, Record}
 use Rattle.rules.specs.Cells.{Mark, atComma, atSlash, atLineEnd, Cell, cellsOf}
 use Rattle.rules.specs.Grammar.{Kind, Judged, bad, good, takeNext, nextKind, sameKind, isText, fieldsOf}
 

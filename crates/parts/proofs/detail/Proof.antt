@@ -1,8 +1,7 @@
 use Prim.Native.Nat.{zero-le}
 use native.Mathlib.Omega.{arith}
-use mathlib.Core.Path.{sym}
 use Rattle.parts.specs.Meanings.{partMeant}
-use Rattle.parts.proofs.Answering.{Reads, detail-refused, detail-found}
+use Rattle.parts.proofs.Answering.{detail-refused, detail-found}
 use borrow.Author.Needs.{needs}
 use Rattle.parts.proofs.detail.Statement.{statement}
 use Rattle.parts.proofs.detail.Tie as tie

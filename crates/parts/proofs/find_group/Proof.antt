@@ -1,5 +1,5 @@
 use native.Mathlib.Omega.{arith}
-use mathlib.Core.Path.{_≡_, sym, ap, subst, _∙_}
+use mathlib.Core.Path.{sym, ap, subst, _∙_}
 use Rattle.reader.specs.declared.Verdict.{Verdict}
 use Rattle.reader.specs.Meanings.{verdictMeant}
 use Rattle.parts.specs.Meanings.{Inside}

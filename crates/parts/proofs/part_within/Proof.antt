@@ -1,6 +1,5 @@
-use Prim.Native.Nat.{_+_, _≤_}
 use native.Mathlib.Omega.{arith}
-use mathlib.Core.Path.{_≡_, sym, subst, _∙_}
+use mathlib.Core.Path.{sym, subst, _∙_}
 use Rattle.codes.specs.Meanings.{codeMeant}
 use Rattle.parts.specs.Meanings.{partMeant, Inside}
 use Rattle.parts.proofs.Moving.{same-refusal, inner-fits, inner-refused, inner-found}

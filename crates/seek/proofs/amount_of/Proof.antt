@@ -1,7 +1,6 @@
-use mathlib.Core.Path.{_≡_, ap, _∙_}
-use mathlib.Core.Bool.{Bool, not}
-use lib.ListN.{take, drop}
-use Rattle.rules.specs.Bytes.{Bytes, isEmpty}
+use mathlib.Core.Path.{ap, _∙_}
+use mathlib.Core.Bool.{not}
+use Rattle.rules.specs.Bytes.{isEmpty}
 use Rattle.rules.specs.Grammar.{amount}
 use Rattle.digits.specs.Reading.{valueOf}
 use Rattle.seek.proofs.Reading.{spot-bytes, amount-in}

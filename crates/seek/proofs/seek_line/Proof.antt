@@ -2,14 +2,13 @@ use Prim.Native.Nat.{ℕ, _+_, _-_, _≤_, _<_, zero-le}
 use native.Mathlib.Omega.{arith}
 use native.Mathlib.Nat.{add-zero}
 use mathlib.Core.Path.{_≡_, sym, ap, _∙_}
-use mathlib.Core.Bool.{Bool, true, false}
+use mathlib.Core.Bool.{Bool, false}
 use mathlib.Core.List.{List}
 use lib.ListN.{length, take, drop, getD, length-drop}
 use lib.Seq.{take-all, getD-drop}
-use Rattle.rules.specs.Bytes.{Bytes, slash}
+use Rattle.rules.specs.Bytes.{Bytes}
 use Rattle.rules.specs.Cells.{cellsFrom}
 use Rattle.rules.specs.Grammar.{Kind, good, takeNext, nextKind, isText}
-use Rattle.wants.specs.declared.Taken.{Taken}
 use Rattle.wants.specs.Wants.{wantedOf}
 use Rattle.wants.specs.Takes.{judgedOf}
 use Rattle.fields.specs.declared.Cut.the-variants as cut
