@@ -56,7 +56,7 @@ fn walk_lines(rest: &[u8], rec: &[u8], first: Want, before: u64) -> Walked
             if kept::is_kept(want) {
                 kept = kept.keep(want, Place(a), &rec[a..f]);
             }
-            match fields::take_field(want, &rec[a..f]) {
+            match fields::take_detail_first(want, &rec[a..f]) {
                 Taken::Refused(k) => break 'walk Walked::Refused(k, Place(a)),
                 Taken::Next(next) => want = next,
             }

@@ -199,7 +199,7 @@ kept-is c =
 -- ---- the field is judged
 
 abbrev Judged : Type 0
-Judged = tie.After-take-field Inv-loop μ-loop Inv-walk μ-walk
+Judged = tie.After-take-detail-first Inv-loop μ-loop Inv-walk μ-walk
 
 abbrev noted : Judged → Noted
 noted c = c .before .before
@@ -207,8 +207,8 @@ noted c = c .before .before
 abbrev field : Judged → Field
 field c = noted-field (noted c)
 
-judged-is : (c : Judged) → judgedOf (c .take-field .result) ≡ takeNext (here (head (field c)) .wanted) (bytes (field c))
-judged-is c = c .take-field .ensures ∙ ap (λ (bs : Bytes). takeNext (here (head (field c)) .wanted) bs) (lent (field c))
+judged-is : (c : Judged) → judgedOf (c .take-detail-first .result) ≡ takeNext (here (head (field c)) .wanted) (bytes (field c))
+judged-is c = c .take-detail-first .ensures ∙ ap (λ (bs : Bytes). takeNext (here (head (field c)) .wanted) bs) (lent (field c))
 
 abbrev Good : Type 0
 Good = tie.After-known-told3 Inv-loop μ-loop Inv-walk μ-walk
@@ -294,8 +294,8 @@ add-f c = omega (arith, inside c, ends (line (head c)))
 part-keep-end : tie.Need-part-keep-end Inv-loop μ-loop Inv-walk μ-walk
 part-keep-end c = let g = c .before .before in omega (arith, inside g, ends (line (head g)))
 
-part-take-field-end : tie.Need-part-take-field-end Inv-loop μ-loop Inv-walk μ-walk
-part-take-field-end c = let g = noted-field c in omega (arith, inside g, ends (line (head g)))
+part-take-detail-first-end : tie.Need-part-take-detail-first-end Inv-loop μ-loop Inv-walk μ-walk
+part-take-detail-first-end c = let g = noted-field c in omega (arith, inside g, ends (line (head g)))
 
 walk-less : tie.Need-walk-less Inv-loop μ-loop Inv-walk μ-walk
 walk-less c = let l = line (head (good-field (c .before))) in omega (arith, behind l, within l)
@@ -452,7 +452,7 @@ walk-lines-spec =
     (λ c κs. search needs)
     (λ c. search needs)
     (λ c. search needs)
-    part-take-field-end
+    part-take-detail-first-end
     (λ c κs. search needs)
     (λ c. search needs)
     (λ c. search needs)
