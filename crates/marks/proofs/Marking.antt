@@ -1,25 +1,23 @@
 -- The next line of two codes, byte by byte, block by block, and in lines. Assumes nothing.
-use Prim.Native.Nat.{ℕ, zero, suc, _+_, _≤_, _<_}
+use Prim.Native.Nat.{ℕ, zero, suc, _+_, _≤_, _<_, min}
 use native.Mathlib.Nat.{add-zero}
 use native.Mathlib.Numerals.{add-one}
 use native.Mathlib.Omega.{arith}
 use mathlib.Core.Path.{_≡_, refl, sym, ap, subst, _∙_}
-use mathlib.Core.Bool.{Bool, true, false, cond, _&&_, _||_}
+use mathlib.Core.Bool.{Bool, true, false, cond, not, _||_}
 use mathlib.Core.List.{List, [], _∷_, append-nil}
 use borrow.Author.Tests.{eq-eqb, ne-eqb}
-use lib.Dec.{eqb}
-use lib.ListN.{length, take, drop, getD, length-append, length-drop, drop-of-length-le}
-use lib.Seq.{drop-cons, drop-drop}
-use Rattle.rules.specs.Bytes.{Bytes, LF, comma, sameBytes}
-use Rattle.rules.specs.Lines.{lacking, lf, Line, sizeOf, wholeLine, endBytes, longerLine, longerFirst, linesOf, lineBytes, Code, codeBytes, begins}
+use lib.Dec.{eqb, eqb→eq}
+use lib.ListN.{length, take, drop, getD, length-append, drop-of-length-le}
+use lib.Seq.{drop-cons}
+use Rattle.rules.specs.Bytes.{Bytes, LF, sameBytes}
+use Rattle.rules.specs.Lines.{Line, sizeOf, endBytes, longerLine, longerFirst, linesOf, lineBytes, Code, codeBytes, begins}
 use Rattle.rules.proofs.Tests.{Known, holds, fails, known}
 use Rattle.rules.proofs.LineLaws.{longer-bytes}
-use Rattle.lines.specs.Cut.{lineLen, firstLine}
 use Rattle.lines.specs.Cutting.{first-of}
-use Rattle.lines.specs.OneRecord.{first-size}
 use Rattle.lines.proofs.Fronts.{begins-front}
 use Rattle.marks.specs.declared.Digits.{Digits}
-use Rattle.marks.specs.Marks.{bytesMeant, marked, lineEnds, aheadLen, Quiet, isTwo, lineMark, markLen}
+use Rattle.marks.specs.Marks.{bytesMeant, marked, lineEnds, aheadLen, Quiet, mayMark, EndIs, markLen}
 
 -- ---- byte by byte
 
@@ -44,6 +42,14 @@ module _ (x y s : Bytes) (i : ℕ) where
   pub no-end : (getD s i 0 ≡ LF → ⊥) → false ≡ lineEnds x y (getD s i 0) (drop (suc i) s)
   no-end n = rw (ne-eqb (getD s i 0) LF n)
 
+-- the first such byte before e, or none
+module _ (x y s : Bytes) (a e r : ℕ) (f : EndIs x y s a e r) (h : e ≤ length s) where
+  pub end-found : r < e → r + 1 ≡ a + aheadLen x y (drop a s)
+  end-found l = sym (f .passed ∙ ahead-stop x y s r (omega arith) (f .found l))
+
+  pub end-none : (r < e → ⊥) → a + aheadLen x y (drop a s) ≡ e + aheadLen x y (drop e s)
+  end-none n = let z : r ≡ e = omega (arith, f .within) in f .passed ∙ ap (λ (k : ℕ). k + aheadLen x y (drop k s)) z
+
 -- ---- block by block
 
 pub ahead-quiet : (x y s : Bytes) (n i : ℕ) → i + n ≤ length s → Quiet x y s i n → i + aheadLen x y (drop i s) ≡ (i + n) + aheadLen x y (drop (i + n) s)
@@ -56,34 +62,44 @@ ahead-quiet x y s (suc n) i h q =
     (λ k l. let d : i + suc k ≡ (i + 1) + k = omega arith in subst (λ (m : ℕ). lineEnds x y (getD s m 0) (drop (suc m) s) ≡ false) d (q (suc k) (omega arith)))
     ∙ ap (λ (m : ℕ). m + aheadLen x y (drop m s)) e
 
--- three bytes that end no line and begin none with these digits
-and-no : (t u : Bool) → t ≡ false → (t && u) ≡ false
-and-no true u e = cc
-and-no false u e = refl
+-- the tests of a block: where they give 0, the two bytes end no line or begin none with this or that digit
+module _ (x y a b ends one other either both : ℕ) (e : ends ≡ cond (eqb a LF) 255 0) (p : one ≡ cond (eqb b x) 255 0) (q : other ≡ cond (eqb b y) 255 0)
+    (l : (one ≤ either) × (other ≤ either)) (m : both ≡ min ends either) where
+  pub tests-fail : both ≡ 0 → mayMark x y a b ≡ false
+  tests-fail z = go (known (eqb a LF)) (known (eqb x b)) (known (eqb y b))
+    where
+      go : Known (eqb a LF) → Known (eqb x b) → Known (eqb y b) → mayMark x y a b ≡ false
+      go (fails f) g h = rw f
+      go (holds f) (fails g) (fails h) = rw (f, g, h)
+      go (holds f) (holds g) h =
+          let full : ends ≡ 255 = e ∙ rw f in
+          let same : one ≡ 255 = p ∙ rw (eq-eqb b x (sym (eqb→eq x b (rw g tt)))) in
+          absurd (omega arith)
+      go (holds f) (fails g) (holds h) =
+          let full : ends ≡ 255 = e ∙ rw f in
+          let same : other ≡ 255 = q ∙ rw (eq-eqb b y (sym (eqb→eq y b (rw h tt)))) in
+          absurd (omega arith)
 
-no-two : (d : Digits) (s : Bytes) (k : ℕ) → k + 1 < length s → isTwo d (getD s k 0) (getD s (k + 1) 0) ≡ false → sameBytes (bytesMeant d) (take 3 (drop k s)) ≡ false
+pub none-found : (n : ℕ) → not (eqb n 0) ≡ false → n ≡ 0
+none-found n e = go (known (eqb n 0))
+  where
+    go : Known (eqb n 0) → n ≡ 0
+    go (holds f) = eqb→eq n 0 (rw f tt)
+    go (fails f) = let z : true ≡ false = rw f at e in cc
+
+-- so behind the first of them no line begins with such a code
+no-code : (d : Digits) (s : Bytes) (k : ℕ) → k < length s → eqb (d .0) (getD s k 0) ≡ false → sameBytes (bytesMeant d) (take 3 (drop k s)) ≡ false
 unfolding sameBytes
-no-two d s k h e =
-    let a = drop-cons s k 0 (omega arith) in
-    let b : drop (suc k) s ≡ getD s (k + 1) 0 ∷ drop (suc (k + 1)) s = ap (λ (n : ℕ). drop n s) (sym (add-one k)) ∙ drop-cons s (k + 1) 0 h in
-    rw (a, b) (regroup (eqb (d .0) (getD s k 0)) (eqb (d .1) (getD s (k + 1) 0)) _ e)
-  where
-    regroup : (t u v : Bool) → (t && u) ≡ false → (t && (u && v)) ≡ false
-    regroup true u v p = and-no u v p
-    regroup false u v p = refl
+no-code d s k h e = rw (drop-cons s k 0 h, e)
 
-pub quiet-byte : (x y : Digits) (s : Bytes) (k : ℕ) → k + 2 < length s → lineMark x y (getD s k 0) (getD s (k + 1) 0) (getD s (k + 2) 0) ≡ false
+pub quiet-byte : (x y : Digits) (s : Bytes) (k : ℕ) → k + 1 < length s → mayMark (x .0) (y .0) (getD s k 0) (getD s (k + 1) 0) ≡ false
     → lineEnds (bytesMeant x) (bytesMeant y) (getD s k 0) (drop (suc k) s) ≡ false
-quiet-byte x y s k h e = go (known (eqb (getD s k 0) LF)) (known (isTwo x (getD s (k + 1) 0) (getD s (k + 2) 0))) (known (isTwo y (getD s (k + 1) 0) (getD s (k + 2) 0)))
+quiet-byte x y s k h e = go (known (eqb (getD s k 0) LF)) (known (eqb (x .0) (getD s (k + 1) 0))) (known (eqb (y .0) (getD s (k + 1) 0)))
   where
-    next : (d : Digits) → isTwo d (getD s (k + 1) 0) (getD s (k + 2) 0) ≡ false → sameBytes (bytesMeant d) (take 3 (drop (suc k) s)) ≡ false
-    next d f =
-        let g : (k + 1) + 1 ≡ k + 2 = omega arith in
-        subst (λ (n : ℕ). sameBytes (bytesMeant d) (take 3 (drop n s)) ≡ false) (add-one k)
-        (no-two d s (k + 1) (omega arith) (subst (λ (n : ℕ). isTwo d (getD s (k + 1) 0) (getD s n 0) ≡ false) (sym g) f))
+    next : (d : Digits) → eqb (d .0) (getD s (k + 1) 0) ≡ false → sameBytes (bytesMeant d) (take 3 (drop (suc k) s)) ≡ false
+    next d f = subst (λ (n : ℕ). sameBytes (bytesMeant d) (take 3 (drop n s)) ≡ false) (add-one k) (no-code d s (k + 1) h f)
 
-    go : Known (eqb (getD s k 0) LF) → Known (isTwo x (getD s (k + 1) 0) (getD s (k + 2) 0)) → Known (isTwo y (getD s (k + 1) 0) (getD s (k + 2) 0))
-        → lineEnds (bytesMeant x) (bytesMeant y) (getD s k 0) (drop (suc k) s) ≡ false
+    go : Known (eqb (getD s k 0) LF) → Known (eqb (x .0) (getD s (k + 1) 0)) → Known (eqb (y .0) (getD s (k + 1) 0)) → lineEnds (bytesMeant x) (bytesMeant y) (getD s k 0) (drop (suc k) s) ≡ false
     go (fails p) q r = rw p
     go (holds p) (holds q) r = let z : true ≡ false = rw (p, q) at e in cc
     go (holds p) (fails q) (holds r) = let z : true ≡ false = rw (p, q, r) at e in cc

@@ -1,7 +1,7 @@
 -- Lines of two codes: where the next one starts, in bytes as the code meets them, and in lines. Assumes nothing.
-use Prim.Native.Nat.{ℕ, suc, _+_, _<_}
+use Prim.Native.Nat.{ℕ, suc, _+_, _≤_, _<_}
 use mathlib.Core.Path.{_≡_}
-use mathlib.Core.Bool.{Bool, false, cond, _&&_, _||_}
+use mathlib.Core.Bool.{Bool, true, false, cond, _&&_, _||_}
 use mathlib.Core.List.{List, [], _∷_}
 use lib.Dec.{eqb}
 use lib.ListN.{take, drop, getD}
@@ -32,12 +32,15 @@ aheadLen x y (b ∷ bs) = cond (lineEnds x y b bs) 1 (suc (aheadLen x y bs))
 abbrev pub Quiet : Bytes → Bytes → Bytes → ℕ → ℕ → Type 0
 Quiet x y s a n = (k : ℕ) → k < n → lineEnds x y (getD s (a + k) 0) (drop (suc (a + k)) s) ≡ false
 
--- two bytes are these digits; three bytes end a line and begin one with these or those digits
-abbrev pub isTwo : Digits → ℕ → ℕ → Bool
-isTwo d b c = eqb (d .0) b && eqb (d .1) c
+-- two bytes end a line and begin one with this or that digit
+abbrev pub mayMark : ℕ → ℕ → ℕ → ℕ → Bool
+mayMark x y a b = eqb a LF && (eqb x b || eqb y b)
 
-abbrev pub lineMark : Digits → Digits → ℕ → ℕ → ℕ → Bool
-lineMark x y a b c = eqb a LF && (isTwo x b c || isTwo y b c)
+-- from a on, r is the first byte behind which a line begins so, of those before e; or e
+pub record EndIs (x y s : Bytes) (a e r : ℕ) : Type 0 where
+  pub passed : a + aheadLen x y (drop a s) ≡ r + aheadLen x y (drop r s)
+  pub found : r < e → lineEnds x y (getD s r 0) (drop (suc r) s) ≡ true
+  pub within : (a ≤ r) × (r ≤ e)
 
 -- ---- in lines
 

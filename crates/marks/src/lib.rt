@@ -1,16 +1,17 @@
 // Where lines of given codes stand, found by their codes alone: blocks without one are passed by vector code.
 use codes::Code;
 ghost use mathlib.Core.Path.{_≡_};
-ghost use mathlib.Core.Bool.{false};
-ghost use Prim.Native.Nat.{suc, _+_, _-_, _≤_, _<_};
+ghost use mathlib.Core.Bool.{false, cond};
+ghost use Prim.Native.Nat.{suc, _+_, _-_, _≤_, _<_, min};
+ghost use lib.Dec.{eqb};
 ghost use lib.ListN.{length, take, drop, getD};
 ghost use Rattle.rules.specs.Bytes.{sameBytes};
 ghost use Rattle.rules.specs.Lines.{codeBytes, linesOf};
 ghost use Rattle.codes.specs.Meanings.{codeMeant};
-ghost use Rattle.marks.specs.Marks.{bytesMeant, isTwo, lineMark, Quiet, marked, lineEnds, aheadLen, markLen};
+ghost use Rattle.marks.specs.Marks.{bytesMeant, mayMark, Quiet, marked, lineEnds, aheadLen, EndIs, markLen};
 
 // So many bytes are tested at once.
-const BLOCK: usize = 64;
+const BLOCK: usize = 128;
 
 // The two digits of a code.
 struct Digits(u8, u8);
@@ -49,60 +50,59 @@ fn is_marked(s: &[u8], at: usize, x: Digits, y: Digits) -> bool
     lines::begins_with(s, at, y.0, y.1)
 }
 
-// The two bytes are these digits.
-fn is_two(b: u8, c: u8, d: Digits) -> bool
-    ensures { λ r. ⌜ r ≡ isTwo d b c ⌝ }
+// 255 where the two bytes are the same, else 0.
+fn same(a: u8, b: u8) -> u8
+    ensures { λ r. ⌜ r ≡ cond (eqb a b) 255 0 ⌝ }
 {
-    if d.0 != b {
-        return false;
+    if a == b {
+        return 255;
     }
-    d.1 == c
+    0
 }
 
-// Found before, or these three bytes end a line and begin one with one of the two codes.
-fn meets(found: bool, a: u8, b: u8, c: u8, x: Digits, y: Digits) -> bool
-    ensures { λ r. ⌜ (r ≡ false → (found ≡ false) × (lineMark x y a b c ≡ false)) ⌝ }
+// The smaller of two.
+fn smaller(a: u8, b: u8) -> u8
+    ensures { λ r. ⌜ r ≡ min a b ⌝ }
 {
-    if a != b'\n' {
-        return found;
+    if a < b {
+        return a;
     }
-    if is_two(b, c, x) {
-        return true;
-    }
-    if is_two(b, c, y) {
-        return true;
-    }
-    found
+    b
 }
 
-// Behind some byte of the block at `at` such a line may begin.
+// The larger of two.
+fn larger(a: u8, b: u8) -> u8
+    ensures { λ r. ⌜ (a ≤ r) × (b ≤ r) ⌝ }
+{
+    if a < b {
+        return b;
+    }
+    a
+}
+
+// Above 0 where something was found before, or where these two bytes end a line and begin one with x or y.
+fn meets(found: u8, a: u8, b: u8, x: u8, y: u8) -> u8
+    ensures { λ r. ⌜ (r ≡ 0 → (found ≡ 0) × (mayMark x y a b ≡ false)) ⌝ }
+{
+    larger(
+        found,
+        smaller(same(a, b'\n'), larger(same(b, x), same(b, y))),
+    )
+}
+
+// Behind some byte of the block at `at` such a line may begin; no test leaves the block early, so it compiles to vector code.
 fn block_marked(s: &[u8], at: usize, x: Digits, y: Digits) -> bool
-    requires { ⌜ at + 66 ≤ length (now s) ⌝ }
-    ensures { λ r. ⌜ (r ≡ false → Quiet (bytesMeant x) (bytesMeant y) (now (s .entry)) at 64) ⌝ }
+    requires { ⌜ at + 128 < length (now s) ⌝ }
+    ensures { λ r. ⌜ (r ≡ false → Quiet (bytesMeant x) (bytesMeant y) (now (s .entry)) at 128) ⌝ }
 {
-    let mut found = false;
+    let mut found: u8 = 0;
     let mut i: usize = 0;
     while i < BLOCK {
         let k = at + i;
-        found = meets(found, s[k], s[k + 1], s[k + 2], x, y);
+        found = meets(found, s[k], s[k + 1], x.0, y.0);
         i += 1;
     }
-    found
-}
-
-// A place from `at` on with no such line before it.
-fn skip_quiet(s: &[u8], at: usize, x: Digits, y: Digits) -> usize
-    requires { ⌜ at ≤ length (now s) ⌝ }
-    ensures { λ r. ⌜ (at + aheadLen (bytesMeant x) (bytesMeant y) (drop at (now (s .entry))) ≡ r + aheadLen (bytesMeant x) (bytesMeant y) (drop r (now (s .entry)))) × (r ≤ length (now (s .entry))) ⌝ }
-{
-    let mut i = at;
-    while BLOCK + 2 <= s.len() - i {
-        if block_marked(s, i, x, y) {
-            return i;
-        }
-        i += BLOCK;
-    }
-    i
+    found != 0
 }
 
 // The byte at `at` ends a line, and such a line begins behind it.
@@ -116,18 +116,42 @@ fn ends_before_mark(s: &[u8], at: usize, x: Digits, y: Digits) -> bool
     is_marked(s, at + 1, x, y)
 }
 
-// Where the next such line behind this one starts, or the end.
-fn mark_behind(s: &[u8], at: usize, x: Digits, y: Digits) -> usize
-    ensures { λ r. ⌜ (r ≡ at + aheadLen (bytesMeant x) (bytesMeant y) (drop at (now (s .entry)))) × (r ≤ length (now (s .entry)) + (at - length (now (s .entry)))) ⌝ }
+// The first byte from `at` on that ends a line before such a line, of those before e; or e.
+fn end_before_mark(s: &[u8], at: usize, e: usize, x: Digits, y: Digits) -> usize
+    requires { ⌜ (at ≤ e) × (e ≤ length (now s)) ⌝ }
+    ensures { λ r. ⌜ EndIs (bytesMeant x) (bytesMeant y) (now (s .entry)) at e r ⌝ }
 {
     let mut i = at;
-    while i < s.len() {
+    while i < e {
         if ends_before_mark(s, i, x, y) {
-            return i + 1;
+            return i;
         }
         i += 1;
     }
     i
+}
+
+// Where the next such line behind this one starts, or the end.
+fn mark_behind(s: &[u8], at: usize, x: Digits, y: Digits) -> usize
+    requires { ⌜ at ≤ length (now s) ⌝ }
+    ensures { λ r. ⌜ (r ≡ at + aheadLen (bytesMeant x) (bytesMeant y) (drop at (now (s .entry)))) × (r ≤ length (now (s .entry))) ⌝ }
+{
+    let mut i = at;
+    while BLOCK < s.len() - i {
+        let behind = i + BLOCK;
+        if block_marked(s, i, x, y) {
+            let e = end_before_mark(s, i, behind, x, y);
+            if e < behind {
+                return e + 1;
+            }
+        }
+        i = behind;
+    }
+    let e = end_before_mark(s, i, s.len(), x, y);
+    if e < s.len() {
+        return e + 1;
+    }
+    e
 }
 
 // Where the first line of one of the two codes starts, from the line at `at` on; or the end.
@@ -142,5 +166,5 @@ pub fn next_mark(s: &[u8], at: usize, one: Code, other: Code) -> usize
     if is_marked(s, at, x, y) {
         return at;
     }
-    mark_behind(s, skip_quiet(s, at, x, y), x, y)
+    mark_behind(s, at, x, y)
 }

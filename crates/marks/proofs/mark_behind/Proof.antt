@@ -3,61 +3,47 @@ use native.Mathlib.Omega.{arith}
 use mathlib.Core.Path.{_≡_, sym, _∙_}
 use lib.ListN.{length, drop}
 use Rattle.marks.specs.Marks.{bytesMeant, aheadLen}
-use Rattle.marks.proofs.Marking.{ahead-none, ahead-stop, ahead-step}
+use Rattle.marks.proofs.Marking.{ahead-none, ahead-quiet, end-found, end-none}
 use borrow.Author.Needs.{needs}
 use Rattle.marks.proofs.mark_behind.Statement.{statement}
 use Rattle.marks.proofs.mark_behind.Tie as tie
-use Rattle.marks.proofs.mark_behind.Reads as reads
-use Rattle.marks.proofs.mark_behind.Lts as lts
-use Rattle.marks.proofs.ends_before_mark.Reads as ends-before-mark-reads
 
 abbrev Inv-loop : tie.InvT-loop
-Inv-loop s at x y i₀ i = (i ≤ length s + (at - length s)) × (at + aheadLen (bytesMeant x) (bytesMeant y) (drop at s) ≡ i + aheadLen (bytesMeant x) (bytesMeant y) (drop i s))
+Inv-loop s at x y i₀ i = (i ≤ length s) × (at + aheadLen (bytesMeant x) (bytesMeant y) (drop at s) ≡ i + aheadLen (bytesMeant x) (bytesMeant y) (drop i s))
 
 abbrev μ-loop : tie.MeasureT-loop
 μ-loop s at x y i₀ i = length s - i
 
--- src/lib.rt:124:5
-loop-holds : tie.Need-loop-holds Inv-loop μ-loop
-loop-holds c = search needs
-
--- src/lib.rt:125:12
-ends-before-mark-requires : tie.Need-ends-before-mark-requires Inv-loop μ-loop
-ends-before-mark-requires c κs = search needs
-
--- src/lib.rt:126:20
-add-result : tie.Need-add-result Inv-loop μ-loop
-add-result c = search needs
-
--- src/lib.rt:126:13
 returns : tie.Need-returns Inv-loop μ-loop
 returns c =
-    let a = c .before .before .before .before .before .args in
-    let i = c .before .before .before .loop .i in
-    let stop = ahead-stop (bytesMeant (a .x)) (bytesMeant (a .y)) (a .s .now) i (c .before .before .loop-test .taken) (sym (c .before .ends-before-mark .ensures) ∙ c .if1 .taken) in
-    (sym (c .before .before .before .loop .inv .1 ∙ stop), omega arith)
+    let a = c .before .before .before .before .before .before .before .args in
+    let l = c .before .before .before .before .before .loop in
+    (end-found (bytesMeant (a .x)) (bytesMeant (a .y)) (a .s .now) (l .i) (l .i + 128) _ (c .before .end-before-mark .ensures) (omega arith) (c .if2 .taken) ∙ sym (l .inv .1), omega arith)
 
--- src/lib.rt:128:9
-add-i : tie.Need-add-i Inv-loop μ-loop
-add-i c = search needs
-
--- src/lib.rt:124:5
-loop-less : tie.Need-loop-less Inv-loop μ-loop
-loop-less c = search needs
-
--- src/lib.rt:124:5
 loop-again : tie.Need-loop-again Inv-loop μ-loop
 loop-again c =
-    let a = c .before .before .before .before .before .args in
-    let i = c .before .before .before .loop .i in
-    (omega arith, c .before .before .before .loop .inv .1 ∙ ahead-step (bytesMeant (a .x)) (bytesMeant (a .y)) (a .s .now) i (c .before .before .loop-test .taken) (sym (c .before .ends-before-mark .ensures) ∙ c .if1 .left))
+    let a = c .before .before .before .before .before .before .before .args in
+    let l = c .before .before .before .before .before .loop in
+    (omega arith, l .inv .1 ∙ end-none (bytesMeant (a .x)) (bytesMeant (a .y)) (a .s .now) (l .i) (l .i + 128) _ (c .before .end-before-mark .ensures) (omega arith) (λ h. omega arith))
 
--- src/lib.rt:120:1
+loop-again-2 : tie.Need-loop-again-2 Inv-loop μ-loop
+loop-again-2 c =
+    let a = c .before .before .before .before .before .args in
+    let l = c .before .before .before .loop in
+    (omega arith, l .inv .1 ∙ ahead-quiet (bytesMeant (a .x)) (bytesMeant (a .y)) (a .s .now) 128 (l .i) (omega arith) (c .before .block-marked .ensures (c .if1 .left)))
+
 returns-2 : tie.Need-returns-2 Inv-loop μ-loop
 returns-2 c =
-    let a = c .before .before .before .args in
-    let i = c .before .loop .i in
-    (sym (c .before .loop .inv .1 ∙ ahead-none (bytesMeant (a .x)) (bytesMeant (a .y)) (a .s .now) i (omega arith)), c .before .loop .inv .0)
+    let a = c .before .before .before .before .before .args in
+    let l = c .before .before .before .loop in
+    (end-found (bytesMeant (a .x)) (bytesMeant (a .y)) (a .s .now) (l .i) (length (a .s .now)) _ (c .before .end-before-mark2 .ensures) (omega arith) (c .if3 .taken) ∙ sym (l .inv .1), omega arith)
+
+returns-3 : tie.Need-returns-3 Inv-loop μ-loop
+returns-3 c =
+    let a = c .before .before .before .before .before .args in
+    let e = c .before .end-before-mark2 in
+    let none = ahead-none (bytesMeant (a .x)) (bytesMeant (a .y)) (a .s .now) (e .result) (omega arith) in
+    (omega (arith, c .before .before .before .loop .inv .1, e .ensures .passed), e .ensures .within .1)
 
 pub mark-behind-spec : {M : Type 1} → statement M
 mark-behind-spec =
@@ -65,11 +51,18 @@ mark-behind-spec =
     (tie.spec
     Inv-loop
     μ-loop
-    loop-holds
-    ends-before-mark-requires
-    add-result
+    (λ c. search needs)
+    (λ c. search needs)
+    (λ c. search needs)
+    (λ c κs. search needs)
+    (λ c κs. search needs)
+    (λ c. search needs)
     returns
-    add-i
-    loop-less
+    (λ c. search needs)
     loop-again
-    returns-2)
+    (λ c. search needs)
+    loop-again-2
+    (λ c κs. search needs)
+    (λ c. search needs)
+    returns-2
+    returns-3)

@@ -15,7 +15,6 @@ use Rattle.marks.proofs.next_mark.Lts as lts
 use Rattle.marks.proofs.digits_of.Reads as digits-of-reads
 use Rattle.marks.proofs.is_marked.Reads as is-marked-reads
 use Rattle.marks.proofs.mark_behind.Reads as mark-behind-reads
-use Rattle.marks.proofs.skip_quiet.Reads as skip-quiet-reads
 
 -- src/lib.rt:137:9
 digits-of-requires : tie.Need-digits-of-requires
@@ -44,10 +43,6 @@ returns-2 c =
     let e = mark-here (codeMeant (a .one)) (codeMeant (a .other)) (drop (a .at) (a .s .now)) told in
     (omega arith, omega arith)
 
--- src/lib.rt:145:20
-skip-quiet-requires : tie.Need-skip-quiet-requires
-skip-quiet-requires c κs = search needs
-
 -- src/lib.rt:145:5
 mark-behind-requires : tie.Need-mark-behind-requires
 mark-behind-requires c κs = search needs
@@ -55,12 +50,12 @@ mark-behind-requires c κs = search needs
 -- src/lib.rt:134:1
 returns-3 : tie.Need-returns-3
 returns-3 c =
-    let a = c .before .before .before .before .before .before .before .before .args in
+    let a = c .before .before .before .before .before .before .before .args in
     let xs = drop (a .at) (a .s .now) in
-    let told : _≡_ {A = Bool} (marked _ _ xs) _ = ap₂ (λ (x y : Bytes). marked x y xs) (sym (c .before .before .before .before .before .before .digits-of .ensures)) (sym (c .before .before .before .before .before .digits-of2 .ensures)) ∙ sym (c .before .before .before .is-marked .ensures) ∙ c .before .before .if2 .left in
+    let told : _≡_ {A = Bool} (marked _ _ xs) _ = ap₂ (λ (x y : Bytes). marked x y xs) (sym (c .before .before .before .before .before .digits-of .ensures)) (sym (c .before .before .before .before .digits-of2 .ensures)) ∙ sym (c .before .before .is-marked .ensures) ∙ c .before .if2 .left in
     let e = mark-ahead (codeMeant (a .one)) (codeMeant (a .other)) xs told in
-    let same = ap₂ (λ (x y : Bytes). aheadLen x y xs) (c .before .before .before .before .before .before .digits-of .ensures) (c .before .before .before .before .before .digits-of2 .ensures) in
-    (omega (arith, c .before .skip-quiet .ensures .0, c .mark-behind .ensures .0), omega (arith, c .before .skip-quiet .ensures .1, c .mark-behind .ensures .1))
+    let same = ap₂ (λ (x y : Bytes). aheadLen x y xs) (c .before .before .before .before .before .digits-of .ensures) (c .before .before .before .before .digits-of2 .ensures) in
+    (omega (arith, c .mark-behind .ensures .0), omega (arith, c .mark-behind .ensures .1))
 
 pub next-mark-spec : {M : Type 1} → statement M
 next-mark-spec =
@@ -71,6 +66,5 @@ next-mark-spec =
     returns
     is-marked-requires
     returns-2
-    skip-quiet-requires
     mark-behind-requires
     returns-3)
