@@ -1,2 +1,3 @@
--- The bytes of a fresh 99.
+-- The bytes of a fresh 99, and line feeds.
+pub mod Feeds
 pub mod Fresh
