@@ -1,22 +1,15 @@
 -- Which wants ask for a kind that is sought, and that the others do not. Assumes nothing.
-use Prim.Native.Nat.{ℕ, zero, suc}
+use Prim.Native.Nat.{ℕ}
 use mathlib.Core.Path.{_≡_, refl, sym, _∙_}
-use mathlib.Core.Bool.{false, cond}
+use mathlib.Core.Bool.{false}
 use mathlib.Core.List.{List, [], _∷_}
-use mathlib.Core.Logic.{inl, inr}
 use types.Run.{OneOf}
 use mir.Val.{hasKey}
-use denote.Enum.Declared.{tagOf}
 use Rattle.rules.specs.Grammar.{detailType, amount, text, sameKind, nextKind, fieldsOf}
-use Rattle.rules.proofs.Tests.{Known, holds, fails, known}
 use Rattle.wants.specs.Wants.{wantedOf, references}
 use Rattle.wants.specs.declared.want.Want.{Want}
 use Rattle.wants.specs.declared.want.Want.the-variants as want
-use Rattle.wants.proofs.want.Want.{the-type}
-
--- the number of a want
-abbrev tag : Want → ℕ
-tag w = tagOf the-type w
+use Rattle.wants.proofs.Others.{tag, others, other}
 
 -- those of a detail's type; of an amount, in an item or a detail; of a first text piece
 abbrev typed : List ℕ
@@ -85,29 +78,6 @@ told want.Total = (refl, refl, refl)
 told want.Count = (refl, refl, refl)
 told want.Records = (refl, refl, refl)
 told want.End = (refl, refl, refl)
-
--- the numbers of n wants from k on, but for these
-abbrev counted : ℕ → ℕ → List ℕ → List ℕ
-counted zero k skip = []
-counted (suc n) k skip = cond (hasKey skip k) (counted n (suc k) skip) (k ∷ counted n (suc k) skip)
-
-abbrev others : List ℕ → List ℕ
-others skip = counted 48 0 skip
-
--- none of the others is one of these
-other-step : (k : ℕ) (ks skip : List ℕ) (x : ℕ) → (OneOf ks x → hasKey skip x ≡ false) → Known (hasKey skip k)
-    → OneOf (cond (hasKey skip k) ks (k ∷ ks)) x → hasKey skip x ≡ false
-other-step k ks skip x ih (holds e) h = ih (rw e at h)
-other-step k [] skip x ih (fails e) h = let q : x ≡ k = rw e at h in rw (q, e)
-other-step k (j ∷ ks) skip x ih (fails e) h = first-or (rw e at h)
-  where
-    first-or : OneOf (k ∷ j ∷ ks) x → hasKey skip x ≡ false
-    first-or (inl q) = rw (q, e)
-    first-or (inr r) = ih r
-
-other : (n k : ℕ) (skip : List ℕ) (x : ℕ) → OneOf (counted n k skip) x → hasKey skip x ≡ false
-other zero k skip x h = absurd h
-other (suc n) k skip x h = other-step k (counted n (suc k) skip) skip x (other n (suc k) skip x) (known (hasKey skip k)) h
 
 module _ (w : Want) where
   pub no-type : OneOf (others typed) (tag w) → false ≡ sameKind detailType (nextKind (wantedOf w))

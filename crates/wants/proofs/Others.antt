@@ -15,7 +15,7 @@ use Rattle.wants.specs.declared.want.Want.the-variants as want
 use Rattle.wants.proofs.want.Want.{the-type}
 
 -- the number of a want
-abbrev tag : Want → ℕ
+abbrev pub tag : Want → ℕ
 tag w = tagOf the-type w
 
 -- those before which a record may end: FurtherType, FurtherText, End; the texts; those that are kept: Length, amounts, trailers' figures
@@ -87,7 +87,7 @@ told want.Records = (refl, refl, refl)
 told want.End = (refl, refl, refl)
 
 -- the numbers of n wants from k on, but for these
-abbrev counted : ℕ → ℕ → List ℕ → List ℕ
+abbrev pub counted : ℕ → ℕ → List ℕ → List ℕ
 counted zero k skip = []
 counted (suc n) k skip = cond (hasKey skip k) (counted n (suc k) skip) (k ∷ counted n (suc k) skip)
 
@@ -106,7 +106,7 @@ other-step : (k : ℕ) (ks skip : List ℕ) (x : ℕ) → (OneOf ks x → hasKey
 other-step k ks skip x ih (holds e) h = ih (rw e at h)
 other-step k ks skip x ih (fails e) h = first-or k ks x (rw e at h) (λ q. rw (q, e)) ih
 
-other : (n k : ℕ) (skip : List ℕ) (x : ℕ) → OneOf (counted n k skip) x → hasKey skip x ≡ false
+pub other : (n k : ℕ) (skip : List ℕ) (x : ℕ) → OneOf (counted n k skip) x → hasKey skip x ≡ false
 other zero k skip x h = absurd h
 other (suc n) k skip x h = other-step k (counted n (suc k) skip) skip x (other n (suc k) skip x) (known (hasKey skip k)) h
 
