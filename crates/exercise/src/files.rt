@@ -1,9 +1,9 @@
 // Two files: K1, and one with every call of the writer.
-use crate::amounts::minus;
-use crate::amounts::plus;
-use crate::printing::behind;
 use drafts::MaybeAmount;
 use drafts::MaybeCount;
+use trials::amounts::minus;
+use trials::amounts::plus;
+use trials::printing::behind;
 use writer::state::Writer;
 
 // K1 of document 01; the writer leaves the 16's funds empty.

@@ -1,8 +1,8 @@
 // Writes two files with every call of the writer, then tries calls that are refused. What it prints is held to `stdout`.
-mod amounts;
+use trials::printing;
+use trials::refusals;
+
 mod files;
-mod printing;
-mod refusals;
 
 fn main() {
     let mut out = io::buffer();
