@@ -4,7 +4,7 @@ use native.Mathlib.Nat.{add-zero}
 use native.Mathlib.Numerals.{add-one}
 use native.Mathlib.Omega.{arith}
 use mathlib.Core.Path.{_≡_, refl, sym, ap, subst, _∙_}
-use mathlib.Core.Bool.{Bool, true, false, cond, not, _||_}
+use mathlib.Core.Bool.{Bool, true, false, cond, not}
 use mathlib.Core.List.{List, [], _∷_, append-nil}
 use borrow.Author.Tests.{eq-eqb, ne-eqb}
 use lib.Dec.{eqb, eqb→eq}
@@ -17,7 +17,7 @@ use Rattle.rules.proofs.LineLaws.{longer-bytes}
 use Rattle.lines.specs.Cutting.{first-of}
 use Rattle.lines.proofs.Fronts.{begins-front}
 use Rattle.marks.specs.declared.Digits.{Digits}
-use Rattle.marks.specs.Marks.{bytesMeant, marked, lineEnds, aheadLen, Quiet, mayMark, EndIs, markLen}
+use Rattle.marks.specs.Marks.{bytesMeant, marked, lineEnds, aheadLen, NoEnd, Quiet, mayMark, EndIs, markLen}
 
 -- ---- byte by byte
 
@@ -61,6 +61,10 @@ ahead-quiet x y s (suc n) i h q =
     ∙ ahead-quiet x y s n (i + 1) (omega arith)
     (λ k l. let d : i + suc k ≡ (i + 1) + k = omega arith in subst (λ (m : ℕ). lineEnds x y (getD s m 0) (drop (suc m) s) ≡ false) d (q (suc k) (omega arith)))
     ∙ ap (λ (m : ℕ). m + aheadLen x y (drop m s)) e
+
+-- bytes above a line feed end no line
+pub no-end-quiet : (x y s : Bytes) (a n : ℕ) → NoEnd s a n → Quiet x y s a n
+no-end-quiet x y s a n h k l = rw (ne-eqb (getD s (a + k) 0) LF (omega (arith, h k l)))
 
 -- the tests of a block: where they give 0, the two bytes end no line or begin none with this or that digit
 module _ (x y a b ends one other either both : ℕ) (e : ends ≡ cond (eqb a LF) 255 0) (p : one ≡ cond (eqb b x) 255 0) (q : other ≡ cond (eqb b y) 255 0)

@@ -32,6 +32,10 @@ aheadLen x y (b ∷ bs) = cond (lineEnds x y b bs) 1 (suc (aheadLen x y bs))
 abbrev pub Quiet : Bytes → Bytes → Bytes → ℕ → ℕ → Type 0
 Quiet x y s a n = (k : ℕ) → k < n → lineEnds x y (getD s (a + k) 0) (drop (suc (a + k)) s) ≡ false
 
+-- each of the n bytes from a on is above a line feed
+abbrev pub NoEnd : Bytes → ℕ → ℕ → Type 0
+NoEnd s a n = (k : ℕ) → k < n → LF < getD s (a + k) 0
+
 -- two bytes end a line and begin one with this or that digit
 abbrev pub mayMark : ℕ → ℕ → ℕ → ℕ → Bool
 mayMark x y a b = eqb a LF && (eqb x b || eqb y b)

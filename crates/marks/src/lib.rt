@@ -8,7 +8,7 @@ ghost use lib.ListN.{length, take, drop, getD};
 ghost use Rattle.rules.specs.Bytes.{sameBytes};
 ghost use Rattle.rules.specs.Lines.{codeBytes, linesOf};
 ghost use Rattle.codes.specs.Meanings.{codeMeant};
-ghost use Rattle.marks.specs.Marks.{bytesMeant, mayMark, Quiet, marked, lineEnds, aheadLen, EndIs, markLen};
+ghost use Rattle.marks.specs.Marks.{bytesMeant, mayMark, NoEnd, Quiet, marked, lineEnds, aheadLen, EndIs, markLen};
 
 // So many bytes are tested at once.
 const BLOCK: usize = 128;
@@ -105,6 +105,31 @@ fn block_marked(s: &[u8], at: usize, x: Digits, y: Digits) -> bool
     found != 0
 }
 
+// Some byte of the block at `at` is no more than a line feed; this compiles to vector code too, and to less of it.
+fn block_ends(s: &[u8], at: usize) -> bool
+    requires { ⌜ at + 128 < length (now s) ⌝ }
+    ensures { λ r. ⌜ (r ≡ false → NoEnd (now (s .entry)) at 128) ⌝ }
+{
+    let mut lowest: u8 = 255;
+    let mut i: usize = 0;
+    while i < BLOCK {
+        lowest = smaller(lowest, s[at + i]);
+        i += 1;
+    }
+    lowest <= b'\n'
+}
+
+// Behind some byte of the block at `at` such a line may begin: the lesser test comes first, and mostly suffices where lines are long.
+fn may_be_marked(s: &[u8], at: usize, x: Digits, y: Digits) -> bool
+    requires { ⌜ at + 128 < length (now s) ⌝ }
+    ensures { λ r. ⌜ (r ≡ false → Quiet (bytesMeant x) (bytesMeant y) (now (s .entry)) at 128) ⌝ }
+{
+    if block_ends(s, at) {
+        return block_marked(s, at, x, y);
+    }
+    false
+}
+
 // The byte at `at` ends a line, and such a line begins behind it.
 fn ends_before_mark(s: &[u8], at: usize, x: Digits, y: Digits) -> bool
     requires { ⌜ at < length (now s) ⌝ }
@@ -139,7 +164,7 @@ fn mark_behind(s: &[u8], at: usize, x: Digits, y: Digits) -> usize
     let mut i = at;
     while BLOCK < s.len() - i {
         let behind = i + BLOCK;
-        if block_marked(s, i, x, y) {
+        if may_be_marked(s, i, x, y) {
             let e = end_before_mark(s, i, behind, x, y);
             if e < behind {
                 return e + 1;

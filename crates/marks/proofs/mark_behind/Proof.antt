@@ -30,7 +30,7 @@ loop-again-2 : tie.Need-loop-again-2 Inv-loop μ-loop
 loop-again-2 c =
     let a = c .before .before .before .before .before .args in
     let l = c .before .before .before .loop in
-    (omega arith, l .inv .1 ∙ ahead-quiet (bytesMeant (a .x)) (bytesMeant (a .y)) (a .s .now) 128 (l .i) (omega arith) (c .before .block-marked .ensures (c .if1 .left)))
+    (omega arith, l .inv .1 ∙ ahead-quiet (bytesMeant (a .x)) (bytesMeant (a .y)) (a .s .now) 128 (l .i) (omega arith) (c .before .may-be-marked .ensures (c .if1 .left)))
 
 returns-2 : tie.Need-returns-2 Inv-loop μ-loop
 returns-2 c =
