@@ -1,29 +1,117 @@
--- The type and the amount that the search finds are read as the rules read them: a field is seen only where it was judged good. Assumes nothing.
+-- What the search finds is read as the rules read it: a field is seen only where it was judged good. Assumes nothing.
 use Prim.Native.Nat.{ℕ, _+_, _-_}
 use native.Mathlib.Omega.{arith}
-use mathlib.Core.Path.{_≡_, refl, sym, ap, _∙_}
+use mathlib.Core.Path.{_≡_, refl, sym, ap, subst, _∙_}
 use mathlib.Core.Bool.{Bool, true, false, cond}
 use mathlib.Core.List.{List, [], _∷_, _++_}
 use mathlib.Core.Logic.{_⊎_, inl, inr}
-use lib.ListN.{take, drop}
-use borrow.Author.Tests.{eq-eqb, eqb-true}
-use Rattle.rules.specs.Bytes.{Bytes, trimmed, all}
+use lib.ListN.{take, drop, getD}
+use borrow.Author.Tests.{eqb-true}
+use Rattle.rules.specs.Bytes.{Bytes, isEmpty, trimmed, all}
 use Rattle.rules.specs.Numbers.{digits, number, Signed, signed, withoutSign, numberFrom}
 use Rattle.rules.specs.TypeCodes.{typeClass}
-use Rattle.rules.specs.Lines.{Line, sizeOf, linesOf, detail, Record}
+use Rattle.rules.specs.Outcome.{fine}
+use Rattle.rules.specs.Lines.{Line, sizeOf, linesOf, Code, detail, Record}
 use Rattle.rules.specs.Cells.{Cell, cellsOf}
-use Rattle.rules.specs.Grammar as kinds
-use Rattle.rules.specs.Grammar.{Kind, detailType, amount, statusAmount, kindNumber, sameKind, Judged, bad, good, andThen, takeNext, nextKind, isText, judged, fieldsOf}
+use Rattle.rules.specs.Grammar.{
+  Kind,
+  name,
+  reference,
+  ultimateReceiver,
+  date,
+  time,
+  timeOrNone,
+  fileNumber,
+  physicalLength,
+  blockSize,
+  version,
+  groupStatus,
+  currency,
+  modifier,
+  firstType,
+  furtherType,
+  statusAmount,
+  amount,
+  itemCount,
+  funds,
+  detailType,
+  text,
+  furtherText,
+  splitAmount,
+  pairCount,
+  days,
+  dayAmount,
+  total,
+  count,
+  records,
+  nothing,
+  kindNumber,
+  sameKind,
+  Judged,
+  bad,
+  good,
+  andThen,
+  takeNext,
+  nextKind,
+  isText,
+  judged,
+  fieldsOf,
+}
+use Rattle.rules.specs.Records.{Field, the, walkRecord}
 use Rattle.rules.proofs.Tests.{Known, holds, fails, known}
 use Rattle.digits.specs.Reading.{valueOf, amountIn}
 use Rattle.digits.proofs.Reading.{value-is}
-use Rattle.wants.specs.Wants.{forAmount, forNothing, samePurpose, purpose}
+use Rattle.digits.proofs.Signs.{amount-empty}
+use Rattle.wants.specs.Wants.{forNothing, samePurpose, purpose}
 use Rattle.kept.proofs.EachKind.{told}
+use Rattle.seek.proofs.Agreeing.{found-is}
 use Rattle.seek.specs.Seeking.{Sighted, seen, onto, lost, onward, sight, isOpen, seekCells, Found, orBehind, seekLines, inDetail}
+
+-- ---- kinds by their numbers
+
+abbrev kindsInOrder : List Kind
+kindsInOrder =
+    nothing ∷ name ∷ reference ∷ ultimateReceiver ∷ date ∷ time ∷ timeOrNone ∷ fileNumber ∷ physicalLength ∷ blockSize ∷ version ∷ groupStatus ∷ currency ∷ modifier ∷ firstType ∷ furtherType
+    ∷ statusAmount ∷ amount ∷ itemCount ∷ funds ∷ detailType ∷ text ∷ furtherText ∷ splitAmount ∷ pairCount ∷ days ∷ dayAmount ∷ total ∷ count ∷ records ∷ []
+
+numbered : (k : Kind) → getD kindsInOrder (kindNumber k) nothing ≡ k
+numbered name = refl
+numbered reference = refl
+numbered ultimateReceiver = refl
+numbered date = refl
+numbered time = refl
+numbered timeOrNone = refl
+numbered fileNumber = refl
+numbered physicalLength = refl
+numbered blockSize = refl
+numbered version = refl
+numbered groupStatus = refl
+numbered currency = refl
+numbered modifier = refl
+numbered firstType = refl
+numbered furtherType = refl
+numbered statusAmount = refl
+numbered amount = refl
+numbered itemCount = refl
+numbered funds = refl
+numbered detailType = refl
+numbered text = refl
+numbered furtherText = refl
+numbered splitAmount = refl
+numbered pairCount = refl
+numbered days = refl
+numbered dayAmount = refl
+numbered total = refl
+numbered count = refl
+numbered records = refl
+numbered nothing = refl
+
+same-kind : (k kd : Kind) → sameKind k kd ≡ true → kd ≡ k
+same-kind k kd e = sym (numbered kd) ∙ ap (λ (n : ℕ). getD kindsInOrder n nothing) (sym (eqb-true (kindNumber k) (kindNumber kd) e)) ∙ numbered k
 
 -- ---- what holds of every good field of a kind holds of what is found
 
-module _ (k : Kind) (P : Bytes → Type 0) (none : P []) (each : (kd : Kind) (bs : Bytes) (new : List Kind) → sameKind k kd ≡ true → judged kd bs ≡ good new → P bs) where
+module _ (k : Kind) (P : Bytes → Type 0) (none : P []) (each : (bs : Bytes) (new : List Kind) → judged k bs ≡ good new → P bs) where
   abbrev Holds : Sighted → Type 0
   Holds (seen p bs) = P bs
   Holds (onto ks) = Unit {0}
@@ -37,7 +125,7 @@ module _ (k : Kind) (P : Bytes → Type 0) (none : P []) (each : (kd : Kind) (bs
       → Holds (onward (andThen j ks) (λ next. cond (sameKind k kd) (seen p bs) (f next)))
   unfolding onward andThen
   judged-holds (bad n) kd ks p bs f e h t = tt
-  judged-holds (good new) kd ks p bs f e h (holds t) = rw t (each kd bs new t e)
+  judged-holds (good new) kd ks p bs f e h (holds t) = rw t (each bs new (ap (λ (x : Kind). judged x bs) (sym (same-kind k kd t)) ∙ e))
   judged-holds (good new) kd ks p bs f e h (fails t) = rw t (h (new ++ ks))
 
   sight-holds : (ks : List Kind) (p : ℕ) (bs : Bytes) (f : List Kind → Sighted) → ((next : List Kind) → Holds (f next)) → Holds (sight k ks p bs f)
@@ -63,75 +151,51 @@ module _ (k : Kind) (P : Bytes → Type 0) (none : P []) (each : (kd : Kind) (bs
   found-holds [] p ks = none
   found-holds (l ∷ ls) p ks = behind-holds (seekCells k ks (cellsOf p l)) (λ next. seekLines k (p + sizeOf l) next ls) (cells-hold (cellsOf p l) ks) (λ next. found-holds ls (p + sizeOf l) next)
 
--- ---- a type is three digits
+-- ---- a type is three digits, a number of records one to nine
 
-is-type : (kd : Kind) → sameKind detailType kd ≡ true → kd ≡ detailType
-is-type kinds.name e = cc
-is-type kinds.reference e = cc
-is-type kinds.ultimateReceiver e = cc
-is-type kinds.date e = cc
-is-type kinds.time e = cc
-is-type kinds.timeOrNone e = cc
-is-type kinds.fileNumber e = cc
-is-type kinds.physicalLength e = cc
-is-type kinds.blockSize e = cc
-is-type kinds.version e = cc
-is-type kinds.groupStatus e = cc
-is-type kinds.currency e = cc
-is-type kinds.modifier e = cc
-is-type kinds.firstType e = cc
-is-type kinds.furtherType e = cc
-is-type kinds.statusAmount e = cc
-is-type kinds.amount e = cc
-is-type kinds.itemCount e = cc
-is-type kinds.funds e = cc
-is-type kinds.detailType e = refl
-is-type kinds.text e = cc
-is-type kinds.furtherText e = cc
-is-type kinds.splitAmount e = cc
-is-type kinds.pairCount e = cc
-is-type kinds.days e = cc
-is-type kinds.dayAmount e = cc
-is-type kinds.total e = cc
-is-type kinds.count e = cc
-is-type kinds.records e = cc
-is-type kinds.nothing e = cc
+abbrev ValueRead : Bytes → Type 0
+ValueRead bs = valueOf bs ≡ number bs
 
-abbrev TypeRead : Bytes → Type 0
-TypeRead bs = valueOf bs ≡ number bs
-
-type-good : (bs : Bytes) (new : List Kind) → judged detailType bs ≡ good new → Known (digits 3 3 bs) → TypeRead bs
+each-type : (bs : Bytes) (new : List Kind) → judged detailType bs ≡ good new → ValueRead bs
 unfolding judged typeClass
-type-good bs new e (holds t) = value-is 3 3 bs t (omega arith)
-type-good bs new e (fails t) = let z : bad 8 ≡ good new = rw t at e in cc
+each-type bs new e = go (known (digits 3 3 bs))
+  where
+    go : Known (digits 3 3 bs) → ValueRead bs
+    go (holds t) = value-is 3 3 bs t (omega arith)
+    go (fails t) = let z : bad 8 ≡ good new = rw t at e in cc
 
-each-type : (kd : Kind) (bs : Bytes) (new : List Kind) → sameKind detailType kd ≡ true → judged kd bs ≡ good new → TypeRead bs
-each-type kd bs new t e = type-good bs new (ap (λ (x : Kind). judged x bs) (sym (is-type kd t)) ∙ e) (known (digits 3 3 bs))
-
-type-read : (ks : List Kind) (r : Record) → TypeRead (seekLines detailType 0 ks r .bytes)
+type-read : (ks : List Kind) (r : Record) → ValueRead (seekLines detailType 0 ks r .bytes)
 unfolding valueOf numberFrom digits all
-type-read ks r = found-holds detailType TypeRead refl each-type r 0 ks
+type-read ks r = found-holds detailType ValueRead refl each-type r 0 ks
 
--- ---- an amount is empty, or digits behind at most a sign
+each-records : (bs : Bytes) (new : List Kind) → judged records bs ≡ good new → ValueRead bs
+unfolding judged
+each-records bs new e = go (known (digits 1 9 bs))
+  where
+    go : Known (digits 1 9 bs) → ValueRead bs
+    go (holds t) = value-is 1 9 bs t (omega arith)
+    go (fails t) = let z : bad 8 ≡ good new = rw t at e in cc
+
+records-read : (ks : List Kind) (r : Record) → ValueRead (seekLines records 0 ks r .bytes)
+unfolding valueOf numberFrom digits all
+records-read ks r = found-holds records ValueRead refl each-records r 0 ks
+
+-- ---- an amount and a total are digits behind at most a sign, or an amount is empty
 
 abbrev AmountRead : Bytes → Type 0
-AmountRead bs = valueOf (withoutSign bs) ≡ number (withoutSign bs)
+AmountRead bs = amountIn bs ≡ signed bs
 
 -- as a field that is kept
-kept-read : (kd : Kind) (bs : Bytes) (new : List Kind) → samePurpose forAmount (purpose kd) ≡ true → judged kd bs ≡ good new → AmountRead bs
-unfolding amountIn signed
-kept-read kd bs new t e = go (told kd .5)
+each-kept : (k : Kind) → samePurpose forNothing (purpose k) ≡ false → (bs : Bytes) (new : List Kind) → judged k bs ≡ good new → AmountRead bs
+each-kept k kept bs new e = go (told k .5)
   where
-    go : (purpose kd ≡ forNothing) ⊎ ((cs : Bytes) (more : List Kind) → judged kd cs ≡ good more → amountIn cs ≡ signed cs) → AmountRead bs
-    go (inl n) = let z : samePurpose forAmount forNothing ≡ true = rw n at t in cc
-    go (inr reads) = ap (λ (x : Signed). x .magnitude) (reads bs new e)
+    go : (purpose k ≡ forNothing) ⊎ ((cs : Bytes) (more : List Kind) → judged k cs ≡ good more → AmountRead cs) → AmountRead bs
+    go (inl n) = let z : samePurpose forNothing forNothing ≡ false = rw n at kept in cc
+    go (inr reads) = reads bs new e
 
-each-amount : (kd : Kind) (bs : Bytes) (new : List Kind) → sameKind amount kd ≡ true → judged kd bs ≡ good new → AmountRead bs
-each-amount kd bs new t e = kept-read kd bs new (sym (told kd .0) ∙ rw (eq-eqb (kindNumber kd) 17 (sym (eqb-true 17 (kindNumber kd) t)))) e
-
-amount-read : (ks : List Kind) (r : Record) → AmountRead (seekLines amount 0 ks r .bytes)
-unfolding valueOf numberFrom withoutSign digits all
-amount-read ks r = found-holds amount AmountRead refl each-amount r 0 ks
+kept-read : (k : Kind) → samePurpose forNothing (purpose k) ≡ false → (ks : List Kind) (r : Record) → AmountRead (seekLines k 0 ks r .bytes)
+unfolding isEmpty
+kept-read k kept ks r = found-holds k AmountRead (amount-empty [] refl) (each-kept k kept) r 0 ks
 
 -- ---- the field's bytes as the code lends them
 
@@ -150,5 +214,27 @@ unfolding inDetail
 type-in rec bs e = ap valueOf e ∙ type-read (fieldsOf detail) (linesOf rec)
 
 pub amount-in : (rec bs : Bytes) → bs ≡ inDetail amount rec .bytes → valueOf (withoutSign bs) ≡ number (withoutSign (inDetail amount rec .bytes))
-unfolding inDetail
-amount-in rec bs e = ap (λ (x : Bytes). valueOf (withoutSign x)) e ∙ amount-read (fieldsOf detail) (linesOf rec)
+unfolding inDetail amountIn signed purpose
+amount-in rec bs e = ap (λ (x : Bytes). valueOf (withoutSign x)) e ∙ ap (λ (x : Signed). x .magnitude) (kept-read amount refl (fieldsOf detail) (linesOf rec))
+
+-- ---- in a record that is read as one of code c
+
+module _ (c : Code) (rec : Bytes) (first : List Kind) (s n : ℕ) (fs : List Field) (e : first ≡ fieldsOf c) (walked : walkRecord c (linesOf rec) ≡ fine fs) where
+  abbrev lent : Bytes
+  lent = take (s + n - s) (drop s rec)
+
+  -- the field sought is the record's own
+  pub lent-is : (k : Kind) → record { place = s; bytes = take n (drop s rec) } ≡ seekLines k 0 first (linesOf rec) → lent ≡ the k fs .bytes
+  lent-is k h =
+      let size : s + n - s ≡ n = omega arith in
+      ap (λ (m : ℕ). take m (drop s rec)) size ∙ ap (λ (x : Found). x .bytes) (h ∙ ap (λ (ks : List Kind). seekLines k 0 ks (linesOf rec)) e ∙ sym (found-is k c (linesOf rec) fs walked))
+
+  own : (k : Kind) → seekLines k 0 (fieldsOf c) (linesOf rec) .bytes ≡ the k fs .bytes
+  own k = ap (λ (x : Found). x .bytes) (sym (found-is k c (linesOf rec) fs walked))
+
+  pub total-in : record { place = s; bytes = take n (drop s rec) } ≡ seekLines total 0 first (linesOf rec) → amountIn lent ≡ signed (the total fs .bytes)
+  unfolding purpose
+  total-in h = ap amountIn (lent-is total h) ∙ subst AmountRead (own total) (kept-read total refl (fieldsOf c) (linesOf rec))
+
+  pub records-in : record { place = s; bytes = take n (drop s rec) } ≡ seekLines records 0 first (linesOf rec) → valueOf lent ≡ number (the records fs .bytes)
+  records-in h = ap valueOf (lent-is records h) ∙ subst ValueRead (own records) (records-read (fieldsOf c) (linesOf rec))

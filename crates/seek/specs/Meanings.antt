@@ -5,7 +5,7 @@ use lib.ListN.{length, take, drop}
 use Rattle.rules.specs.Bytes.{Bytes}
 use Rattle.rules.specs.Lines.{linesOf}
 use Rattle.rules.specs.Cells.{cellsFrom}
-use Rattle.rules.specs.Grammar.{Kind, detailType, amount, text}
+use Rattle.rules.specs.Grammar.{Kind, detailType, amount, text, ultimateReceiver, total, records}
 use Rattle.wants.specs.declared.want.Want.{Want}
 use Rattle.wants.specs.Wants.{wantedOf}
 use Rattle.seek.specs.declared.Sought.{Sought}
@@ -20,6 +20,9 @@ abbrev pub kindMeant : Sought → Kind
 kindMeant sought.Type = detailType
 kindMeant sought.Amount = amount
 kindMeant sought.Text = text
+kindMeant sought.Receiver = ultimateReceiver
+kindMeant sought.Total = total
+kindMeant sought.Records = records
 
 -- what was seen in the bytes of a line from p on
 abbrev pub seenMeant : ℕ → Bytes → Seen → Sighted

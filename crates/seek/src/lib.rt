@@ -13,11 +13,14 @@ ghost use Rattle.wants.specs.Wants.{wantedOf};
 ghost use Rattle.seek.specs.Seeking.{inDetail};
 ghost use Rattle.seek.specs.Meanings.{kindMeant, Sights, Spots};
 
-// The kinds of field that can be sought: a detail's type, its amount, and its first text piece.
+// The kinds of field that can be sought: a detail's type, its amount, and its first text piece; a group's receiver; a trailer's total and its number of records.
 pub enum Sought {
     Type,
     Amount,
     Text,
+    Receiver,
+    Total,
+    Records,
 }
 
 // Where a field starts, and its length; 0 and 0 where there is none.
@@ -55,6 +58,19 @@ fn is_sought(want: Want, sought: Sought) -> bool
         },
         Sought::Text => match want {
             Want::Text => true,
+            _ => false,
+        },
+        Sought::Receiver => match want {
+            Want::UltimateReceiver => true,
+            _ => false,
+        },
+        Sought::Total => match want {
+            Want::AccountTotal => true,
+            Want::Total => true,
+            _ => false,
+        },
+        Sought::Records => match want {
+            Want::Records => true,
             _ => false,
         },
     }
