@@ -9,7 +9,7 @@ use lib.Dec.{T}
 use lib.ListN.{length, length-append}
 use Rattle.rules.specs.Bytes.{Bytes, isEmpty}
 use Rattle.rules.specs.Outcome.{fine}
-use Rattle.rules.specs.Lines.{Line, lineBytes, Code, groupHeader, sameCode, codeOf, Record, recordBytes, fileRecords}
+use Rattle.rules.specs.Lines.{Line, Code, groupHeader, sameCode, codeOf, Record, recordBytes, fileRecords}
 use Rattle.rules.specs.Numbers.{magnitudes, most}
 use Rattle.rules.specs.Totals.{Summary, _⊞_, one, adding, ofRecord}
 use Rattle.rules.specs.Verdict.{start, run, judge, mostBytes}
@@ -124,31 +124,38 @@ module _ (hs : List Record) (gs : List (List Record)) (head : GoodHeader hs) (go
   unfolding groupsIn
   assembled-groups = ap (λ (p : Pieces). p .cut) assembled-cuts
 
+  -- ---- it has no more lines than bytes, and no more groups
+
+  abbrev rs : List Record
+  rs = hs ++ joined gs
+
+  few-in-bytes : length (joined rs) ≤ length (recordBytes rs)
+  few-in-bytes = let least = no-more-lines (joined rs) (all-kept .wholes) in let same = ap length (bytes-joined rs) in omega arith
+
+  pub few-groups-in : summaryOfAll rs .groups ≤ length (recordBytes rs)
+  few-groups-in = omega (arith, few rs .few-groups, few-in-bytes)
+
+  pub few-lines-in : summaryOfAll rs .lines ≤ length (recordBytes rs)
+  few-lines-in = omega (arith, few rs .few-lines, few-in-bytes)
+
   -- ---- it is accepted
 
   module _ (within : T (linesWithin (limitOf hs) (joined (joined gs)))) (bounded : magnitudes (summaryOfAll (hs ++ joined gs) .sum) ≤ most)
       (not-long : length (withTrailer (hs ++ joined gs)) ≤ mostBytes) where
-    few-in-all : length (joined (hs ++ joined gs)) ≤ mostBytes
+    not-longer : length (recordBytes rs) ≤ mostBytes
     unfolding withTrailer
-    few-in-all =
-        let rs = hs ++ joined gs in
-        let least = no-more-lines (joined rs) (all-kept .wholes) in
-        let same : length (recordBytes rs) ≡ length (lineBytes (joined rs)) = ap length (bytes-joined rs) in
-        let fresh = freshTrailer (summaryOfAll rs) in
-        let whole : length (recordBytes rs) + length fresh ≤ mostBytes = subst (λ (n : ℕ). n ≤ mostBytes) (length-append (recordBytes rs) fresh) not-long in
-        omega arith
+    not-longer = omega (arith, subst (λ (n : ℕ). n ≤ mostBytes) (length-append (recordBytes rs) (freshTrailer (summaryOfAll rs))) not-long)
 
     all-run : run 0 start (hs ++ (joined gs ++ ((trailerLine (summaryOfAll (hs ++ joined gs)) ∷ []) ∷ [])))
         ≡ fine (behindTrailer (limitOf hs) (summaryOfAll (hs ++ joined gs) ⊞ onlyLines 1))
     all-run =
         let s = summaryOfAll (hs ++ joined gs) in
         let t = trailerLine s ∷ [] in
-        let f = few (hs ++ joined gs) in
         let e : s ≡ summaryOfAll hs ⊞ summaryOfAll (joined gs) = summary-append hs (joined gs) in
         let room : magnitudes (summaryOfAll hs .sum) + magnitudes (summaryOfAll (joined gs) .sum) ≤ most =
         in-room (summaryOfAll hs) (summaryOfAll (joined gs)) (rw e at bounded) in
         let ended = run-one (0 + sizeOfAll hs + sizeOfAll (joined gs)) (between (limitOf hs) s) (behindTrailer (limitOf hs) (s ⊞ onlyLines 1)) t
-        (trailer-step (limitOf hs) s (head .roomy) bounded (omega (arith, f .few-groups, few-in-all)) (omega (arith, f .few-lines, few-in-all))) in
+        (trailer-step (limitOf hs) s (head .roomy) bounded (omega (arith, few-groups-in, not-longer)) (omega (arith, few-lines-in, not-longer))) in
         run-append 0 start hs (joined gs ++ (t ∷ []))
         ∙ rw (head .runs 0)
         (run-append (0 + sizeOfAll hs) (between (limitOf hs) (summaryOfAll hs)) (joined gs) (t ∷ [])

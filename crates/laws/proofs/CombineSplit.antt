@@ -5,7 +5,7 @@ use mathlib.Core.Bool.{Bool, true, false, cond}
 use mathlib.Core.List.{List, [], _∷_, _++_, append-assoc}
 use native.Mathlib.Omega.{arith}
 use lib.Dec.{T, T-not}
-use lib.ListN.{length}
+use lib.ListN.{length, length-append}
 use Rattle.rules.specs.Bytes.{Bytes, sameBytes}
 use Rattle.rules.specs.Outcome.{fine}
 use Rattle.rules.specs.Lines.{Line, Record, recordBytes, fileRecords}
@@ -148,10 +148,15 @@ sum-of : (g : List Record) (gs : List (List Record)) → summaryOfAll (joined (g
 unfolding joined
 sum-of g gs = summary-append g (joined gs)
 
--- fewer groups: their lines are within the limit, and their magnitudes no more
+bytes-of : (g : List Record) (gs : List (List Record)) → length (recordBytes (joined (g ∷ gs))) ≡ length (recordBytes g) + length (recordBytes (joined gs))
+unfolding joined
+bytes-of g gs = ap length (bytes-append g (joined gs)) ∙ length-append (recordBytes g) (recordBytes (joined gs))
+
+-- fewer groups: their lines are within the limit, their magnitudes no more, and their bytes no more
 pub record Fewer (limit : ℕ) (gs hs : List (List Record)) : Type 0 where
   pub lines-within : T (linesWithin limit (joined (joined gs))) → T (linesWithin limit (joined (joined hs)))
   pub no-more : magnitudes (summaryOfAll (joined hs) .sum) ≤ magnitudes (summaryOfAll (joined gs) .sum)
+  pub no-longer : length (recordBytes (joined hs)) ≤ length (recordBytes (joined gs))
 
 module _ (limit : ℕ) (g : List Record) (gs hs : List (List Record)) (f : Fewer limit gs hs) where
   lines-apart : T (linesWithin limit (joined (joined (g ∷ gs)))) → T (linesWithin limit (joined g ++ joined (joined gs)))
@@ -166,16 +171,18 @@ module _ (limit : ℕ) (g : List Record) (gs hs : List (List Record)) (f : Fewer
             (within-both limit (joined g) (joined (joined hs)) (within-left limit (joined g) (joined (joined gs)) (lines-apart w))
             (f .lines-within (within-right limit (joined g) (joined (joined gs)) (lines-apart w))));
         no-more = rw (sum-of g gs, sum-of g hs) (omega (arith, f .no-more));
+        no-longer = omega (arith, bytes-of g gs, bytes-of g hs, f .no-longer);
       }
   fewer-next false =
       record {
         lines-within = λ w. f .lines-within (within-right limit (joined g) (joined (joined gs)) (lines-apart w));
         no-more = rw (sum-of g gs) (omega (arith, f .no-more));
+        no-longer = omega (arith, bytes-of g gs, f .no-longer);
       }
 
 pub fewer : (limit : ℕ) (name : Bytes) (gs : List (List Record)) → Fewer limit gs (groupsFor name gs)
 unfolding groupsFor
-fewer limit name [] = record { lines-within = λ w. w; no-more = omega arith }
+fewer limit name [] = record { lines-within = λ w. w; no-more = omega arith; no-longer = omega arith }
 fewer limit name (g ∷ gs) = fewer-next limit g gs (groupsFor name gs) (fewer limit name gs) (sameBytes name (receiverOf g))
 
 fewer-bounded : (g h all : Summary) (m n : ℕ) → all ≡ g ⊞ onlyLines n → magnitudes (h .sum) ≤ magnitudes (g .sum) → magnitudes (all .sum) ≤ most
