@@ -1,14 +1,14 @@
 -- The next group ahead: where its 98 starts and ends, its bytes, and what stands behind it. Assumes nothing.
-use Prim.Native.Nat.{ℕ, _+_, _≤_, _<_}
+use Prim.Native.Nat.{ℕ, _+_, _≤_}
 use native.Mathlib.Omega.{arith}
 use mathlib.Core.Path.{_≡_, refl, sym, ap, subst, _∙_}
-use mathlib.Core.Bool.{Bool, true, false, _||_}
+use mathlib.Core.Bool.{true, false}
 use mathlib.Core.List.{List, [], _∷_, _++_, append-assoc, append-nil}
 use lib.Dec.{T}
 use lib.ListN.{length, take, drop}
 use Rattle.rules.specs.Bytes.{Bytes, sameBytes}
 use Rattle.rules.specs.Numbers.{magnitudes, most}
-use Rattle.rules.specs.Lines.{lf, Line, linesOf, Code, fileHeader, groupHeader, accountHeader, detail, accountTrailer, groupTrailer, fileTrailer, continuation, codeBytes, begins, Record, recordSize, recordBytes, fileRecords}
+use Rattle.rules.specs.Lines.{lf, Line, linesOf, Code, fileHeader, groupHeader, accountHeader, groupTrailer, fileTrailer, codeBytes, begins, Record, recordSize, recordBytes, fileRecords}
 use Rattle.rules.specs.Totals.{Summary, _⊞_}
 use Rattle.rules.specs.Order.{among}
 use Rattle.rules.specs.Parts.{heads, Pieces, pieces, groupPieces, groupsIn, sizeOfAll}
@@ -16,13 +16,13 @@ use Rattle.rules.specs.Combine.{summaryOfAll, joined}
 use Rattle.rules.proofs.Tests.{is-true}
 use Rattle.lines.specs.Cut.{firstRecord}
 use Rattle.marks.specs.Marks.{markLen}
-use Rattle.laws.specs.Words.{All, accountsIn, Controlled, Enclosed, IsAccount, IsGroup}
+use Rattle.laws.specs.Words.{All, accountsIn, IsGroup}
 use Rattle.laws.proofs.Lists.{all-left, all-from, joined-append}
-use Rattle.laws.proofs.Codes.{Of, of-own, one-code, not-of, Begins}
-use Rattle.laws.proofs.Pieces.{part-of, parts-of, accountCodes, groupCodes, cut-groups}
+use Rattle.laws.proofs.Codes.{Of, of-own, one-code}
+use Rattle.laws.proofs.Pieces.{parts-of, accountCodes, cut-groups}
 use Rattle.laws.proofs.Envelopes.{accounts-begin, groups-begin}
 use Rattle.laws.proofs.Summaries.{summary-append}
-use Rattle.laws.proofs.Kept.{Kept, IsRecord}
+use Rattle.laws.proofs.Kept.{IsRecord}
 use Rattle.laws.proofs.Slices.{size-length}
 use Rattle.groups.specs.Ahead.{Stands, Ahead}
 use Rattle.groups.proofs.Records.{first-is, first-lines, heads-front, records-drop, records-take, size-joined, sizes-append, mark-past, mark-first, passed-records, lines-are}
@@ -100,6 +100,7 @@ pub record Next (xs : Bytes) : Type 0 where
   pub others : List (List Record)
   pub cut : groupsIn xs ≡ group ∷ others
   pub stands : Stands group
+  pub first : firstRecord (linesOf xs) ≡ stands .is-group .enclosed .header
   pub last-starts : markLen groupTrailer fileTrailer (linesOf xs) ≡ sizeOfAll (before group stands)
   pub last-ends : recordSize (firstRecord (linesOf (drop (sizeOfAll (before group stands)) xs))) ≡ recordSize (last group stands)
   pub last-reads : linesOf (take (recordSize (last group stands)) (drop (sizeOfAll (before group stands)) xs)) ≡ last group stands
@@ -151,6 +152,7 @@ module _ (xs : Bytes) (a : Ahead xs) where
         others = gs;
         cut = e;
         stands = s;
+        first = first-is xs (s .is-group .enclosed .header) _ (reads ∙ ap (λ (rs : List Record). rs ++ (joined gs ++ (t ∷ []))) (s .is-group .enclosed .whole));
         last-starts = ap (markLen groupTrailer fileTrailer) (lines-are xs (g ++ (joined gs ++ (t ∷ []))) reads ∙ joined-append g (joined gs ++ (t ∷ []))) ∙ last-at g s (joined (joined gs ++ (t ∷ [])));
         last-ends = ap recordSize (first-is ys (last g s) (joined gs ++ (t ∷ [])) at-last);
         last-reads = first-lines ys (last g s) (joined gs ++ (t ∷ [])) at-last;

@@ -1,9 +1,7 @@
 -- Laws that belong to no one function. Read in this order.
 pub mod Records
 pub mod Extents
-pub mod FirstField
 pub mod Receivers
-pub mod Stating
 pub mod Tallies
 pub mod Turns
 pub mod Opening

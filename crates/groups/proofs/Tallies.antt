@@ -1,4 +1,4 @@
--- The numbers of the groups for a name, added up group by group: their totals as their 98s state them, and their lines. Assumes nothing.
+-- The numbers of the groups for a name, added up group by group as their 98s state them. Assumes nothing.
 use Prim.Native.Nat.{ℕ, _+_, _≤_}
 use native.Mathlib.Omega.{arith}
 use mathlib.Core.Path.{_≡_, refl, sym, ap, subst, _∙_}
@@ -7,16 +7,13 @@ use mathlib.Core.List.{List, [], _∷_, _++_}
 use borrow.Author.Tests.{eq-eqb}
 use lib.Dec.{eqb→eq}
 use lib.ListN.{length, length-append}
-use Rattle.rules.specs.Bytes.{Bytes, sameBytes}
+use Rattle.rules.specs.Bytes.{sameBytes}
 use Rattle.rules.specs.Numbers.{Signed, signed, Sum, zeroSum, _⊕_, asSum, magnitudes, most}
 use Rattle.rules.specs.Lines.{Code, groupHeader, Record, recordBytes}
 use Rattle.rules.specs.Grammar.{total}
 use Rattle.rules.specs.Records.{the}
 use Rattle.rules.specs.Totals.{Summary, _⊞_, one, adding, ofRecord}
-use Rattle.rules.specs.Parts.{receiverOf}
 use Rattle.rules.specs.Combine.{summaryOf, summaryOfAll, joined}
-use Rattle.rules.specs.Split.{groupsFor}
-use Rattle.rules.proofs.Tests.{Known, holds, fails, known}
 use Rattle.laws.specs.Words.{All}
 use Rattle.laws.proofs.Codes.{of-each, Of, Begins}
 use Rattle.laws.proofs.Pieces.{groupCodes}
@@ -25,7 +22,7 @@ use Rattle.laws.proofs.Summaries.{summary-append, summary-as, lines-counted}
 use Rattle.laws.proofs.WholeLines.{no-more-lines}
 use Rattle.laws.proofs.Kept.{bytes-append, bytes-joined}
 use Rattle.groups.specs.Ahead.{Stands, Tallied}
-use Rattle.groups.specs.Reading.{Stated}
+use Rattle.groups.specs.Reading.{StatesTotal, StatesRecords}
 
 -- ---- what one group adds
 
@@ -45,7 +42,7 @@ one-group (r ∷ rs) b =
     let e : summaryOf r .groups ≡ 1 = ap (λ (u : Summary). u .groups) (summary-as groupHeader r (b .0)) in
     rw (e, no-groups groupCodes rs (refl, (refl, (refl, (refl, tt)))) (b .1))
 
--- a group's numbers: the total that its 98 states, and its lines
+-- a group's numbers: the total and the lines that its 98 states
 pub record Adds (g : List Record) (sum : Sum) (lines : ℕ) : Type 0 where
   pub group : summaryOfAll g .groups ≡ 1
   pub total : summaryOfAll g .sum .pluses + sum .minuses ≡ sum .pluses + summaryOfAll g .sum .minuses
@@ -61,13 +58,14 @@ one-sided a s e = go (s .negative) refl
     go true n = let e′ = rw n at e in rw n (omega arith)
     go false n = let e′ = rw n at e in rw n (omega arith)
 
-pub adds : (g : List Record) (s : Stands g) (sum : Sum) (lines : ℕ) → Stated (s .controlled .trailer) sum → lines ≡ length (joined g) → Adds g sum lines
-adds g s sum lines said lines-are =
+pub adds : (g : List Record) (s : Stands g) (sum : Sum) (lines : ℕ) → StatesTotal (s .controlled .trailer) sum → StatesRecords (s .controlled .trailer) lines → Adds g sum lines
+adds g s sum lines said counts =
     let c = s .controlled in
     let a = signed (the total (c .fields) .bytes) in
     let is-total : sum ≡ asSum a = said (c .fields) (c .walked) in
     let stated = eqb→eq _ _ (c .states-total) in
     let counted = lines-counted _ g (group-codes g (s .is-group)) in
+    let lines-are : lines ≡ length (joined g) = counts (c .fields) (c .walked) ∙ c .states-lines in
     let most-lines = no-more-lines (joined g) (s .kept .wholes) in
     let bytes = ap length (bytes-joined g) in
     record {
@@ -123,15 +121,3 @@ tally-add all g gs groups bytes sum lines more n t a =
       room = omega (arith, a .small);
       few = omega (arith, a .few, t .few);
     }
-
--- ---- the groups for a name are no more than all
-
-pub for-bounded : (name : Bytes) (gs : List (List Record)) → magnitudes (summaryOfAll (joined (groupsFor name gs)) .sum) ≤ magnitudes (summaryOfAll (joined gs) .sum)
-unfolding groupsFor joined _⊞_
-for-bounded name [] = omega arith
-for-bounded name (g ∷ gs) = go (known (sameBytes name (receiverOf g))) (for-bounded name gs)
-  where
-    go : Known (sameBytes name (receiverOf g)) → magnitudes (summaryOfAll (joined (groupsFor name gs)) .sum) ≤ magnitudes (summaryOfAll (joined gs) .sum)
-        → magnitudes (summaryOfAll (joined (groupsFor name (g ∷ gs))) .sum) ≤ magnitudes (summaryOfAll (joined (g ∷ gs)) .sum)
-    go (holds e) ih = rw (e, summary-append g (joined (groupsFor name gs)), summary-append g (joined gs)) (omega arith)
-    go (fails e) ih = rw (e, summary-append g (joined gs)) (omega arith)

@@ -2,13 +2,13 @@
 use Prim.Native.Nat.{ℕ, _+_, _-_, _≤_}
 use native.Mathlib.Omega.{arith}
 use mathlib.Core.Path.{_≡_, sym, ap, subst, _∙_}
-use mathlib.Core.Bool.{true, false}
-use mathlib.Core.List.{List, [], _∷_, _++_, append-nil}
+use mathlib.Core.Bool.{Bool, true, false}
+use mathlib.Core.List.{List, [], _∷_, _++_}
 use lib.ListN.{length, take, drop, length-take, length-drop}
 use lib.Seq.{drop-drop, length-take-le}
 use Rattle.rules.specs.Bytes.{Bytes, sameBytes}
 use Rattle.rules.specs.Numbers.{Sum, _⊕_, magnitudes, most}
-use Rattle.rules.specs.Lines.{linesOf, lineBytes, groupHeader, groupTrailer, fileTrailer, codeBytes, begins, Record, recordSize, recordBytes}
+use Rattle.rules.specs.Lines.{linesOf, groupHeader, groupTrailer, fileTrailer, codeBytes, begins, Record, recordSize, recordBytes}
 use Rattle.rules.specs.Order.{among}
 use Rattle.rules.specs.Parts.{groupsIn, receiverOf, sizeOfAll}
 use Rattle.rules.specs.Combine.{joined}
@@ -22,12 +22,11 @@ use Rattle.digits.specs.Put.{Put}
 use Rattle.slices.specs.Wrote.{Wrote}
 use Rattle.slices.proofs.Writing.{wrote-put}
 use Rattle.laws.proofs.Codes.{of-own, not-of}
-use Rattle.laws.proofs.WholeLines.{wholes-stay}
-use Rattle.laws.proofs.Kept.{bytes-append, bytes-joined}
+use Rattle.laws.proofs.Kept.{bytes-append}
 use Rattle.groups.specs.Ahead.{Ahead, matching}
-use Rattle.groups.specs.Reading.{isFor, Stated}
+use Rattle.groups.specs.Reading.{Names, StatesTotal, StatesRecords}
 use Rattle.groups.proofs.Extents.{before, last, group-size, Next, next, none}
-use Rattle.groups.proofs.Receivers.{for-receiver}
+use Rattle.groups.proofs.Receivers.{named}
 use Rattle.groups.proofs.Tallies.{Adds, adds, Tallying, tally-add}
 
 -- ---- any bytes
@@ -98,14 +97,6 @@ module _ (s : Bytes) (at t e : ℕ) (begun : sameBytes (codeBytes groupHeader) (
       let size : e - t ≡ recordSize (last g (n .stands)) = omega (arith, last-size) in
       rw (size, from-last) (n .last-reads)
 
-  -- its lines
-  turn-lines : linesOf (take (e - at) xs) ≡ joined g
-  unfolding linesOf
-  turn-lines =
-      ap linesOf (turn-part ∙ bytes-joined g ∙ sym (append-nil (lineBytes (joined g))))
-      ∙ wholes-stay (joined g) [] (n .stands .kept .wholes)
-      ∙ append-nil (joined g)
-
   -- behind it
   from-end : drop (length (recordBytes g)) xs ≡ drop e s
   from-end = let k : at + length (recordBytes g) ≡ e = omega (arith, turn-size, order) in drop-drop (length (recordBytes g)) at s ∙ ap (λ (m : ℕ). drop m s) k
@@ -117,24 +108,29 @@ module _ (s : Bytes) (at t e : ℕ) (begun : sameBytes (codeBytes groupHeader) (
   others-are = ap groupsIn (sym from-end) ∙ n .behind-cut
 
   -- it is for the name, or it is not
-  module _ (name : Bytes) where
-    same-test : isFor name (take (e - at) xs) ≡ sameBytes name (receiverOf g)
-    same-test = ap (isFor name) turn-part ∙ for-receiver name g (n .stands)
+  module _ (name : Bytes) (for-it : Bool) (names : Names name (firstRecord (linesOf xs)) for-it) where
+    same-test : for-it ≡ sameBytes name (receiverOf g)
+    same-test = named name g (n .stands) for-it (subst (λ (r : Record). Names name r for-it) (n .first) names)
 
-    pub turn-for : isFor name (take (e - at) xs) ≡ true → matching name xs ≡ g ∷ matching name (drop e s)
+    pub turn-for : for-it ≡ true → matching name xs ≡ g ∷ matching name (drop e s)
     unfolding groupsFor
     turn-for h = let z = sym same-test ∙ h in rw (n .cut, z, others-are)
 
-    pub turn-not : isFor name (take (e - at) xs) ≡ false → matching name xs ≡ matching name (drop e s)
+    pub turn-not : for-it ≡ false → matching name xs ≡ matching name (drop e s)
     unfolding groupsFor
     turn-not h = let z = sym same-test ∙ h in rw (n .cut, z, others-are)
 
+    -- its bytes come next
+    pub turn-bytes : for-it ≡ true → recordBytes (joined (matching name xs)) ≡ take (e - at) xs ++ recordBytes (joined (matching name (drop e s)))
+    unfolding joined
+    turn-bytes h = ap (λ (gs : List (List Record)). recordBytes (joined gs)) (turn-for h) ∙ bytes-append g (joined (matching name (drop e s))) ∙ rw (← turn-part)
+
     -- its numbers are added
-    module _ (h : isFor name (take (e - at) xs) ≡ true) (all : List (List Record)) (groups bytes : ℕ) (sum : Sum) (lines : ℕ) (more : Sum) (m : ℕ)
-        (tally : Tallying all (matching name xs) groups bytes sum lines) (said : Stated (linesOf (take (e - t) (drop t s))) more)
-        (counted : m ≡ length (linesOf (take (e - at) xs))) where
+    module _ (h : for-it ≡ true) (all : List (List Record)) (groups bytes : ℕ) (sum : Sum) (lines : ℕ) (more : Sum) (m : ℕ)
+        (tally : Tallying all (matching name xs) groups bytes sum lines) (said : StatesTotal (linesOf (take (e - t) (drop t s))) more)
+        (counts : StatesRecords (linesOf (take (e - t) (drop t s))) m) where
       its : Adds g more m
-      its = adds g (n .stands) more m (subst (λ (r : Record). Stated r more) turn-last said) (counted ∙ ap length turn-lines)
+      its = adds g (n .stands) more m (subst (λ (r : Record). StatesTotal r more) turn-last said) (subst (λ (r : Record). StatesRecords r m) turn-last counts)
 
       pub few-lines : m ≤ e - at
       few-lines = omega (arith, its .few, turn-size)
@@ -146,11 +142,6 @@ module _ (s : Bytes) (at t e : ℕ) (begun : sameBytes (codeBytes groupHeader) (
 
       pub in-range : magnitudes (sum ⊕ more) ≤ most
       in-range = omega (arith, turn-tally .room)
-
-    -- its bytes come next
-    pub turn-bytes : isFor name (take (e - at) xs) ≡ true → recordBytes (joined (matching name xs)) ≡ take (e - at) xs ++ recordBytes (joined (matching name (drop e s)))
-    unfolding joined
-    turn-bytes h = ap (λ (gs : List (List Record)). recordBytes (joined gs)) (turn-for h) ∙ bytes-append g (joined (matching name (drop e s))) ∙ rw (← turn-part)
 
 -- ---- the last group was the last
 

@@ -11,7 +11,6 @@ use Rattle.rules.specs.Numbers.{Sum, equals, magnitudes, most}
 use Rattle.rules.specs.Outcome.{fine}
 use Rattle.rules.specs.Lines.{groupHeader, groupTrailer, fileTrailer, Record, recordBytes, fileRecords}
 use Rattle.rules.specs.Records.{walkRecord}
-use Rattle.rules.specs.Totals.{Summary}
 use Rattle.rules.specs.Parts.{heads, groupsIn, fieldsIn}
 use Rattle.rules.specs.Combine.{summaryOfAll, joined}
 use Rattle.rules.specs.Split.{groupsFor}
@@ -46,12 +45,9 @@ pub record Tallied (gs : List (List Record)) (groups bytes : ℕ) (total : Sum) 
 abbrev pub matching : Bytes → Bytes → List (List Record)
 matching name xs = groupsFor name (groupsIn xs)
 
--- what the groups for a name add, of the groups of a file from a place on; the bytes are within the file in any case
-pub record Counts (name file : Bytes) (from groups bytes : ℕ) (total : Sum) (records : ℕ) : Type 0 where
+-- what the groups for a name add, of the groups of a file from a place on, within the file in any case; and their bytes were put at the front of a slice
+-- that has room for them
+pub record Takes (name file : Bytes) (from : ℕ) (before : Bytes) (groups bytes : ℕ) (total : Sum) (records : ℕ) (after : Bytes) : Type 0 where
   pub tallied : Ahead (drop from file) → Tallied (matching name (drop from file)) groups bytes total records
   pub inside : bytes + from ≤ length file + (from - length file)
-
--- the bytes of those groups were put at the front of a slice that has room for them: how many
-pub record Copies (name xs before : Bytes) (r : ℕ) (after : Bytes) : Type 0 where
-  pub put : Ahead xs → length (recordBytes (joined (matching name xs))) ≤ length before → Put (recordBytes (joined (matching name xs))) before r after
-  pub within : r ≤ length before
+  pub put : Ahead (drop from file) → length (recordBytes (joined (matching name (drop from file)))) ≤ length before → Put (recordBytes (joined (matching name (drop from file)))) before bytes after

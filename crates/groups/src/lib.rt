@@ -1,17 +1,19 @@
-// The groups of an accepted file that are for one receiver: their totals, from what their 98s state, their records, counted, and their bytes, copied.
+// The groups of an accepted file that are for one receiver: their totals and records, from what their 98s state, and their bytes, copied.
 use codes::Code;
 use digits::kinds::Records;
 use digits::kinds::Units;
 use digits::kinds::UnitsSum;
-use fields::Cut;
+use seek::Sought;
+use wants::want;
 ghost use mathlib.Core.Path.{_≡_};
-ghost use Prim.Native.Nat.{_≤_};
+ghost use Prim.Native.Nat.{_≤_, _<_};
 ghost use lib.ListN.{length, drop};
 ghost use Rattle.rules.specs.Numbers.{_⊕_, asSum, magnitudes, most};
 ghost use Rattle.rules.specs.Lines.{linesOf};
+ghost use Rattle.lines.specs.Cut.{firstRecord};
 ghost use Rattle.digits.specs.Kinds.{sumMeant};
-ghost use Rattle.groups.specs.Ahead.{Counts, Copies};
-ghost use Rattle.groups.specs.Reading.{isFor, Stated};
+ghost use Rattle.groups.specs.Ahead.{Takes};
+ghost use Rattle.groups.specs.Reading.{Names, StatesTotal, StatesRecords};
 
 // What groups add: how many they are, their bytes, their total and their records.
 pub struct Tally {
@@ -21,18 +23,17 @@ pub struct Tally {
     pub records: Records,
 }
 
-// The group in these bytes is for this name.
-fn is_for(name: &[u8], group: &[u8]) -> bool
-    requires { ⌜ 3 ≤ length (now group) ⌝ }
-    ensures { λ r. ⌜ r ≡ isFor (now (name .entry)) (now (group .entry)) ⌝ }
+// The group that starts at `at` is for this name.
+fn is_for(name: &[u8], file: &[u8], at: usize) -> bool
+    requires { ⌜ at < length (now file) ⌝ }
+    ensures { λ r. ⌜ Names (now (name .entry)) (firstRecord (linesOf (drop at (now (file .entry))))) r ⌝ }
 {
-    match fields::cut_field(false, &group[3..]) {
-        Cut::Open => false,
-        Cut::Field(n) => {
-            let e = 3 + n;
-            slices::same_bytes(name, &group[3..e])
-        }
-    }
+    let e = lines::record_end(file, at);
+    let rec = &file[at..e];
+    let spot = seek::seek(rec, want::first_want(Code::GroupHeader), Sought::Receiver);
+    let from = spot.start;
+    let to = from + spot.length;
+    slices::same_bytes(name, &rec[from..to])
 }
 
 // A magnitude as a sum.
@@ -45,21 +46,25 @@ fn signed_units(negative: bool, n: u64) -> Units
     Units(n, 0)
 }
 
-// The total that the 98 in these bytes states: its first field.
-fn stated(rec: &[u8]) -> Units
-    ensures { λ r. ⌜ Stated (linesOf (now (rec .entry))) (sumMeant r) ⌝ }
+// The total that the 98 in these bytes states.
+fn stated_total(rec: &[u8]) -> Units
+    ensures { λ r. ⌜ StatesTotal (linesOf (now (rec .entry))) (sumMeant r) ⌝ }
 {
-    if rec.len() < 3 {
-        return Units(0, 0);
-    }
-    match fields::cut_field(false, &rec[3..]) {
-        Cut::Open => Units(0, 0),
-        Cut::Field(n) => {
-            let e = 3 + n;
-            let total = digits::amount_in(&rec[3..e]);
-            signed_units(total.negative, total.magnitude)
-        }
-    }
+    let spot = seek::seek(rec, want::first_want(Code::GroupTrailer), Sought::Total);
+    let from = spot.start;
+    let to = from + spot.length;
+    let total = digits::amount_in(&rec[from..to]);
+    signed_units(total.negative, total.magnitude)
+}
+
+// The number of records that the 98 in these bytes states.
+fn stated_records(rec: &[u8]) -> Records
+    ensures { λ r. ⌜ StatesRecords (linesOf (now (rec .entry))) (r .0) ⌝ }
+{
+    let spot = seek::seek(rec, want::first_want(Code::GroupTrailer), Sought::Records);
+    let from = spot.start;
+    let to = from + spot.length;
+    Records(digits::value(&rec[from..to]))
 }
 
 // Both sums in one; the first alone where their magnitudes pass the largest.
@@ -72,11 +77,12 @@ fn added(a: Units, b: Units) -> Units
     }
 }
 
-// What the groups for this name add, of the groups from `from` on.
-pub fn tally_groups(name: &[u8], file: &[u8], from: usize) -> Tally
-    ensures { λ r. ⌜ Counts (now (name .entry)) (now (file .entry)) from (r .groups) (r .bytes) (sumMeant (r .total)) (r .records .0) ⌝ }
+// What the groups for this name add, of the groups from `from` on; and their bytes at the front of out, where it has room for them all.
+pub fn take_groups(name: &[u8], file: &[u8], from: usize, out: &mut [u8]) -> Tally
+    ensures { λ r. ⌜ Takes (now (name .entry)) (now (file .entry)) from (now (out .entry)) (r .groups) (r .bytes) (sumMeant (r .total)) (r .records .0) (now (out .exit)) ⌝ }
 {
     let mut at = from;
+    let mut o: usize = 0;
     let mut groups: u64 = 0;
     let mut bytes: usize = 0;
     let mut total = Units(0, 0);
@@ -84,9 +90,10 @@ pub fn tally_groups(name: &[u8], file: &[u8], from: usize) -> Tally
     while marks::begins_at(file, at, Code::GroupHeader) {
         let last = marks::next_mark(file, at, Code::GroupTrailer, Code::FileTrailer);
         let e = lines::record_end(file, last);
-        if is_for(name, &file[at..e]) {
-            total = added(total, stated(&file[last..e]));
-            records = records.add(fresh::count_lines(&file[at..e]));
+        if is_for(name, file, at) {
+            o += slices::put(&mut out[o..], &file[at..e]);
+            total = added(total, stated_total(&file[last..e]));
+            records = records.add(stated_records(&file[last..e]));
             groups += 1;
             bytes += e - at;
         }
@@ -98,21 +105,4 @@ pub fn tally_groups(name: &[u8], file: &[u8], from: usize) -> Tally
         total,
         records,
     }
-}
-
-// The bytes of the groups for this name, of the groups from `from` on, at the front of out: how many.
-pub fn copy_groups(name: &[u8], file: &[u8], from: usize, out: &mut [u8]) -> usize
-    ensures { λ r. ⌜ Copies (now (name .entry)) (drop from (now (file .entry))) (now (out .entry)) r (now (out .exit)) ⌝ }
-{
-    let mut at = from;
-    let mut o: usize = 0;
-    while marks::begins_at(file, at, Code::GroupHeader) {
-        let last = marks::next_mark(file, at, Code::GroupTrailer, Code::FileTrailer);
-        let e = lines::record_end(file, last);
-        if is_for(name, &file[at..e]) {
-            o += slices::put(&mut out[o..], &file[at..e]);
-        }
-        at = e;
-    }
-    o
 }

@@ -1,18 +1,23 @@
 -- What the answers of split and combine say in document 01's terms. Assumes nothing.
-use Prim.Native.Nat.{ℕ, _+_}
+use Prim.Native.Nat.{ℕ, _+_, _≤_}
 use mathlib.Core.Path.{_≡_}
+use mathlib.Core.Bool.{cond}
 use mathlib.Core.List.{_++_}
 use lib.Dec.{leb}
-use lib.ListN.{length}
+use lib.ListN.{length, take, drop}
 use Rattle.rules.specs.Bytes.{Bytes}
 use Rattle.rules.specs.Numbers.{magnitudes, most}
 use Rattle.rules.specs.Outcome.{fine, _>>=_, _>>_, check}
+use Rattle.rules.specs.Lines.{linesOf, recordSize, recordBytes}
 use Rattle.rules.specs.Totals.{Summary}
-use Rattle.rules.specs.Verdict.{judge}
+use Rattle.rules.specs.Verdict.{judge, mostBytes}
 use Rattle.rules.specs.Parts.{headerIn, groupsIn}
 use Rattle.rules.specs.Combine as rules
-use Rattle.rules.specs.Combine.{withTrailer, joined, limitOf, linesWithin, fitting, answered}
+use Rattle.rules.specs.Combine.{summaryOfAll, freshTrailer, withTrailer, joined, limitOf, linesWithin, fitting, answered}
 use Rattle.rules.specs.Split.{groupsFor}
+use Rattle.digits.specs.Put.{Put}
+use Rattle.lines.specs.Cut.{firstRecord}
+use Rattle.fresh.specs.declared.Trailer.{Trailer}
 use Rattle.joining.specs.declared.Answer.{Answer}
 use Rattle.joining.specs.declared.combine.Combined.{Combined}
 
@@ -31,9 +36,31 @@ success n out = record { number = 0; place = 0; which = 0; len = n; output = out
 abbrev pub Accepts : Bytes → Type 0
 Accepts file = (s : Summary) × (judge file ≡ fine s)
 
+-- so many bytes of an accepted file are its header
+abbrev pub Opens : Bytes → ℕ → Type 0
+Opens file h = Accepts file × (h ≡ 0 + recordSize (firstRecord (linesOf (drop 0 file))))
+
+-- what split writes behind the header: the groups for the name, and a fresh 99
+unfoldable pub splitGroups : Bytes → Bytes → Bytes
+splitGroups name file = recordBytes (joined (groupsFor name (groupsIn file)))
+
+unfoldable pub splitLast : Bytes → Bytes → Bytes
+splitLast name file = freshTrailer (summaryOfAll (headerIn file ++ joined (groupsFor name (groupsIn file))))
+
+-- so many bytes of groups, put into a slice that has room for them; and the 99
+pub record RestIs (name file before : Bytes) (bytes : ℕ) (last : Trailer) (after : Bytes) : Type 0 where
+  pub count : bytes ≡ length (splitGroups name file)
+  pub put : length (splitGroups name file) ≤ length before → Put (splitGroups name file) before bytes after
+  pub is-last : take (last .length) (last .bytes) ≡ splitLast name file
+  pub last-most : (last .length ≤ 80) × (length (last .bytes) ≡ 80)
+
 -- what split writes of an accepted file, and its answer behind 16 and the reader's refusal
 unfoldable pub splitResult : Bytes → Bytes → Bytes
 splitResult name file = withTrailer (headerIn file ++ joined (groupsFor name (groupsIn file)))
+
+-- 18 where a result is too long, 15 where the room is too short for it, else 0
+unfoldable pub misfitOf : Bytes → ℕ → ℕ
+misfitOf result room = cond (leb (length result) mostBytes) (cond (leb (length result) room) 0 15) 18
 
 unfoldable pub splitFitting : Bytes → Bytes → Bytes → rules.Answer
 splitFitting name file before = answered (fitting (splitResult name file) (length before)) 0 before

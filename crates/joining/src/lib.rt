@@ -1,29 +1,35 @@
 // A file split for one receiver: measured first, then written. `combine` holds two files combined.
 use digits::kinds::Place;
 use digits::kinds::Records;
+use fresh::Trailer;
 use reader::Verdict;
 ghost use mathlib.Core.Path.{_≡_};
-ghost use mathlib.Core.List.{_++_};
-ghost use Prim.Native.Nat.{_+_, _≤_};
-ghost use lib.ListN.{length, take, drop};
+ghost use Prim.Native.Nat.{_≤_};
+ghost use lib.ListN.{length};
 ghost use Rattle.rules.specs.Bytes.{Bytes, inField};
-ghost use Rattle.rules.specs.Lines.{recordBytes};
-ghost use Rattle.rules.specs.Combine.{joined};
 ghost use Rattle.rules.specs.Split as rules;
 ghost use Rattle.digits.specs.Put.{Put};
-ghost use Rattle.groups.specs.Ahead.{Ahead, matching};
-ghost use Rattle.joining.specs.Answers.{answerMeant, refusal, Accepts, splitFitting};
+ghost use Rattle.joining.specs.Answers.{answerMeant, refusal, Accepts, Opens, RestIs, splitResult, misfitOf, splitFitting};
 
 pub mod combine;
 
 // The longest result.
 const MOST_BYTES: usize = 16_777_216;
 
+// No fresh 99 is longer.
+const MOST_LAST: usize = 80;
+
 // A refusal's number and place, or 0 and 0; and the result's length, or 0.
 pub struct Answer {
     pub number: u64,
     pub place: Place,
     pub length: usize,
+}
+
+// What stands behind the header of a split: so many bytes of groups, and a 99.
+struct Rest {
+    bytes: usize,
+    last: Trailer,
 }
 
 // Refused, with nothing written.
@@ -70,14 +76,61 @@ fn is_asked(name: &[u8]) -> bool
     true
 }
 
-// The header, the groups for this name and this 99 at the front of out: how many bytes.
-fn write_split(name: &[u8], file: &[u8], header: usize, last: &[u8], out: &mut [u8]) -> usize
-    requires { ⌜ (header ≤ length (now file)) × Ahead (drop header (now file)) × (length (take header (now file) ++ (recordBytes (joined (matching (now name) (drop header (now file)))) ++ now last)) ≤ length (now out)) ⌝ }
-    ensures { λ r. ⌜ Put (take header (now (file .entry)) ++ (recordBytes (joined (matching (now (name .entry)) (drop header (now (file .entry))))) ++ now (last .entry))) (now (out .entry)) r (now (out .exit)) ⌝ }
+// The groups for this name at the front of out, where it has room for them, and the 99 behind them.
+fn take_rest(name: &[u8], file: &[u8], header: usize, out: &mut [u8]) -> Rest
+    requires { ⌜ Opens (now file) header ⌝ }
+    ensures { λ r. ⌜ RestIs (now (name .entry)) (now (file .entry)) (now (out .entry)) (r .bytes) (r .last) (now (out .exit)) ⌝ }
+{
+    let tally = groups::take_groups(name, file, header, out);
+    let records = fresh::count_lines(&file[0..header]).add(tally.records);
+    Rest {
+        bytes: tally.bytes,
+        last: fresh::fresh_trailer(tally.total, tally.groups, records.add(Records(1))),
+    }
+}
+
+// How many bytes the split has.
+fn split_length(name: &[u8], file: &[u8], header: usize) -> usize
+    requires { ⌜ Opens (now file) header ⌝ }
+    ensures { λ r. ⌜ r ≡ length (splitResult (now (name .entry)) (now (file .entry))) ⌝ }
+{
+    let mut nowhere = [0u8; 0];
+    let rest = take_rest(name, file, header, &mut nowhere);
+    let last = rest.last;
+    header + rest.bytes + last.length
+}
+
+// 18 or 15 where the split is too long, or longer than this room; else 0. Where even the whole file and a 99 fit, nothing is measured.
+fn misfit(name: &[u8], file: &[u8], header: usize, room: usize) -> u64
+    requires { ⌜ Opens (now file) header ⌝ }
+    ensures { λ r. ⌜ r ≡ misfitOf (splitResult (now (name .entry)) (now (file .entry))) room ⌝ }
+{
+    let most = file.len() + MOST_LAST;
+    if most <= room && most <= MOST_BYTES {
+        return 0;
+    }
+    let length = split_length(name, file, header);
+    if MOST_BYTES < length {
+        return 18;
+    }
+    if room < length {
+        return 15;
+    }
+    0
+}
+
+// The split at the front of out: how many bytes.
+fn write_split(name: &[u8], file: &[u8], header: usize, out: &mut [u8]) -> usize
+    requires { ⌜ Opens (now file) header × (length (splitResult (now name) (now file)) ≤ length (now out)) ⌝ }
+    ensures { λ r. ⌜ Put (splitResult (now (name .entry)) (now (file .entry))) (now (out .entry)) r (now (out .exit)) ⌝ }
 {
     let mut o = slices::put(out, &file[0..header]);
-    o += groups::copy_groups(name, file, header, &mut out[o..]);
-    o += slices::put(&mut out[o..], last);
+    let rest = take_rest(name, file, header, &mut out[o..]);
+    let last = rest.last;
+    let bytes = last.bytes;
+    let size = last.length;
+    o += rest.bytes;
+    o += slices::put(&mut out[o..], &bytes[0..size]);
     o
 }
 
@@ -87,22 +140,14 @@ fn split_accepted(name: &[u8], file: &[u8], out: &mut [u8]) -> Answer
     ensures { λ r. ⌜ answerMeant r (now (out .exit)) ≡ splitFitting (now (name .entry)) (now (file .entry)) (now (out .entry)) ⌝ }
 {
     let header = lines::record_end(file, 0);
-    let tally = groups::tally_groups(name, file, header);
-    let records = fresh::count_lines(&file[0..header]).add(tally.records);
-    let last = fresh::fresh_trailer(tally.total, tally.groups, records.add(Records(1)));
-    let size = last.length;
-    let length = header + tally.bytes + size;
-    if MOST_BYTES < length {
-        return refused(18, Place(0));
+    let number = misfit(name, file, header, out.len());
+    if number != 0 {
+        return refused(number, Place(0));
     }
-    if out.len() < length {
-        return refused(15, Place(0));
-    }
-    let bytes = last.bytes;
     Answer {
         number: 0,
         place: Place(0),
-        length: write_split(name, file, header, &bytes[0..size], out),
+        length: write_split(name, file, header, out),
     }
 }
 
