@@ -1,3 +1,2 @@
--- The bytes of a fresh 99, and line feeds.
-pub mod Feeds
+-- The bytes of a fresh 99.
 pub mod Fresh

@@ -4,20 +4,14 @@ use digits::kinds::Units;
 use digits::writing;
 ghost use mathlib.Core.Path.{_≡_};
 ghost use mathlib.Core.List.{_∷_};
-ghost use mathlib.Core.Bool.{cond};
-ghost use Prim.Native.Nat.{_+_, _≤_, _<_};
-ghost use lib.Dec.{eqb};
-ghost use lib.ListN.{length, take, drop};
-ghost use Rattle.rules.specs.Bytes.{LF, comma};
+ghost use Prim.Native.Nat.{_≤_};
+ghost use lib.ListN.{length, take};
+ghost use Rattle.rules.specs.Bytes.{comma};
 ghost use Rattle.rules.specs.Numbers.{decimal};
 ghost use Rattle.rules.specs.Lines.{linesOf};
 ghost use Rattle.digits.specs.Kinds.{sumMeant};
 ghost use Rattle.digits.specs.Put.{Put};
 ghost use Rattle.fresh.specs.Fresh.{lastLine};
-ghost use Rattle.fresh.specs.Feeds.{feeds};
-
-// So many bytes are counted at once.
-const BLOCK: usize = 128;
 
 // A fresh 99: its bytes and how many they are.
 pub struct Trailer {
@@ -59,54 +53,15 @@ pub fn fresh_trailer(total: Units, groups: u64, records: Records) -> Trailer
     Trailer { bytes, length }
 }
 
-// n, and one more for a line feed.
-fn counted(n: u8, b: u8) -> u8
-    requires { ⌜ n < 255 ⌝ }
-    ensures { λ r. ⌜ (r ≡ n + cond (eqb b LF) 1 0) × (r ≤ n + 1) ⌝ }
-{
-    if b == b'\n' {
-        return n + 1;
-    }
-    n
-}
-
-// How many of so many bytes from `at` on are line feeds; a byte holds the count, so that this compiles to vector code.
-fn feeds_in(s: &[u8], at: usize, size: usize) -> u64
-    requires { ⌜ (at + size ≤ length (now s)) × (size ≤ 255) ⌝ }
-    ensures { λ r. ⌜ (r + feeds (drop (at + size) (now (s .entry))) ≡ feeds (drop at (now (s .entry)))) × (r ≤ size) ⌝ }
-{
-    let mut n: u8 = 0;
-    let mut i: usize = 0;
-    while i < size {
-        n = counted(n, s[at + i]);
-        i += 1;
-    }
-    n as u64
-}
-
-// How many line feeds stand in these bytes.
-fn count_feeds(s: &[u8]) -> u64
-    ensures { λ r. ⌜ (r ≡ feeds (now (s .entry))) × (r ≤ length (now (s .entry))) ⌝ }
-{
-    let mut n: u64 = 0;
-    let mut at: usize = 0;
-    while BLOCK <= s.len() - at {
-        n += feeds_in(s, at, BLOCK);
-        at += BLOCK;
-    }
-    n + feeds_in(s, at, s.len() - at)
-}
-
 // How many lines stand in these bytes.
 pub fn count_lines(s: &[u8]) -> Records
     ensures { λ r. ⌜ (r .0 ≡ length (linesOf (now (s .entry)))) × (r .0 ≤ length (now (s .entry))) ⌝ }
 {
-    if s.len() == 0 {
-        return Records(0);
+    let mut n: u64 = 0;
+    let mut at: usize = 0;
+    while at < s.len() {
+        at = lines::next_line(s, at);
+        n += 1;
     }
-    let n = count_feeds(s);
-    if s[s.len() - 1] == b'\n' {
-        return Records(n);
-    }
-    Records(n + 1)
+    Records(n)
 }
