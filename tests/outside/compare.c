@@ -11,7 +11,7 @@
 
 #include "compare.h"
 
-enum { NUMBERS = 21, HUGE = 1 << 22 };
+enum { NUMBERS = 21, HUGE = 1 << 22, LONGEST_TRAILER = 80 /* no fresh 99 has more bytes */ };
 
 static guarded file_memory[2], name_memory;
 static buffer made;
@@ -114,6 +114,8 @@ static void compare_split(dice *d)
         ask_split(name, file, (size_t)roll(d, a.length));
         ask_split(name, file, (size_t)a.length);
         read_back((size_t)a.length);
+        ask_split(name, file, file.length + LONGEST_TRAILER - 1); /* barely not enough for whatever the file holds */
+        ask_split(name, file, file.length + LONGEST_TRAILER);
     }
     split_for_each_group(lend(&file_memory[0], copy.bytes, copy.length));
     release(&copy);
