@@ -1,7 +1,5 @@
 -- What the reader's summaries, states and verdicts say in document 01's terms. Assumes nothing.
 use Prim.Native.Nat.{ℕ, _+_, _≤_}
-use mathlib.Core.Path.{_≡_, ap, ap₂}
-use native.Mathlib.Omega.{arith}
 use Rattle.rules.specs.Outcome.{Outcome, refused, fine}
 use Rattle.rules.specs.Numbers.{most}
 use Rattle.rules.specs.Totals as totals
@@ -69,20 +67,3 @@ pub record Held (s : State) : Type 0 where
   pub counted : Counted (s .file)
   pub group : Below (s .group) (s .file)
   pub account : Below (s .account) (s .file)
-
--- ---- one verdict
-
--- the summary with this meaning
-abbrev summaryOf : totals.Summary → Summary
-summaryOf m =
-    record { total = record { 0 = m .sum .pluses; 1 = m .sum .minuses }; groups = m .groups; accounts = m .accounts; details = m .details; records = record { 0 = m .lines } }
-
--- two verdicts with the same meaning are the same
-pub one-verdict : (v w : Verdict) → verdictMeant v ≡ verdictMeant w → v ≡ w
-one-verdict (Accepted s) (Accepted t) e = let z : summaryMeant s ≡ summaryMeant t = cc in ap (λ (m : totals.Summary). Accepted (summaryOf m)) z
-one-verdict (Accepted s) (Refused n p) e = let z : _≡_ {A = ℕ} 0 1 = cc in absurd (omega arith)
-one-verdict (Refused n p) (Accepted t) e = let z : _≡_ {A = ℕ} 0 1 = cc in absurd (omega arith)
-one-verdict (Refused n p) (Refused m q) e =
-    let y : n ≡ m = cc in
-    let z : p .0 ≡ q .0 = cc in
-    ap₂ (λ (a b : ℕ). Refused a (record { 0 = b })) y z

@@ -96,7 +96,7 @@ fn settle(st: State, rec: &[u8], code: Code, records: Records, kept: Kept) -> Se
 }
 
 // The record in front of the rest of the file.
-pub fn step(st: State, rest: &[u8]) -> Stepped
+pub(crate) fn step(st: State, rest: &[u8]) -> Stepped
     requires { ⌜ (Held st) × (st .file .records .0 + length (now rest) ≤ mostBytes) ⌝ }
     ensures { λ r. ⌜ StepIs r st (now (rest .entry)) ⌝ }
 {

@@ -75,7 +75,7 @@ pub fn adding(code: Code, total: Units, records: Records) -> Summary
 }
 
 // Both summaries together.
-pub fn joined(a: Summary, b: Summary) -> Summary
+pub(crate) fn joined(a: Summary, b: Summary) -> Summary
     requires { ⌜ (Small a) × (Small b) ⌝ }
     ensures { λ r. ⌜ summaryMeant r ≡ summaryMeant a ⊞ summaryMeant b ⌝ }
 {
