@@ -11,7 +11,7 @@
 
 #include "compare.h"
 
-enum { NUMBERS = 21, HUGE = 1 << 22, LONGEST_TRAILER = 80 /* no fresh 99 has more bytes */ };
+enum { NUMBERS = 21, HUGE = 1 << 22, LONGEST_TRAILER = 64 /* no fresh 99 has more bytes */ };
 
 static guarded file_memory[2], name_memory;
 static buffer made;

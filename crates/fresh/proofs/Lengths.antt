@@ -31,6 +31,13 @@ unfolding lastLine
 last-most a groups records p m g r =
     simp length-append (omega (arith, total-most a p m, digits-most groups g, digits-most records r))
 
+-- nor than 64, where its counts are a file's
+pub last-short : (a : Sum) (groups records : ℕ) → a .pluses < 18446744073709551616 → a .minuses < 18446744073709551616 → groups < 1000000000 → records < 1000000000
+    → length (lastLine a groups records) ≤ 64
+unfolding lastLine
+last-short a groups records p m g r =
+    simp length-append (omega (arith, total-most a p m, decimal-at-most 9 groups (omega arith) (omega arith), decimal-at-most 9 records (omega arith) (omega arith)))
+
 -- what was put into 80 bytes stands in front of them
 pub whole-last : (bs before : Bytes) (r : ℕ) (after : Bytes) → length bs ≤ length before → Put bs before r after
     → (take r after ≡ bs) × (r ≤ length before) × (length after ≡ length before)

@@ -16,7 +16,7 @@ use Rattle.rules.specs.Combine.{summaryOfAll, freshTrailer, withTrailer, joined
 use Rattle.rules.specs.Split.{groupsFor}
 use Rattle.digits.proofs.Totals.{total-same}
 use Rattle.fresh.specs.Fresh.{lastLine, is-fresh}
-use Rattle.fresh.proofs.Lengths.{last-most}
+use Rattle.fresh.proofs.Lengths.{last-short}
 use Rattle.laws.specs.Words.{onlyLines}
 use Rattle.laws.proofs.Summaries.{summary-append}
 use Rattle.laws.proofs.Kept.{bytes-append}
@@ -83,9 +83,9 @@ module _ (name file : Bytes) (h : ℕ) (o : Opened file h) where
       let fit = records-fit (joined (groupsIn file)) (o .decomposition .trailer ∷ []) (drop h file) (o .behind) in
       omega (arith, fewer 0 name (groupsIn file) .no-longer, size-length (joined (groupsIn file)), length-drop h file, o .inside)
 
-  last-short : length (splitLast name file) ≤ 80
+  last-most : length (splitLast name file) ≤ 64
   unfolding splitLast splitGroups
-  last-short =
+  last-most =
       let d = o .decomposition in
       let s = summaryOfAll (headerIn file ++ joined gs) in
       let good = good-for name (groupsIn file) (d .groups) in
@@ -96,9 +96,9 @@ module _ (name file : Bytes) (h : ℕ) (o : Opened file h) where
       let size : length (recordBytes (headerIn file ++ joined gs)) ≡ h + length (recordBytes (joined gs)) =
       ap length (bytes-append (headerIn file) (joined gs)) ∙ length-append (recordBytes (headerIn file)) (recordBytes (joined gs)) ∙ rw (← o .header, length-take-le h file (o .inside)) in
       let most-lines = groups-most in
-      subst (λ (bs : Bytes). length bs ≤ 80) (is-fresh s)
-      (last-most (s .sum) (s .groups) (s .lines + 1) (omega arith) (omega arith)
+      subst (λ (bs : Bytes). length bs ≤ 64) (is-fresh s)
+      (last-short (s .sum) (s .groups) (s .lines + 1) (omega arith) (omega arith)
       (omega (arith, few-groups-in (headerIn file) gs (d .header) good, o .not-too-long)) (omega (arith, few-lines-in (headerIn file) gs (d .header) good, o .not-too-long)))
 
-  pub result-most : length (splitResult name file) ≤ length file + 80
-  result-most = omega (arith, result-size, groups-most, last-short)
+  pub result-most : length (splitResult name file) ≤ length file + 64
+  result-most = omega (arith, result-size, groups-most, last-most)

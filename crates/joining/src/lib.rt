@@ -16,8 +16,8 @@ pub mod combine;
 // The longest result.
 const MOST_BYTES: usize = 16_777_216;
 
-// No fresh 99 is longer.
-const MOST_LAST: usize = 80;
+// No fresh 99 of a file is longer.
+const MOST_LAST: usize = 64;
 
 // A refusal's number and place, or 0 and 0; and the result's length, or 0.
 pub struct Answer {

@@ -17,7 +17,7 @@ returns c =
     let a = s .args in
     let p = s .pre in
     let most = result-most (a .name .now) (a .file .now) (a .header) (opened (a .file .now) (p .0 .0) (a .header) (p .0 .1) (p .1)) in
-    misfit-none (splitResult (a .name .now) (a .file .now)) (a .room) (omega (arith, most, leb-true (length (a .file .now) + 80) 16777216 (c .if2 .taken))) (omega (arith, most, c .before .if1 .taken))
+    misfit-none (splitResult (a .name .now) (a .file .now)) (a .room) (omega (arith, most, leb-true (length (a .file .now) + 64) 16777216 (c .if2 .taken))) (omega (arith, most, c .before .if1 .taken))
 
 returns-2 : tie.Need-returns-2
 returns-2 c =

@@ -33,7 +33,7 @@ sizes c =
     let rest = c .before .before .before .take-rest .ensures in
     omega (arith, rest .count, front-size (splitLast (name-of c) (file-of c)) (r .last .bytes) (r .last .length) (rest .is-last) (omega (arith, rest .last-most)), result-size (name-of c) (file-of c) (header-of c) (known c))
 
-small : (c : Took) → length (splitResult (name-of c) (file-of c)) ≤ 16777216 + 80
+small : (c : Took) → length (splitResult (name-of c) (file-of c)) ≤ 16777216 + 64
 small c = omega (arith, result-most (name-of c) (file-of c) (header-of c) (known c), known c .not-too-long)
 
 add-result : tie.Need-add-result
