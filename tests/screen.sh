@@ -57,10 +57,8 @@ builds_native() {
     build "$work/native" "${native[@]}" all
 }
 
-# Builds the program natively under the sanitizers. Leaks are left to valgrind where the search for them at a program's
-# end takes seconds, as on Arm.
+# Builds the program natively under the sanitizers.
 builds_checked() {
-    [ -z "$X86_RUN" ] || export ASAN_OPTIONS=detect_leaks=0
     build "$work/checked" "${native[@]}" CFLAGS='-O1 -g -fsanitize=address,undefined -fno-sanitize-recover=all' all
 }
 
