@@ -4,7 +4,6 @@ use digits::kinds::Records;
 use digits::kinds::Units;
 use digits::kinds::UnitsSum;
 use seek::Sought;
-use wants::want;
 ghost use mathlib.Core.Path.{_≡_};
 ghost use Prim.Native.Nat.{_≤_, _<_};
 ghost use lib.ListN.{length, drop};
@@ -29,11 +28,10 @@ fn is_for(name: &[u8], file: &[u8], at: usize) -> bool
     ensures { λ r. ⌜ Names (now (name .entry)) (firstRecord (linesOf (drop at (now (file .entry))))) r ⌝ }
 {
     let e = lines::record_end(file, at);
-    let rec = &file[at..e];
-    let spot = seek::seek(rec, want::first_want(Code::GroupHeader), Sought::Receiver);
-    let from = spot.start;
-    let to = from + spot.length;
-    slices::same_bytes(name, &rec[from..to])
+    slices::same_bytes(
+        name,
+        seek::field(&file[at..e], Code::GroupHeader, Sought::Receiver),
+    )
 }
 
 // A magnitude as a sum.
@@ -50,10 +48,7 @@ fn signed_units(negative: bool, n: u64) -> Units
 fn stated_total(rec: &[u8]) -> Units
     ensures { λ r. ⌜ StatesTotal (linesOf (now (rec .entry))) (sumMeant r) ⌝ }
 {
-    let spot = seek::seek(rec, want::first_want(Code::GroupTrailer), Sought::Total);
-    let from = spot.start;
-    let to = from + spot.length;
-    let total = digits::amount_in(&rec[from..to]);
+    let total = digits::amount_in(seek::field(rec, Code::GroupTrailer, Sought::Total));
     signed_units(total.negative, total.magnitude)
 }
 
@@ -61,10 +56,7 @@ fn stated_total(rec: &[u8]) -> Units
 fn stated_records(rec: &[u8]) -> Records
     ensures { λ r. ⌜ StatesRecords (linesOf (now (rec .entry))) (r .0) ⌝ }
 {
-    let spot = seek::seek(rec, want::first_want(Code::GroupTrailer), Sought::Records);
-    let from = spot.start;
-    let to = from + spot.length;
-    Records(digits::value(&rec[from..to]))
+    Records(digits::value(seek::field(rec, Code::GroupTrailer, Sought::Records)))
 }
 
 // Both sums in one; the first alone where their magnitudes pass the largest.

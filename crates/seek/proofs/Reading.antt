@@ -203,38 +203,37 @@ pub spot-is : (k : Kind) (rec : Bytes) (first : List Kind) (x : Found) → first
 unfolding inDetail
 spot-is k rec first x e h = h ∙ ap (λ (ks : List Kind). seekLines k 0 ks (linesOf rec)) e
 
+pub lent-is : (k : Kind) (rec : Bytes) (first ks : List Kind) (s n : ℕ) → first ≡ ks → record { place = s; bytes = take n (drop s rec) } ≡ seekLines k 0 first (linesOf rec)
+    → take (s + n - s) (drop s rec) ≡ seekLines k 0 ks (linesOf rec) .bytes
+lent-is k rec first ks s n e h =
+    let size : s + n - s ≡ n = omega arith in
+    ap (λ (m : ℕ). take m (drop s rec)) size ∙ ap (λ (x : Found). x .bytes) (h ∙ ap (λ (js : List Kind). seekLines k 0 js (linesOf rec)) e)
+
 pub spot-bytes : (k : Kind) (rec : Bytes) (first : List Kind) (s n : ℕ) → first ≡ fieldsOf detail → record { place = s; bytes = take n (drop s rec) } ≡ seekLines k 0 first (linesOf rec)
     → take (s + n - s) (drop s rec) ≡ inDetail k rec .bytes
-spot-bytes k rec first s n e h =
-    let size : s + n - s ≡ n = omega arith in
-    ap (λ (m : ℕ). take m (drop s rec)) size ∙ ap (λ (x : Found). x .bytes) (spot-is k rec first (record { place = s; bytes = take n (drop s rec) }) e h)
+unfolding inDetail
+spot-bytes k rec first s n e h = lent-is k rec first (fieldsOf detail) s n e h
 
-pub type-in : (rec bs : Bytes) → bs ≡ inDetail detailType rec .bytes → valueOf bs ≡ number (inDetail detailType rec .bytes)
+pub type-in : (rec bs : Bytes) → bs ≡ seekLines detailType 0 (fieldsOf detail) (linesOf rec) .bytes → valueOf bs ≡ number (inDetail detailType rec .bytes)
 unfolding inDetail
 type-in rec bs e = ap valueOf e ∙ type-read (fieldsOf detail) (linesOf rec)
 
-pub amount-in : (rec bs : Bytes) → bs ≡ inDetail amount rec .bytes → valueOf (withoutSign bs) ≡ number (withoutSign (inDetail amount rec .bytes))
+pub amount-in : (rec bs : Bytes) → bs ≡ seekLines amount 0 (fieldsOf detail) (linesOf rec) .bytes
+    → (isEmpty bs ≡ isEmpty (inDetail amount rec .bytes)) × (valueOf (withoutSign bs) ≡ number (withoutSign (inDetail amount rec .bytes)))
 unfolding inDetail amountIn signed purpose
-amount-in rec bs e = ap (λ (x : Bytes). valueOf (withoutSign x)) e ∙ ap (λ (x : Signed). x .magnitude) (kept-read amount refl (fieldsOf detail) (linesOf rec))
+amount-in rec bs e =
+    (ap isEmpty e, ap (λ (x : Bytes). valueOf (withoutSign x)) e ∙ ap (λ (x : Signed). x .magnitude) (kept-read amount refl (fieldsOf detail) (linesOf rec)))
 
 -- ---- in a record that is read as one of code c
 
-module _ (c : Code) (rec : Bytes) (first : List Kind) (s n : ℕ) (fs : List Field) (e : first ≡ fieldsOf c) (walked : walkRecord c (linesOf rec) ≡ fine fs) where
-  abbrev lent : Bytes
-  lent = take (s + n - s) (drop s rec)
+module _ (c : Code) (rec : Bytes) (fs : List Field) (walked : walkRecord c (linesOf rec) ≡ fine fs) where
+  -- the field found is the record's own
+  pub own-field : (k : Kind) → seekLines k 0 (fieldsOf c) (linesOf rec) .bytes ≡ the k fs .bytes
+  own-field k = ap (λ (x : Found). x .bytes) (sym (found-is k c (linesOf rec) fs walked))
 
-  -- the field sought is the record's own
-  pub lent-is : (k : Kind) → record { place = s; bytes = take n (drop s rec) } ≡ seekLines k 0 first (linesOf rec) → lent ≡ the k fs .bytes
-  lent-is k h =
-      let size : s + n - s ≡ n = omega arith in
-      ap (λ (m : ℕ). take m (drop s rec)) size ∙ ap (λ (x : Found). x .bytes) (h ∙ ap (λ (ks : List Kind). seekLines k 0 ks (linesOf rec)) e ∙ sym (found-is k c (linesOf rec) fs walked))
-
-  own : (k : Kind) → seekLines k 0 (fieldsOf c) (linesOf rec) .bytes ≡ the k fs .bytes
-  own k = ap (λ (x : Found). x .bytes) (sym (found-is k c (linesOf rec) fs walked))
-
-  pub total-in : record { place = s; bytes = take n (drop s rec) } ≡ seekLines total 0 first (linesOf rec) → amountIn lent ≡ signed (the total fs .bytes)
+  pub total-in : (bs : Bytes) → bs ≡ seekLines total 0 (fieldsOf c) (linesOf rec) .bytes → amountIn bs ≡ signed (the total fs .bytes)
   unfolding purpose
-  total-in h = ap amountIn (lent-is total h) ∙ subst AmountRead (own total) (kept-read total refl (fieldsOf c) (linesOf rec))
+  total-in bs e = ap amountIn (e ∙ own-field total) ∙ subst AmountRead (own-field total) (kept-read total refl (fieldsOf c) (linesOf rec))
 
-  pub records-in : record { place = s; bytes = take n (drop s rec) } ≡ seekLines records 0 first (linesOf rec) → valueOf lent ≡ number (the records fs .bytes)
-  records-in h = ap valueOf (lent-is records h) ∙ subst ValueRead (own records) (records-read (fieldsOf c) (linesOf rec))
+  pub records-in : (bs : Bytes) → bs ≡ seekLines records 0 (fieldsOf c) (linesOf rec) .bytes → valueOf bs ≡ number (the records fs .bytes)
+  records-in bs e = ap valueOf (e ∙ own-field records) ∙ subst ValueRead (own-field records) (records-read (fieldsOf c) (linesOf rec))

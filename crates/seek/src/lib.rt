@@ -8,9 +8,11 @@ ghost use mathlib.Core.Path.{_≡_};
 ghost use mathlib.Core.Bool.{not};
 ghost use Rattle.rules.specs.Bytes.{isEmpty};
 ghost use Rattle.rules.specs.Numbers.{number, withoutSign};
-ghost use Rattle.rules.specs.Grammar.{detailType, amount, sameKind, nextKind};
+ghost use Rattle.rules.specs.Lines.{linesOf};
+ghost use Rattle.rules.specs.Grammar.{detailType, amount, sameKind, nextKind, fieldsOf};
+ghost use Rattle.codes.specs.Meanings.{codeMeant};
 ghost use Rattle.wants.specs.Wants.{wantedOf};
-ghost use Rattle.seek.specs.Seeking.{inDetail};
+ghost use Rattle.seek.specs.Seeking.{inDetail, seekLines};
 ghost use Rattle.seek.specs.Meanings.{kindMeant, Sights, Spots};
 
 // The kinds of field that can be sought: a detail's type, its amount, and its first text piece; a group's receiver; a trailer's total and its number of records.
@@ -144,24 +146,28 @@ pub fn seek(rec: &[u8], first: Want, sought: Sought) -> Spot
     }
 }
 
+// The field sought in a record of this code; an empty part where there is none.
+pub fn field(rec: &[u8], code: Code, sought: Sought) -> &[u8]
+    ensures { λ r. ⌜ now r ≡ seekLines (kindMeant sought) 0 (fieldsOf (codeMeant code)) (linesOf (now (rec .entry))) .bytes ⌝ }
+{
+    let spot = seek(rec, want::first_want(code), sought);
+    let from = spot.start;
+    let to = from + spot.length;
+    &rec[from..to]
+}
+
 // The number that a detail's type stands for.
 pub fn type_of(rec: &[u8]) -> u64
     ensures { λ r. ⌜ r ≡ number (inDetail detailType (now (rec .entry)) .bytes) ⌝ }
 {
-    let spot = seek(rec, want::first_want(Code::Detail), Sought::Type);
-    let from = spot.start;
-    let to = from + spot.length;
-    digits::value(&rec[from..to])
+    digits::value(field(rec, Code::Detail, Sought::Type))
 }
 
 // A detail's amount.
 pub fn amount_of(rec: &[u8]) -> Given
     ensures { λ r. ⌜ (r .given ≡ not (isEmpty (inDetail amount (now (rec .entry)) .bytes))) × (r .amount ≡ number (withoutSign (inDetail amount (now (rec .entry)) .bytes))) ⌝ }
 {
-    let spot = seek(rec, want::first_want(Code::Detail), Sought::Amount);
-    let from = spot.start;
-    let to = from + spot.length;
-    let f = &rec[from..to];
+    let f = field(rec, Code::Detail, Sought::Amount);
     Given {
         given: !values::is_empty(f),
         amount: digits::value(digits::behind_sign(f)),

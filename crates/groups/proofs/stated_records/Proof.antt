@@ -6,19 +6,7 @@ use Rattle.groups.proofs.stated_records.Statement.{statement}
 use Rattle.groups.proofs.stated_records.Tie as tie
 
 returns : tie.Need-returns
-returns c = λ fs walked.
-    let found = c .before .before .before .seek in
-    c .value .ensures .0 ∙ records-in groupTrailer (c .before .before .before .before .before .before .args .rec .now) _ _ _ fs (c .before .before .before .before .first-want .ensures) walked (found .ensures .answer)
+returns c = λ fs walked. c .value .ensures .0 ∙ records-in groupTrailer (c .before .before .before .args .rec .now) fs walked _ (c .before .field .ensures)
 
 pub stated-records-spec : {M : Type 1} → statement M
-stated-records-spec =
-    tie.close
-    (tie.spec
-    (λ c κs. search needs)
-    (λ c κs. search needs)
-    (λ c. search needs)
-    (λ c. search needs)
-    (λ c. search needs)
-    (λ c. search needs)
-    (λ c κs. search needs)
-    returns)
+stated-records-spec = tie.close (tie.spec (λ c κs. search needs) (λ c κs. search needs) returns)

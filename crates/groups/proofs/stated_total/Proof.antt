@@ -8,19 +8,7 @@ use Rattle.groups.proofs.stated_total.Tie as tie
 
 returns : tie.Need-returns
 returns c = λ fs walked.
-    let found = c .before .before .before .before .seek in
-    c .signed-units .ensures ∙ ap asSum (c .before .amount-in .ensures .0 ∙ total-in groupTrailer (c .before .before .before .before .before .before .before .args .rec .now) _ _ _ fs (c .before .before .before .before .before .first-want .ensures) walked (found .ensures .answer))
+    c .signed-units .ensures ∙ ap asSum (c .before .amount-in .ensures .0 ∙ total-in groupTrailer (c .before .before .before .before .args .rec .now) fs walked _ (c .before .before .field .ensures))
 
 pub stated-total-spec : {M : Type 1} → statement M
-stated-total-spec =
-    tie.close
-    (tie.spec
-    (λ c κs. search needs)
-    (λ c κs. search needs)
-    (λ c. search needs)
-    (λ c. search needs)
-    (λ c. search needs)
-    (λ c. search needs)
-    (λ c κs. search needs)
-    (λ c κs. search needs)
-    returns)
+stated-total-spec = tie.close (tie.spec (λ c κs. search needs) (λ c κs. search needs) (λ c κs. search needs) returns)
