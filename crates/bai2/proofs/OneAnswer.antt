@@ -24,9 +24,10 @@ use Rattle.reader.specs.declared.Judged.{Judged}
 use Rattle.reader.specs.declared.Judged.the-variants as judged
 use Rattle.reader.specs.Meanings.{summaryMeant, verdictMeant}
 use Rattle.reader.specs.Answers.{JudgedIs}
-use Rattle.joining.specs.declared.Answer.{Answer}
-use Rattle.joining.specs.declared.combine.Combined.{Combined}
-use Rattle.joining.specs.Answers.{answerMeant, combinedMeant}
+use Rattle.splitting.specs.declared.Answer.{Answer}
+use Rattle.splitting.specs.Answers.{answerMeant}
+use Rattle.combining.specs.declared.Combined.{Combined}
+use Rattle.combining.specs.Answers.{combinedMeant}
 use Rattle.parts.specs.declared.Part.{Part}
 use Rattle.parts.specs.declared.Refusal.{Refusal}
 use Rattle.parts.specs.declared.DetailAnswer.{DetailAnswer}
@@ -104,7 +105,7 @@ c-read-one file =
 
 -- ---- splitting
 
--- joining::split
+-- splitting::split
 pub split-one : (name file before : Bytes) (x y : Left Answer)
     → answerMeant (x .answer) (x .slice) ≡ split name file before → answerMeant (y .answer) (y .slice) ≡ split name file before → x ≡ y
 split-one name file before =
@@ -122,7 +123,7 @@ c-split-one name file before =
 
 -- ---- combining
 
--- joining::combine::combine
+-- combining::combine
 pub combine-one : (a b before : Bytes) (x y : Left Combined)
     → combinedMeant (x .answer) (x .slice) ≡ combine.combine a b before → combinedMeant (y .answer) (y .slice) ≡ combine.combine a b before → x ≡ y
 combine-one a b before =

@@ -85,7 +85,7 @@ pub struct SplitAnswer {
 pub extern "C" fn bai2_split(name: &[u8], file: &[u8], out: &mut [u8]) -> SplitAnswer
     ensures { λ r. ⌜ splitMeant r (now (out .exit)) ≡ split (now (name .entry)) (now (file .entry)) (now (out .entry)) ⌝ }
 {
-    let r = joining::split(name, file, out);
+    let r = splitting::split(name, file, out);
     let place = r.place;
     SplitAnswer {
         number: r.number,
@@ -108,7 +108,7 @@ pub struct CombineAnswer {
 pub extern "C" fn bai2_combine(a: &[u8], b: &[u8], out: &mut [u8]) -> CombineAnswer
     ensures { λ r. ⌜ combineMeant r (now (out .exit)) ≡ combine (now (a .entry)) (now (b .entry)) (now (out .entry)) ⌝ }
 {
-    let r = joining::combine::combine(a, b, out);
+    let r = combining::combine(a, b, out);
     let place = r.place;
     CombineAnswer {
         number: r.number,

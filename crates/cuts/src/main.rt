@@ -31,7 +31,7 @@ fn splits() {
 fn split(name: &[u8], path: &[u8], out: &mut [u8]) {
     let mut file = io::buffer();
     let n = load(path, &mut file);
-    let r = joining::split(name, &file[..n], out);
+    let r = splitting::split(name, &file[..n], out);
     let place = r.place;
     say(b"split ");
     say(name);
@@ -62,7 +62,7 @@ fn combine(a: &[u8], b: &[u8], out: &mut [u8]) {
     let mut second = io::buffer();
     let m = load(a, &mut first);
     let n = load(b, &mut second);
-    let r = joining::combine::combine(&first[..m], &second[..n], out);
+    let r = combining::combine(&first[..m], &second[..n], out);
     let place = r.place;
     say(b"combine ");
     say(a);

@@ -14,8 +14,8 @@ mod record;
 mod state;
 mod trailer;
 
-// The longest file.
-const MOST_BYTES: usize = 16_777_216;
+// The longest file, and the longest result.
+pub const MOST_BYTES: usize = 16_777_216;
 
 // A file's total and its numbers of groups, accounts, details and records; likewise a group's, an account's, a record's.
 pub struct Summary {

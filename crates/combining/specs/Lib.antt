@@ -1,0 +1,2 @@
+-- What the call's answer means.
+pub mod Answers

@@ -1,2 +1,0 @@
--- What the calls' answers mean.
-pub mod Answers
