@@ -17,12 +17,13 @@ use Rattle.rules.specs.Writer as writing
 use Rattle.laws.specs.Words.{Left}
 use Rattle.laws.proofs.OneAnswer.{one-answer}
 use Rattle.digits.specs.Kinds.{unitsOf}
-use Rattle.reader.specs.declared.Summary.{Summary}
+use Rattle.controls.specs.declared.Summary.{Summary}
 use Rattle.reader.specs.declared.Verdict.{Verdict}
 use Rattle.reader.specs.declared.Verdict.the-variants.{Accepted, Refused}
 use Rattle.reader.specs.declared.Judged.{Judged}
 use Rattle.reader.specs.declared.Judged.the-variants as judged
-use Rattle.reader.specs.Meanings.{summaryMeant, verdictMeant}
+use Rattle.controls.specs.Controls.{summaryMeant}
+use Rattle.reader.specs.Meanings.{verdictMeant}
 use Rattle.reader.specs.Answers.{JudgedIs}
 use Rattle.splitting.specs.declared.Answer.{Answer}
 use Rattle.splitting.specs.Answers.{answerMeant}

@@ -12,8 +12,9 @@ use Rattle.rules.specs.Answers.{ReadAnswer, readAnswer, read}
 use Rattle.laws.proofs.FileTheorems.{magnitudes-bounded}
 use Rattle.digits.specs.Kinds.{sumMeant}
 use Rattle.digits.specs.declared.kinds.Place.{Place}
-use Rattle.reader.specs.Meanings.{summaryMeant, verdictMeant}
-use Rattle.reader.specs.declared.Summary.{Summary}
+use Rattle.controls.specs.Controls.{summaryMeant}
+use Rattle.reader.specs.Meanings.{verdictMeant}
+use Rattle.controls.specs.declared.Summary.{Summary}
 use Rattle.reader.specs.declared.Verdict.{Verdict}
 use Rattle.reader.specs.declared.Verdict.the-variants.{Accepted, Refused}
 use Rattle.bai2.proofs.Signs.{difference-kept}

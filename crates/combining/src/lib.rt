@@ -23,7 +23,7 @@ ghost use Rattle.rules.specs.Combine as rules;
 ghost use Rattle.digits.specs.Kinds.{sumMeant};
 ghost use Rattle.digits.specs.Put.{Put};
 ghost use Rattle.lines.specs.Cut.{firstRecord};
-ghost use Rattle.reader.specs.Meanings.{summaryMeant};
+ghost use Rattle.controls.specs.Controls.{summaryMeant};
 ghost use Rattle.reader.specs.Answers.{IsGood};
 ghost use Rattle.combining.specs.Answers.{combinedMeant, combinedAccepted, combinedFitting};
 

@@ -1,7 +1,4 @@
 -- The reader's answers, by the cases of its code.
-pub mod Ordering
-pub mod Balancing
-pub mod Places
 pub mod Growing
 pub mod Settles
 pub mod Agreeing

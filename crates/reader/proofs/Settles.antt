@@ -10,7 +10,8 @@ use Rattle.rules.specs.Totals.{Summary, _⊞_, noSummary}
 use Rattle.rules.specs.Order.{after, groupOpen, accountOpen}
 use Rattle.rules.specs.Verdict.{State, ownLines}
 use Rattle.kept.specs.declared.Kept.{Kept}
-use Rattle.reader.specs.Stepping.{limitK, thisK, nextK, balancedK, settledK}
+use Rattle.controls.specs.Controls.{balancedK}
+use Rattle.reader.specs.Stepping.{limitK, thisK, nextK, settledK}
 
 module _ (s : State) (r : Record) (c : Code) (k : Kept) where
   pub settle-long : (n p : ℕ) → ownLines c (limitK c (s .limit) k) r ≡ refused n p → settledK s r c k ≡ refused n p

@@ -14,7 +14,8 @@ use Rattle.digits.specs.Kinds.{sumMeant}
 use Rattle.lines.specs.Cut.{firstRecord}
 use Rattle.kept.specs.declared.Kept.{Kept}
 use Rattle.kept.specs.Keeping.{Within}
-use Rattle.reader.specs.Meanings.{summaryMeant, stateMeant, Held}
+use Rattle.controls.specs.Controls.{summaryMeant}
+use Rattle.reader.specs.Meanings.{stateMeant, Held}
 use Rattle.reader.specs.Stepping.{settledK}
 use Rattle.reader.specs.Running.{atEnd}
 use Rattle.reader.specs.declared.GoodFile.{GoodFile}

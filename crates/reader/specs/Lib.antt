@@ -1,5 +1,4 @@
 -- What the reader's types mean, its step with what the walk keeps, that this is the rules' step, and the loop over records.
-pub mod Expecting
 pub mod Meanings
 pub mod Stepping
 pub mod Settling

@@ -1,25 +1,17 @@
--- What the reader's summaries, states and verdicts say in document 01's terms. Assumes nothing.
-use Prim.Native.Nat.{ℕ, _+_, _≤_}
+-- What the reader's states and verdicts say in document 01's terms. Assumes nothing.
+use Prim.Native.Nat.{_+_, _≤_}
 use Rattle.rules.specs.Outcome.{Outcome, refused, fine}
 use Rattle.rules.specs.Numbers.{most}
 use Rattle.rules.specs.Totals as totals
 use Rattle.rules.specs.Verdict as verdict
-use Rattle.digits.specs.Kinds.{sumMeant}
-use Rattle.reader.specs.Expecting.{expectedMeant}
-use Rattle.reader.specs.declared.Summary.{Summary}
+use Rattle.order.specs.Expecting.{expectedMeant}
+use Rattle.controls.specs.declared.Summary.{Summary}
+use Rattle.controls.specs.Controls.{summaryMeant}
 use Rattle.reader.specs.declared.state.State.{State}
 use Rattle.reader.specs.declared.Verdict.{Verdict}
 use Rattle.reader.specs.declared.Verdict.the-variants.{Accepted, Refused}
 
 -- ---- meanings
-
--- the summary of no records
-abbrev pub nothingYet : Summary
-nothingYet = record { total = record { 0 = 0; 1 = 0 }; groups = 0; accounts = 0; details = 0; records = record { 0 = 0 } }
-
-abbrev pub summaryMeant : Summary → totals.Summary
-summaryMeant s =
-    record { sum = sumMeant (s .total); groups = s .groups; accounts = s .accounts; details = s .details; lines = s .records .0 }
 
 abbrev pub stateMeant : State → verdict.State
 stateMeant s =

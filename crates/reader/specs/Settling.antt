@@ -17,7 +17,8 @@ use Rattle.rules.proofs.Tests.{Known, holds, fails, known, true-eq}
 use Rattle.kept.specs.declared.Kept.{Kept}
 use Rattle.kept.specs.declared.Figure.{Figure}
 use Rattle.kept.specs.Folds.{FigureIs, KeptOf, overOf}
-use Rattle.reader.specs.Stepping.{withinK, totalK, countK, recordsK, accountK, trailerK, balancedK, limitK, thisK, nextK, settledK}
+use Rattle.controls.specs.Controls.{withinK, totalK, countK, recordsK, accountK, trailerK, balancedK}
+use Rattle.reader.specs.Stepping.{limitK, thisK, nextK, settledK}
 
 -- a sign adds nothing to a number
 sign-step : (b : ℕ) (bs : Bytes) → Known (eqb b plus) → Known (eqb b minus) → number (withoutSign (b ∷ bs)) ≡ number (b ∷ bs)

@@ -1,58 +1,20 @@
 -- One record, with what the walk keeps in place of its fields. Assumes nothing.
 use Prim.Native.Nat.{ℕ}
 use mathlib.Core.Bool.{cond}
-use lib.Dec.{eqb}
 use lib.ListN.{length}
-use Rattle.rules.specs.Outcome.{Outcome, refused, fine, _>>=_, _>>_, check}
-use Rattle.rules.specs.Numbers.{asSum, equals, withinMost, magnitudes}
-use Rattle.rules.specs.Lines.{Code, fileHeader, groupHeader, accountHeader, detail, accountTrailer, groupTrailer, fileTrailer, continuation, sameCode, Record}
+use Rattle.rules.specs.Outcome.{Outcome, fine, _>>=_, _>>_}
+use Rattle.rules.specs.Numbers.{magnitudes}
+use Rattle.rules.specs.Lines.{Code, fileHeader, sameCode, Record}
 use Rattle.rules.specs.Totals.{Summary, _⊞_, adding}
 use Rattle.rules.specs.Order.{after, groupBehind, accountBehind}
 use Rattle.rules.specs.Grammar.{fieldsOf}
 use Rattle.rules.specs.Verdict.{State, ownLines, goodLines, inOrder}
 use Rattle.digits.specs.Kinds.{sumMeant}
+use Rattle.controls.specs.Controls.{balancedK}
 use Rattle.kept.specs.declared.Kept.{Kept}
 use Rattle.kept.specs.Keeping.{fresh}
 use Rattle.kept.specs.Folds.{overOf}
 use Rattle.walk.specs.Working.{walkFrom}
-
--- ---- 14, 11, 12, 13
-
-unfoldable pub withinK : Summary → Kept → Outcome (Unit {0})
-withinK s k = check (withinMost (s .sum)) 14 (k .total .at .0)
-
-unfoldable pub totalK : Summary → Kept → Outcome (Unit {0})
-totalK s k = check (equals (s .sum) (asSum (record { negative = k .total .negative; magnitude = k .total .value }))) 11 (k .total .at .0)
-
-unfoldable pub countK : ℕ → Kept → Outcome (Unit {0})
-countK n k = check (eqb n (k .count .value)) 12 (k .count .at .0)
-
-unfoldable pub recordsK : Summary → Kept → Outcome (Unit {0})
-recordsK s k = check (eqb (s .lines) (k .records .value)) 13 (k .records .at .0)
-
--- an account's trailer; a group's or the file's, with the number of its accounts or groups
-unfoldable pub accountK : Summary → Kept → Outcome (Unit {0})
-accountK s k = do
-  totalK s k
-  recordsK s k
-
-unfoldable pub trailerK : Summary → ℕ → Kept → Outcome (Unit {0})
-trailerK s n k = do
-  withinK s k
-  totalK s k
-  countK n k
-  recordsK s k
-
--- against the summaries of its account, its group and the file
-unfoldable pub balancedK : Code → Summary → Summary → Summary → Kept → Outcome (Unit {0})
-balancedK fileHeader a g f k = fine tt
-balancedK groupHeader a g f k = fine tt
-balancedK accountHeader a g f k = fine tt
-balancedK detail a g f k = fine tt
-balancedK continuation a g f k = fine tt
-balancedK accountTrailer a g f k = accountK a k
-balancedK groupTrailer a g f k = trailerK g (g .accounts) k
-balancedK fileTrailer a g f k = trailerK f (f .groups) k
 
 -- ---- behind the fields
 

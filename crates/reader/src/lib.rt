@@ -1,30 +1,18 @@
-// A file's verdict: `order` holds refusal 6, `trailer` 11 to 14, `record` one record's checks in their order, and this file 1, 2 and a missing 99.
+// A file's verdict: `record` holds one record's checks in their order, `state` what is known between two records, and this file 1, 2 and a missing 99.
 use crate::record::Stepped;
 use crate::state::State;
+use controls::Summary;
 use digits::kinds::Place;
-use digits::kinds::Records;
-use digits::kinds::Units;
 ghost use mathlib.Core.Path.{_≡_};
 ghost use Rattle.rules.specs.Verdict.{judge};
 ghost use Rattle.reader.specs.Meanings.{verdictMeant};
 ghost use Rattle.reader.specs.Answers.{EndIs, JudgedIs};
 
-mod order;
 mod record;
 mod state;
-mod trailer;
 
 // The longest file, and the longest result.
 pub const MOST_BYTES: usize = 16_777_216;
-
-// A file's total and its numbers of groups, accounts, details and records; likewise a group's, an account's, a record's.
-pub struct Summary {
-    pub total: Units,
-    pub groups: u64,
-    pub accounts: u64,
-    pub details: u64,
-    pub records: Records,
-}
 
 // The summary, or a refusal's number and its byte's place in the file.
 pub enum Verdict {

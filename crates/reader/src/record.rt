@@ -1,8 +1,6 @@
 // One record, in document 01's order: 3, 4, 5; 6; 7, 8, 9; the header's own lines against L; 10; 14, 11, 12, 13.
-use crate::order;
 use crate::state;
 use crate::state::State;
-use crate::trailer;
 use codes::Code;
 use digits::kinds::Place;
 use digits::kinds::Records;
@@ -75,14 +73,14 @@ fn settle(st: State, rec: &[u8], code: Code, records: Records, kept: Kept) -> Se
         return Settled::Refused(10, past);
     }
     let sum = kept.sum;
-    let this = state::adding(code, sum, records);
+    let this = controls::adding(code, sum, records);
     let old_file = st.file;
     let old_group = st.group;
     let old_account = st.account;
     let file = state::joined(old_file, this);
     let group = state::joined(old_group, this);
     let account = state::joined(old_account, this);
-    match trailer::balance(code, account, group, file, kept) {
+    match controls::balance(code, account, group, file, kept) {
         Checked::Refused(k, p) => return Settled::Refused(k, p),
         Checked::Fine => {}
     }
@@ -90,8 +88,8 @@ fn settle(st: State, rec: &[u8], code: Code, records: Records, kept: Kept) -> Se
         expected: order::expected_after(code),
         limit,
         file,
-        group: state::while_open(state::group_open(code), group),
-        account: state::while_open(state::account_open(code), account),
+        group: controls::while_open(order::group_open(code), group),
+        account: controls::while_open(order::account_open(code), account),
     })
 }
 

@@ -1,9 +1,9 @@
 // Reads a file of up to 65,536 bytes and writes one line: its summary, its refusal, or that it is too long.
+use controls::Summary;
 use digits::kinds::Place;
 use digits::kinds::Records;
 use digits::kinds::Units;
 use libc::STDOUT_FILENO;
-use reader::Summary;
 use reader::Verdict;
 
 // The line for what can be read from fd.

@@ -13,9 +13,10 @@ use Rattle.rules.specs.Order.{groupOpen, accountOpen}
 use Rattle.codes.specs.Meanings.{codeMeant}
 use Rattle.digits.specs.Kinds.{sumMeant}
 use Rattle.lines.specs.Answers.{checkedOf}
-use Rattle.reader.specs.Meanings.{summaryMeant, stateMeant, Small}
+use Rattle.controls.specs.Controls.{summaryMeant}
+use Rattle.reader.specs.Meanings.{stateMeant, Small}
 use Rattle.reader.specs.Stepping.{limitK, thisK}
-use Rattle.reader.proofs.Places.{balanced-most}
+use Rattle.controls.proofs.Places.{balanced-most}
 use Rattle.reader.proofs.Growing.{below-small, file-small, this-small, records-next, held-next}
 use Rattle.reader.proofs.Settles.{settle-long, settle-over, settle-wrong, settle-next}
 use Rattle.reader.proofs.record.settle.Statement.{statement}

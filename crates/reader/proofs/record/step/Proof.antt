@@ -21,7 +21,7 @@ use Rattle.kept.specs.Keeping.{fresh, Within}
 use Rattle.wants.specs.Wants.{wantedOf}
 use Rattle.walk.specs.Working.{walkFrom}
 use Rattle.walk.specs.Answers.{walkedOf, Walks}
-use Rattle.reader.specs.Expecting.{expectedMeant}
+use Rattle.order.specs.Expecting.{expectedMeant}
 use Rattle.reader.specs.Meanings.{stateMeant}
 use Rattle.reader.specs.Stepping.{settledK, stepK}
 use Rattle.reader.proofs.Agreeing.{step-right}

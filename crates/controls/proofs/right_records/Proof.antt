@@ -1,0 +1,14 @@
+-- `controls::right_records` meets its contract. Assumes nothing.
+use Rattle.controls.specs.Controls.{summaryMeant}
+use Rattle.controls.proofs.Balancing.{records-fine, records-wrong}
+use Rattle.controls.proofs.right_records.Statement.{statement}
+use Rattle.controls.proofs.right_records.Tie as tie
+
+returns : tie.Need-returns
+returns c = records-wrong (summaryMeant (c .before .before .before .before .before .before .args .s)) (c .before .before .before .before .before .before .args .kept) (c .if1 .taken)
+
+returns-2 : tie.Need-returns-2
+returns-2 c = records-fine (summaryMeant (c .before .before .before .before .before .before .args .s)) (c .before .before .before .before .before .before .args .kept) (c .if1 .left)
+
+pub right-records-spec : {M : Type 1} → statement M
+right-records-spec = tie.close (tie.spec returns returns-2)
