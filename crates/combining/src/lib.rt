@@ -1,10 +1,9 @@
 // Two files combined: A's header and groups, then B's groups, then a fresh 99; measured first, then written.
+use checks::Checked;
 use digits::kinds::Place;
 use digits::kinds::Records;
 use digits::kinds::Units;
 use digits::kinds::UnitsSum;
-use lines::checks;
-use lines::checks::Checked;
 use reader::GoodFile;
 use reader::Judged;
 use reader::MOST_BYTES;

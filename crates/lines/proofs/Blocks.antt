@@ -1,7 +1,7 @@
 -- The first byte outside in a block of 64, found with no early exit. Assumes nothing.
 use Prim.Native.Nat.{ℕ, zero, suc, _+_, _≤_, _<_, min}
-use mathlib.Core.Path.{_≡_, ap, sym, _∙_}
-use mathlib.Core.Bool.{true, false, cond, _||_}
+use mathlib.Core.Path.{_≡_, ap, _∙_}
+use mathlib.Core.Bool.{true, false, cond}
 use native.Mathlib.Omega.{arith}
 use native.Mathlib.Nat.{add-zero}
 use borrow.Author.Count.{below-more}
@@ -12,7 +12,7 @@ use Rattle.rules.specs.Bytes.{Bytes}
 use Rattle.rules.proofs.Tests.{Known, holds, fails, known}
 use Rattle.lines.specs.Cut.{run, outside, stopsAt}
 use Rattle.lines.specs.Answers.{BlockIs}
-use Rattle.lines.proofs.Runs.{run-stop, run-step, byte-low, byte-high, byte-good}
+use Rattle.lines.proofs.Runs.{run-stop, run-step}
 
 module _ (s : Bytes) (at high : ℕ) where
   -- of the first i bytes, `first` is the first outside; or none is, and it is 255

@@ -1,31 +1,26 @@
--- The checks 4 and 5 of a line, by the lengths and bytes that the code finds. Assumes nothing.
+-- A line's body and its code, by the lengths and bytes that the code finds. Assumes nothing.
 use Prim.Native.Nat.{ℕ, suc, _+_, _-_, _≤_, _<_}
 use mathlib.Core.Path.{_≡_, refl, ap, sym, _∙_}
 use mathlib.Core.List.{List, [], _∷_}
-use mathlib.Core.Bool.{Bool, true, false, cond, _&&_}
-use mathlib.Core.Option.{none, some}
+use mathlib.Core.Bool.{Bool, true, false, _&&_}
+use mathlib.Core.Option.{some}
 use native.Mathlib.Omega.{arith}
 use native.Mathlib.Numerals.{add-one}
-use native.Mathlib.Nat.{suc-add, add-zero}
+use native.Mathlib.Nat.{suc-add}
 use borrow.Author.Tests.{ne-eqb, eq-eqb, eqb-true, eqb-false}
 use lib.ListN.{length, take, drop, getD, length-drop}
 use lib.Seq.{drop-cons}
 use lib.Dec.{T, eqb, leb, leb→le}
 use Rattle.rules.specs.Bytes.{Bytes, allowed, between, sameBytes, all}
-use Rattle.rules.specs.Outcome.{refused, fine}
-use Rattle.rules.specs.Lines.{Line, Code, codeBytes, begins, continuation, fileHeader, groupHeader, accountHeader, detail, accountTrailer, groupTrailer, fileTrailer, codeIn, codeOf}
-use Rattle.rules.specs.Verdict.{allAllowed}
+use Rattle.rules.specs.Lines.{Code, codeBytes, begins, continuation, fileHeader, groupHeader, accountHeader, detail, accountTrailer, groupTrailer, fileTrailer, codeIn}
 use Rattle.rules.proofs.Tests.{Known, holds, fails, known, and-left, and-right}
-use Rattle.lines.specs.Cut.{run, isEnd, stopsAt, bodyLen, plainLen, firstLine}
+use Rattle.lines.specs.Cut.{run, isEnd, stopsAt, bodyLen, firstLine}
 use Rattle.lines.proofs.Runs.{plain-byte}
 
--- ---- 4: where the allowed bytes end; from there on the line's end is looked for
+-- ---- behind bytes from a blank up
 
-not-below : (b : ℕ) → T (allowed b) → 32 ≤ b
+pub not-below : (b : ℕ) → T (allowed b) → 32 ≤ b
 not-below b h = leb→le 32 b (and-left (leb 32 b) (leb b 126) h)
-
-allowed-line : (b : ℕ) (bs : Bytes) → allowed b ≡ true → isEnd b bs ≡ false
-allowed-line b bs e = plain-byte b bs (not-below b (rw e tt))
 
 body-step : (high b : ℕ) (bs : Bytes) → bodyLen bs ≡ run (stopsAt high) bs + bodyLen (drop (run (stopsAt high) bs) bs) → Known (between 32 high b)
     → bodyLen (b ∷ bs) ≡ run (stopsAt high) (b ∷ bs) + bodyLen (drop (run (stopsAt high) (b ∷ bs)) (b ∷ bs))
@@ -41,34 +36,7 @@ unfolding run
 body-behind high [] = refl
 body-behind high (b ∷ bs) = body-step high b bs (body-behind high bs) (known (between 32 high b))
 
-allowed-body-step : (p b : ℕ) (bs : Bytes) → (bodyLen bs ≤ plainLen bs → allAllowed (suc p) (take (bodyLen bs) bs) ≡ fine tt)
-    → bodyLen (b ∷ bs) ≤ plainLen (b ∷ bs) → Known (allowed b) → Known (isEnd b bs) → allAllowed p (take (bodyLen (b ∷ bs)) (b ∷ bs)) ≡ fine tt
-unfolding run allAllowed
-allowed-body-step p b bs ih h (holds e) n = let k = simp (e, allowed-line b bs e) at h in simp (e, allowed-line b bs e) (ih (omega arith))
-allowed-body-step p b bs ih h (fails e) (holds f) = simp f
-allowed-body-step p b bs ih h (fails e) (fails f) = let k = simp (e, f) at h in absurd (omega arith)
-
-pub allowed-body : (p : ℕ) (xs : Bytes) → bodyLen xs ≤ plainLen xs → allAllowed p (take (bodyLen xs) xs) ≡ fine tt
-unfolding run allAllowed
-allowed-body p [] h = refl
-allowed-body p (b ∷ bs) h = allowed-body-step p b bs (allowed-body (suc p) bs) h (known (allowed b)) (known (isEnd b bs))
-
-allowed-not-step : (p b : ℕ) (bs : Bytes) → (plainLen bs < bodyLen bs → allAllowed (suc p) (take (bodyLen bs) bs) ≡ refused 4 (suc p + plainLen bs))
-    → plainLen (b ∷ bs) < bodyLen (b ∷ bs) → Known (allowed b) → Known (isEnd b bs) → allAllowed p (take (bodyLen (b ∷ bs)) (b ∷ bs)) ≡ refused 4 (p + plainLen (b ∷ bs))
-unfolding run allAllowed
-allowed-not-step p b bs ih h (holds e) n =
-    let k = simp (e, allowed-line b bs e) at h in
-    let q : suc p + plainLen bs ≡ p + suc (plainLen bs) = omega arith in
-    simp (e, allowed-line b bs e) (ih (omega arith) ∙ ap (λ (n : ℕ). refused 4 n) q)
-allowed-not-step p b bs ih h (fails e) (holds f) = let k = simp (e, f) at h in absurd (omega arith)
-allowed-not-step p b bs ih h (fails e) (fails f) = simp (e, f) (ap (λ (n : ℕ). refused 4 n) (sym (add-zero p)))
-
-pub allowed-not : (p : ℕ) (xs : Bytes) → plainLen xs < bodyLen xs → allAllowed p (take (bodyLen xs) xs) ≡ refused 4 (p + plainLen xs)
-unfolding run allAllowed
-allowed-not p [] h = absurd (omega arith)
-allowed-not p (b ∷ bs) h = allowed-not-step p b bs (allowed-not (suc p) bs) h (known (allowed b)) (known (isEnd b bs))
-
--- ---- 5: a line's first bytes are the first of what is left of the file
+-- ---- a line's first bytes are the first of what is left of the file
 
 other-byte : (c b : ℕ) (bs : Bytes) → T (allowed c) → isEnd b bs ≡ true → eqb c b ≡ false
 other-byte c b bs h e =

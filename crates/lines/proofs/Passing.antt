@@ -1,51 +1,21 @@
--- The checks of a record's lines, line by line, and the record's extent, at the places that the code reaches. Assumes nothing.
+-- Lines one after the other and the record's extent, at the places that the code reaches. Assumes nothing.
 use Prim.Native.Nat.{ℕ, zero, suc, _+_, _-_, _≤_, _<_}
 use mathlib.Core.Path.{_≡_, refl, ap, sym, _∙_}
 use mathlib.Core.List.{[], _∷_}
 use mathlib.Core.Bool.{true, false}
-use mathlib.Core.Option.{none, some}
 use native.Mathlib.Omega.{arith}
 use native.Mathlib.Nat.{zero-add, add-zero, suc-add}
-use borrow.Author.Tests.{le-leb, lt-leb, leb-true, leb-false}
+use borrow.Author.Tests.{leb-true, leb-false}
 use lib.ListN.{length, take, drop, drop-of-length-le, length-drop, length-take}
 use lib.Seq.{drop-drop, take-nil}
 use lib.Dec.{leb}
 use Rattle.rules.specs.Bytes.{Bytes, sameBytes}
-use Rattle.rules.specs.Outcome.{Outcome, refused, fine, _>>=_}
-use Rattle.rules.specs.Lines.{Line, Code, Record, sizeOf, linesOf, codeOf, continuation, codeBytes, recordSize}
-use Rattle.rules.specs.Verdict.{notLonger, allAllowed, coded, goodLine, goodLines, noneLonger}
-use Rattle.rules.proofs.Binds.{then-fine, or-fine}
+use Rattle.rules.specs.Lines.{linesOf, continuation, codeBytes, recordSize}
 use Rattle.rules.proofs.Tests.{Known, holds, fails, known}
-use Rattle.lines.specs.Cut.{run, stopsAt, bodyLen, endLen, lineLen, plainLen, firstLine, further, firstRecord}
-use Rattle.lines.specs.Cutting.{first-of, first-body, line-some, line-fits, body-of-part}
+use Rattle.lines.specs.Cut.{run, stopsAt, bodyLen, endLen, lineLen, firstLine, further, firstRecord}
+use Rattle.lines.specs.Cutting.{first-of, line-some, line-fits, body-of-part}
 use Rattle.lines.specs.OneRecord.{first-size}
-use Rattle.lines.proofs.Fronts.{body-behind, allowed-body, allowed-not, begins-front}
-
--- ---- one line, of bytes that begin at p
-
-module _ (xs : Bytes) (p limit : ℕ) where
-  pub line-long : limit < bodyLen xs → goodLine p limit (firstLine xs) ≡ refused 3 (p + limit)
-  unfolding goodLine notLonger
-  line-long h = rw (first-body xs, lt-leb (bodyLen xs) limit h)
-
-  module _ (h : bodyLen xs ≤ limit) where
-    pub line-byte : plainLen xs < bodyLen xs → goodLine p limit (firstLine xs) ≡ refused 4 (p + plainLen xs)
-    unfolding goodLine notLonger
-    line-byte k = rw (first-body xs, le-leb (bodyLen xs) limit h, allowed-not p xs k)
-
-    module _ (k : bodyLen xs ≤ plainLen xs) where
-      pub line-code : none ≡ codeOf (firstLine xs) → goodLine p limit (firstLine xs) ≡ refused 5 p
-      unfolding goodLine notLonger coded
-      line-code e = rw (first-body xs, le-leb (bodyLen xs) limit h, allowed-body p xs k, sym e)
-
-      pub line-fine : (c : Code) → some c ≡ codeOf (firstLine xs) → goodLine p limit (firstLine xs) ≡ fine c
-      unfolding goodLine notLonger coded
-      line-fine c e = rw (first-body xs, le-leb (bodyLen xs) limit h, allowed-body p xs k, sym e)
-
--- a good line's code
-pub good-code : (p limit : ℕ) (l : Line) (c : Code) → goodLine p limit l ≡ fine c → codeOf l ≡ some c
-unfolding goodLine coded
-good-code p limit l c h = or-fine (codeOf l) 5 p c (then-fine (allAllowed p (l .body)) _ c (then-fine (notLonger p limit l) _ c h))
+use Rattle.lines.proofs.Fronts.{body-behind, begins-front}
 
 -- the line's end is where a search from the first byte that is not plain finds it
 pub body-from : (s : Bytes) (at i high : ℕ) → i ≡ at + run (stopsAt high) (drop at s) → at + bodyLen (drop at s) ≡ i + bodyLen (drop i s)
@@ -96,39 +66,10 @@ body-in s size at e n p q h = by-size (known (leb (length s) at))
 
 -- ---- lines one after the other
 
-bind-stop : {A B : Type 0} (o : Outcome A) (rest : Outcome B) (k p : ℕ) → o ≡ refused k p → (o >>= λ _. rest) ≡ refused k p
-bind-stop o rest k p e = rw e
-
-bind-go : {A B : Type 0} (o : Outcome A) (rest : Outcome B) (a : A) → o ≡ fine a → (o >>= λ _. rest) ≡ rest
-bind-go o rest a e = rw e
-
--- what the checks, the count and the size say of some lines, when p bytes and n lines stand before them
-pub record Same (limit : ℕ) (all : Record) (p n : ℕ) (ls : Record) : Type 0 where
-  pub checks : goodLines 0 limit all ≡ goodLines p limit ls
-  pub count : length all ≡ n + length ls
-  pub size : recordSize all ≡ p + recordSize ls
-
-lines-here : (s : Bytes) (at n : ℕ) → at < length s → n ≡ at + lineLen (drop at s) → linesOf (drop at s) ≡ firstLine (drop at s) ∷ linesOf (drop n s)
+pub lines-here : (s : Bytes) (at n : ℕ) → at < length s → n ≡ at + lineLen (drop at s) → linesOf (drop at s) ≡ firstLine (drop at s) ∷ linesOf (drop n s)
 lines-here s at n h p =
     let l = length-drop at s in
     first-of (drop at s) (omega arith) ∙ ap (λ (xs : Bytes). firstLine (drop at s) ∷ linesOf xs) (drop-drop (lineLen (drop at s)) at s ∙ ap (λ (k : ℕ). drop k s) (sym p))
-
--- ---- the record in front of s: its first line
-
-module _ (limit : ℕ) (s : Bytes) (h : 0 < length s) where
-  pub first-stop : (k p : ℕ) → goodLine 0 limit (firstLine s) ≡ refused k p → goodLines 0 limit (firstRecord (linesOf s)) ≡ refused k p
-  unfolding firstRecord goodLines
-  first-stop k p e = rw (first-of s h) (bind-stop (goodLine 0 limit (firstLine s)) _ k p e)
-
-  pub first-go : (c : Code) (n : ℕ) → goodLine 0 limit (firstLine s) ≡ fine c → n ≡ lineLen s
-      → Same limit (firstRecord (linesOf s)) n 1 (further (linesOf (drop n s)))
-  unfolding firstRecord goodLines recordSize
-  first-go c n e q =
-      record {
-        checks = rw (first-of s h) (bind-go (goodLine 0 limit (firstLine s)) _ c e ∙ rw (first-size s, ← q, zero-add));
-        count = rw (first-of s h) (rw (← q) (omega arith));
-        size = rw (first-of s h) (rw (first-size s, ← q));
-      }
 
 -- ---- its 88 lines, by the test of the three bytes at `at`
 
@@ -151,35 +92,14 @@ module _ (s : Bytes) (at : ℕ) where
       by-size (fails q) =
           rw (lines-here s at (at + lineLen (drop at s)) (leb-false (length s) at q) refl, begins-front continuation (drop at s) ∙ t)
 
-  pub further-end : (limit : ℕ) (all : Record) (m : ℕ) → sameBytes (codeBytes continuation) (take 3 (drop at s)) ≡ false
-      → Same limit all at m (further (linesOf (drop at s))) → Same limit all at m []
-  further-end limit all m t same = let e = further-none t in record { checks = rw e at (same .checks); count = rw e at (same .count); size = rw e at (same .size) }
-
   module _ (t : sameBytes (codeBytes continuation) (take 3 (drop at s)) ≡ true) where
-    further-first : (n : ℕ) → n ≡ at + lineLen (drop at s) → further (linesOf (drop at s)) ≡ firstLine (drop at s) ∷ further (linesOf (drop n s))
+    pub further-first : (n : ℕ) → n ≡ at + lineLen (drop at s) → further (linesOf (drop at s)) ≡ firstLine (drop at s) ∷ further (linesOf (drop n s))
     unfolding further
     further-first n p = rw (lines-here s at n (further-some t) p, begins-front continuation (drop at s) ∙ t)
 
     pub further-size : (n : ℕ) → n ≡ at + lineLen (drop at s) → at + recordSize (further (linesOf (drop at s))) ≡ n + recordSize (further (linesOf (drop n s)))
     unfolding recordSize
     further-size n p = rw (further-first n p) (let z = first-size (drop at s) in omega arith)
-
-    module _ (limit : ℕ) (all : Record) (m : ℕ) (same : Same limit all at m (further (linesOf (drop at s)))) where
-      pub further-stop : (k p : ℕ) → goodLine at limit (firstLine (drop at s)) ≡ refused k p → goodLines 0 limit all ≡ refused k p
-      unfolding goodLines
-      further-stop k p e = same .checks ∙ rw (further-first (at + lineLen (drop at s)) refl) (bind-stop (goodLine at limit (firstLine (drop at s))) _ k p e)
-
-      pub further-go : (c : Code) (n : ℕ) → goodLine at limit (firstLine (drop at s)) ≡ fine c → n ≡ at + lineLen (drop at s)
-          → Same limit all n (m + 1) (further (linesOf (drop n s)))
-      unfolding goodLines recordSize
-      further-go c n e p =
-          let z = first-size (drop at s) in
-          let y : at + sizeOf (firstLine (drop at s)) ≡ n = omega arith in
-          record {
-            checks = same .checks ∙ rw (further-first n p) (bind-go (goodLine at limit (firstLine (drop at s))) _ c e ∙ rw y);
-            count = same .count ∙ rw (further-first n p) (omega arith);
-            size = same .size ∙ further-size n p;
-          }
 
 -- ---- the record's end alone
 
@@ -193,19 +113,3 @@ record-start s at n p = by-size (known (leb (length s) at))
         let z : n ≡ at = p ∙ rw e (add-zero at) in
         rw (z, e)
     by-size (fails q) = let z = first-size (drop at s) in rw (lines-here s at n (leb-false (length s) at q) p) (omega arith)
-
--- ---- 3 alone
-
-module _ (s : Bytes) (at limit : ℕ) where
-  pub short-end : length s ≤ at → noneLonger at limit (linesOf (drop at s)) ≡ fine tt
-  unfolding noneLonger linesOf
-  short-end h = rw (drop-of-length-le s {i = at} h)
-
-  module _ (h : at < length s) where
-    pub short-stop : limit < bodyLen (drop at s) → noneLonger at limit (linesOf (drop at s)) ≡ refused 3 (at + limit)
-    unfolding noneLonger notLonger
-    short-stop k = rw (lines-here s at (at + lineLen (drop at s)) h refl, first-body (drop at s), lt-leb (bodyLen (drop at s)) limit k)
-
-    pub short-go : (n : ℕ) → bodyLen (drop at s) ≤ limit → n ≡ at + lineLen (drop at s) → noneLonger at limit (linesOf (drop at s)) ≡ noneLonger n limit (linesOf (drop n s))
-    unfolding noneLonger notLonger
-    short-go n k p = rw (lines-here s at n h p, first-body (drop at s), le-leb (bodyLen (drop at s)) limit k, ← p)

@@ -1,4 +1,4 @@
-// Lines and records of a file: where they end, and a line's code. `checks` holds refusals 3, 4 and 5.
+// Lines and records of a file: where they end, and a line's code. `scan` finds the first byte outside a range, block by block.
 use codes::Code;
 ghost use mathlib.Core.Path.{_≡_};
 ghost use mathlib.Core.List.{[], _∷_};
@@ -9,8 +9,7 @@ ghost use Rattle.rules.specs.Lines.{linesOf, codeOf, recordSize};
 ghost use Rattle.lines.specs.Cut.{bodyLen, endLen, lineLen, firstLine, firstRecord};
 ghost use Rattle.lines.specs.Answers.{codeFound};
 
-pub mod checks;
-mod scan;
+pub mod scan;
 
 // A line's code, if it has one.
 pub enum Coded {

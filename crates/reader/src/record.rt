@@ -1,13 +1,12 @@
 // One record, in document 01's order: 3, 4, 5; 6; 7, 8, 9; the header's own lines against L; 10; 14, 11, 12, 13.
 use crate::state;
 use crate::state::State;
+use checks::Checked;
+use checks::Scanned;
 use codes::Code;
 use digits::kinds::Place;
 use digits::kinds::Records;
 use kept::Kept;
-use lines::checks;
-use lines::checks::Checked;
-use lines::checks::Scanned;
 use walk::Walked;
 use wants::want;
 ghost use mathlib.Core.Path.{_≡_};
@@ -16,7 +15,7 @@ ghost use lib.ListN.{length};
 ghost use Rattle.rules.specs.Lines.{linesOf};
 ghost use Rattle.rules.specs.Verdict.{ownLines, mostBytes};
 ghost use Rattle.codes.specs.Meanings.{codeMeant};
-ghost use Rattle.lines.specs.Answers.{checkedOf, placeWithin};
+ghost use Rattle.checks.specs.Answers.{checkedOf, placeWithin};
 ghost use Rattle.reader.specs.Stepping.{limitK};
 ghost use Rattle.reader.specs.Answers.{Settling, SettledIs, StepIs};
 ghost use Rattle.reader.specs.Meanings.{Held};

@@ -2,8 +2,8 @@
 use mathlib.Core.Path.{sym, ap, _∙_}
 use Rattle.rules.specs.Lines.{linesOf}
 use Rattle.rules.proofs.Tests.{is-true}
-use Rattle.lines.specs.declared.checks.Checked.{Checked}
-use Rattle.lines.specs.Answers.{checkedOf}
+use Rattle.checks.specs.declared.Checked.{Checked}
+use Rattle.checks.specs.Answers.{checkedOf}
 use Rattle.combining.proofs.Limits.{within-more, none-within, none-over}
 use borrow.Author.Needs.{needs}
 use Rattle.combining.proofs.within.Statement.{statement}

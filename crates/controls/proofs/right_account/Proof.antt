@@ -1,7 +1,7 @@
 -- `controls::right_account` meets its contract. Assumes nothing.
 use mathlib.Core.Path.{ap, sym, _∙_}
 use borrow.Author.Needs.{needs}
-use Rattle.lines.specs.Answers.{checkedOf}
+use Rattle.checks.specs.Answers.{checkedOf}
 use Rattle.controls.specs.Controls.{accountK}
 use Rattle.controls.proofs.right_account.Statement.{statement}
 use Rattle.controls.proofs.right_account.Tie as tie

@@ -1,7 +1,7 @@
 -- `controls::right_trailer` meets its contract. Assumes nothing.
 use mathlib.Core.Path.{ap, sym, _∙_}
 use borrow.Author.Needs.{needs}
-use Rattle.lines.specs.Answers.{checkedOf}
+use Rattle.checks.specs.Answers.{checkedOf}
 use Rattle.controls.specs.Controls.{trailerK}
 use Rattle.controls.proofs.right_trailer.Statement.{statement}
 use Rattle.controls.proofs.right_trailer.Tie as tie

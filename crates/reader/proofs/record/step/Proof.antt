@@ -16,7 +16,7 @@ use Rattle.rules.specs.Verdict.{step, inOrder}
 use Rattle.codes.specs.Meanings.{codeMeant}
 use Rattle.lines.specs.Cut.{firstRecord}
 use Rattle.lines.specs.OneRecord.{first-part}
-use Rattle.lines.specs.Answers.{Whole}
+use Rattle.checks.specs.Answers.{Whole}
 use Rattle.kept.specs.Keeping.{fresh, Within}
 use Rattle.wants.specs.Wants.{wantedOf}
 use Rattle.walk.specs.Working.{walkFrom}

@@ -1,4 +1,4 @@
--- `lines::checks::none_longer` meets its contract. Assumes nothing.
+-- `checks::none_longer` meets its contract. Assumes nothing.
 use Prim.Native.Nat.{_+_, _≤_, _-_}
 use mathlib.Core.Path.{_≡_, refl, sym, _∙_}
 use native.Mathlib.Omega.{arith}
@@ -6,9 +6,10 @@ use lib.ListN.{length, drop}
 use borrow.Author.Needs.{needs}
 use Rattle.rules.specs.Lines.{linesOf}
 use Rattle.rules.specs.Verdict.{noneLonger}
-use Rattle.lines.proofs.Passing.{next-is, next-behind, next-within, short-end, short-stop, short-go}
-use Rattle.lines.proofs.checks.none_longer.Statement.{statement}
-use Rattle.lines.proofs.checks.none_longer.Tie as tie
+use Rattle.lines.proofs.Passing.{next-is, next-behind, next-within}
+use Rattle.checks.proofs.Checking.{short-end, short-stop, short-go}
+use Rattle.checks.proofs.none_longer.Statement.{statement}
+use Rattle.checks.proofs.none_longer.Tie as tie
 
 abbrev Inv-loop : tie.InvT-loop
 Inv-loop s limit at₀ at = (at ≤ length s) × (noneLonger 0 limit (linesOf s) ≡ noneLonger at limit (linesOf (drop at s)))

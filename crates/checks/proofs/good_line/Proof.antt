@@ -1,4 +1,4 @@
--- `lines::checks::good_line` meets its contract. Assumes nothing.
+-- `checks::good_line` meets its contract. Assumes nothing.
 use Prim.Native.Nat.{ℕ, _+_}
 use mathlib.Core.Path.{_≡_, ap, sym, _∙_}
 use native.Mathlib.Omega.{arith}
@@ -6,11 +6,12 @@ use lib.ListN.{drop, length-drop}
 use borrow.Author.Needs.{needs}
 use Rattle.rules.specs.Outcome.{refused}
 use Rattle.codes.specs.Meanings.{codeMeant}
 use Rattle.lines.specs.Cut.{bodyLen}
 use Rattle.lines.specs.Answers.{codeFound}
-use Rattle.lines.proofs.Passing.{body-from, next-is, next-within, line-long, line-byte, line-code, line-fine}
-use Rattle.lines.proofs.checks.good_line.Statement.{statement}
-use Rattle.lines.proofs.checks.good_line.Tie as tie
+use Rattle.lines.proofs.Passing.{body-from, next-is, next-within}
+use Rattle.checks.proofs.Checking.{line-long, line-byte, line-code, line-fine}
+use Rattle.checks.proofs.good_line.Statement.{statement}
+use Rattle.checks.proofs.good_line.Tie as tie
 
 the-end : (c : tie.After-body-end) → c .body-end .result ≡ c .before .before .before .args .at + bodyLen (drop (c .before .before .before .args .at) (c .before .before .before .args .s .now))
 the-end c = c .body-end .ensures .0 ∙ sym (body-from (c .before .before .before .args .s .now) (c .before .before .before .args .at) (c .before .plain-end .result) 126 (c .before .plain-end .ensures .0))

@@ -1,9 +1,9 @@
--- `lines::checks::scan_record` meets its contract. Assumes nothing.
+-- `checks::scan_record` meets its contract. Assumes nothing.
 use native.Mathlib.Omega.{arith}
 use borrow.Author.Needs.{needs}
-use Rattle.lines.proofs.Passing.{first-stop}
-use Rattle.lines.proofs.checks.scan_record.Statement.{statement}
-use Rattle.lines.proofs.checks.scan_record.Tie as tie
+use Rattle.checks.proofs.Checking.{first-stop}
+use Rattle.checks.proofs.scan_record.Statement.{statement}
+use Rattle.checks.proofs.scan_record.Tie as tie
 
 scan-further-requires : tie.Need-scan-further-requires
 scan-further-requires c κs = (omega arith, rw (c .before .code .given .1) at (c .before .before .before .good-line .ensures))

@@ -1,14 +1,14 @@
 // Refusals 3, 4 and 5: each line of a record in file order.
-use super::Coded;
 use codes::Code;
 use digits::kinds::Place;
 use digits::kinds::Records;
+use lines::Coded;
 ghost use mathlib.Core.Path.{_≡_};
 ghost use Prim.Native.Nat.{_<_};
 ghost use lib.ListN.{length, drop};
 ghost use Rattle.rules.specs.Lines.{linesOf};
 ghost use Rattle.rules.specs.Verdict.{noneLonger};
-ghost use Rattle.lines.specs.Answers.{checkedOf, placeWithin, LineIs, ScanIs};
+ghost use Rattle.checks.specs.Answers.{checkedOf, placeWithin, LineIs, ScanIs};
 
 // Fine, or a refusal's number and place.
 pub enum Checked {
@@ -34,17 +34,17 @@ fn good_line(s: &[u8], at: usize, limit: usize) -> GoodLine
     requires { ⌜ at < length (now s) ⌝ }
     ensures { λ r. ⌜ LineIs r at limit (drop at (now (s .entry))) ⌝ }
 {
-    let i = super::scan::plain_end(s, at, b'~');
-    let e = super::body_end(s, i);
+    let i = lines::scan::plain_end(s, at, b'~');
+    let e = lines::body_end(s, i);
     if limit < e - at {
         return GoodLine::Refused(3, Place(at + limit));
     }
     if i < e {
         return GoodLine::Refused(4, Place(i));
     }
-    match super::code_at(s, at) {
+    match lines::code_at(s, at) {
         Coded::None => GoodLine::Refused(5, Place(at)),
-        Coded::With(code) => GoodLine::Good(code, e + super::end_len(s, e)),
+        Coded::With(code) => GoodLine::Good(code, e + lines::end_len(s, e)),
     }
 }
 
@@ -55,7 +55,7 @@ fn scan_further(s: &[u8], limit: usize, code: Code, next: usize) -> Scanned
 {
     let mut at = next;
     let mut n: u64 = 1;
-    while super::begins_with(s, at, b'8', b'8') {
+    while lines::begins_with(s, at, b'8', b'8') {
         match good_line(s, at, limit) {
             GoodLine::Refused(k, p) => return Scanned::Refused(k, p),
             GoodLine::Good(_, behind) => at = behind,
@@ -84,11 +84,11 @@ pub fn none_longer(s: &[u8], limit: usize) -> Checked
 {
     let mut at: usize = 0;
     while at < s.len() {
-        let e = super::body_end(s, at);
+        let e = lines::body_end(s, at);
         if limit < e - at {
             return Checked::Refused(3, Place(at + limit));
         }
-        at = e + super::end_len(s, e);
+        at = e + lines::end_len(s, e);
     }
     Checked::Fine
 }

@@ -1,4 +1,4 @@
--- `lines::checks::scan_further` meets its contract. Assumes nothing.
+-- `checks::scan_further` meets its contract. Assumes nothing.
 use Prim.Native.Nat.{_≤_, _<_, _-_}
 use mathlib.Core.Path.{sym, _∙_}
 use native.Mathlib.Omega.{arith}
@@ -7,11 +7,12 @@ use borrow.Author.Needs.{needs}
 use Rattle.rules.specs.Lines.{linesOf, recordSize}
 use Rattle.rules.specs.Verdict.{goodLines}
 use Rattle.codes.specs.Meanings.{codeMeant}
 use Rattle.lines.specs.Cut.{firstLine, further, firstRecord}
 use Rattle.lines.specs.Cutting.{line-some, line-fits}
-use Rattle.lines.proofs.Passing.{Same, good-code, first-go, further-some, further-end, further-stop, further-go}
-use Rattle.lines.proofs.checks.scan_further.Statement.{statement}
-use Rattle.lines.proofs.checks.scan_further.Tie as tie
+use Rattle.lines.proofs.Passing.{further-some}
+use Rattle.checks.proofs.Checking.{Same, good-code, first-go, further-end, further-stop, further-go}
+use Rattle.checks.proofs.scan_further.Statement.{statement}
+use Rattle.checks.proofs.scan_further.Tie as tie
 
 abbrev Inv-loop : tie.InvT-loop
 Inv-loop s limit code next at₀ n₀ at n = (0 < at) × (at ≤ length s) × (n ≤ at) × (0 < n) × Same limit (firstRecord (linesOf s)) at n (further (linesOf (drop at s)))
