@@ -33,12 +33,12 @@ use Rattle.parts.specs.declared.Part.{Part}
 use Rattle.parts.specs.declared.Refusal.{Refusal}
 use Rattle.parts.specs.declared.DetailAnswer.{DetailAnswer}
 use Rattle.parts.specs.Meanings as parts
-use Rattle.writer.specs.declared.state.Summary as written-summary
-use Rattle.writer.specs.declared.state.Phase.{Phase}
-use Rattle.writer.specs.declared.state.Phase.the-variants as phases
-use Rattle.writer.specs.declared.state.Writer.{Writer}
-use Rattle.writer.specs.declared.state.Written.{Written}
-use Rattle.writer.specs.States.{phaseMeant, writerMeant, writtenMeant}
+use Rattle.turns.specs.declared.Summary as written-summary
+use Rattle.turns.specs.declared.Phase.{Phase}
+use Rattle.turns.specs.declared.Phase.the-variants as phases
+use Rattle.turns.specs.declared.Writer.{Writer}
+use Rattle.turns.specs.declared.Written.{Written}
+use Rattle.turns.specs.States.{phaseMeant, writerMeant, writtenMeant}
 use Rattle.bai2.specs.declared.ReadAnswer.{ReadAnswer}
 use Rattle.bai2.specs.declared.SplitAnswer.{SplitAnswer}
 use Rattle.bai2.specs.declared.CombineAnswer.{CombineAnswer}

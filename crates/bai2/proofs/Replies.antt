@@ -16,9 +16,10 @@ use Rattle.rules.proofs.Tests.{Known, holds, fails, known}
 use Rattle.drafts.specs.Drafts.{amountGiven, countGiven}
 use Rattle.drafts.specs.declared.MaybeAmount.{MaybeAmount}
 use Rattle.drafts.specs.declared.MaybeCount.{MaybeCount}
-use Rattle.writer.specs.States.{writerMeant, writtenMeant, itemMeant, itemGiven}
-use Rattle.writer.specs.declared.state.Writer.{Writer}
-use Rattle.writer.specs.declared.state.Written.{Written}
+use Rattle.turns.specs.States.{writerMeant, writtenMeant}
+use Rattle.turns.specs.declared.Writer.{Writer}
+use Rattle.turns.specs.declared.Written.{Written}
+use Rattle.writer.specs.Items.{itemMeant, itemGiven}
 use Rattle.bai2.specs.Writing.{stateOf, numbersBehind, answerOf, replied, replyTo, orNone, amountAsked, countAsked, itemOf, itemAsked}
 use Rattle.bai2.specs.declared.writing.WriterState.{WriterState}
 use Rattle.bai2.specs.declared.writing.WriteAnswer.{WriteAnswer}

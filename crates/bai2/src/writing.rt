@@ -5,16 +5,16 @@ use digits::kinds::Records;
 use digits::kinds::Units;
 use drafts::MaybeAmount;
 use drafts::MaybeCount;
-use writer::state::Phase;
-use writer::state::Summary;
-use writer::state::Writer;
-use writer::state::Written;
+use turns::Phase;
+use turns::Summary;
+use turns::Writer;
+use turns::Written;
 ghost use mathlib.Core.Path.{_≡_};
 ghost use mathlib.Core.List.{[]};
 ghost use Rattle.rules.specs.Writer as rules;
 ghost use Rattle.digits.specs.Reading.{amountMeant};
 ghost use Rattle.drafts.specs.Drafts.{amountGiven, countGiven};
-ghost use Rattle.writer.specs.States.{summaryMeant, phaseMeant, writerMeant, writtenMeant};
+ghost use Rattle.turns.specs.States.{summaryMeant, phaseMeant, writerMeant, writtenMeant};
 ghost use Rattle.bai2.specs.Writing.{summaryOf, figuresOf, phaseOf, phaseFigure, flag, sizeOf, stateOf, numbersOf, numbersBehind, answerOf, replied, replyTo, signedOf, amountAsked, countAsked, itemOf, itemAsked};
 
 // A summary in figures.
@@ -122,10 +122,10 @@ fn size_of(w: WriterState) -> usize
     ensures { λ r. ⌜ r ≡ sizeOf w ⌝ }
 {
     if 5 < w.phase {
-        return writer::state::MOST_BYTES + 1;
+        return turns::MOST_BYTES + 1;
     }
     if 1 < w.items {
-        return writer::state::MOST_BYTES + 1;
+        return turns::MOST_BYTES + 1;
     }
     w.size as usize
 }
@@ -245,7 +245,7 @@ pub extern "C" fn bai2_write_header(
     ensures { λ r. ⌜ replied r (now (out .exit)) ≡ replyTo writer (rules.header (now (sender .entry)) (now (receiver .entry)) (now (date .entry)) (now (time .entry)) (now («file_number» .entry))) (now (out .entry)) ⌝ }
 {
     let w = state_of(writer);
-    let r = w.header(sender, receiver, date, time, file_number, out);
+    let r = writer::header(w, sender, receiver, date, time, file_number, out);
     answered(writer, r)
 }
 
@@ -265,7 +265,8 @@ pub extern "C" fn bai2_write_group(
     ensures { λ r. ⌜ replied r (now (out .exit)) ≡ replyTo writer (rules.group (now (receiver .entry)) (now (originator .entry)) (now (status .entry)) (now (date .entry)) (now (time .entry)) (now (currency .entry)) (now (modifier .entry))) (now (out .entry)) ⌝ }
 {
     let w = state_of(writer);
-    let r = w.group(
+    let r = writer::group(
+        w,
         receiver,
         originator,
         status,
@@ -297,7 +298,7 @@ pub extern "C" fn bai2_write_account(
     let w = state_of(writer);
     let a = amount_asked(amount_given, amount);
     let n = count_asked(count_given, count);
-    let r = w.account(account, currency, item_given != 0, type_code, a, n, out);
+    let r = writer::account(w, account, currency, item_given != 0, type_code, a, n, out);
     answered(writer, r)
 }
 
@@ -317,7 +318,7 @@ pub extern "C" fn bai2_write_item(
     let w = state_of(writer);
     let a = amount_asked(amount_given, amount);
     let n = count_asked(count_given, count);
-    let r = w.item(type_code, a, n, out);
+    let r = writer::item(w, type_code, a, n, out);
     answered(writer, r)
 }
 
@@ -337,7 +338,15 @@ pub extern "C" fn bai2_write_detail(
 {
     let w = state_of(writer);
     let a = amount_asked(amount_given, amount);
-    let r = w.detail(type_code, a, bank_reference, customer_reference, text, out);
+    let r = writer::detail(
+        w,
+        type_code,
+        a,
+        bank_reference,
+        customer_reference,
+        text,
+        out,
+    );
     answered(writer, r)
 }
 
@@ -347,7 +356,7 @@ pub extern "C" fn bai2_write_end_account(writer: WriterState, out: &mut [u8]) ->
     ensures { λ r. ⌜ replied r (now (out .exit)) ≡ replyTo writer rules.accountEnd (now (out .entry)) ⌝ }
 {
     let w = state_of(writer);
-    let r = w.end_account(out);
+    let r = writer::end_account(w, out);
     answered(writer, r)
 }
 
@@ -357,7 +366,7 @@ pub extern "C" fn bai2_write_end_group(writer: WriterState, out: &mut [u8]) -> W
     ensures { λ r. ⌜ replied r (now (out .exit)) ≡ replyTo writer rules.groupEnd (now (out .entry)) ⌝ }
 {
     let w = state_of(writer);
-    let r = w.end_group(out);
+    let r = writer::end_group(w, out);
     answered(writer, r)
 }
 
@@ -367,6 +376,6 @@ pub extern "C" fn bai2_write_end_file(writer: WriterState, out: &mut [u8]) -> Wr
     ensures { λ r. ⌜ replied r (now (out .exit)) ≡ replyTo writer rules.fileEnd (now (out .entry)) ⌝ }
 {
     let w = state_of(writer);
-    let r = w.end_file(out);
+    let r = writer::end_file(w, out);
     answered(writer, r)
 }

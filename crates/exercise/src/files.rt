@@ -4,13 +4,14 @@ use drafts::MaybeCount;
 use trials::amounts::minus;
 use trials::amounts::plus;
 use trials::printing::behind;
-use writer::state::Writer;
+use turns::Writer;
 
 // K1 of document 01; the writer leaves the 16's funds empty.
 pub fn k1(out: &mut [u8; 4096]) -> Writer {
     let w = Writer::new();
-    let w = behind(w.header(b"122099999", b"123456789", b"040621", b"0200", b"1", out));
-    let w = behind(w.group(
+    let w = behind(writer::header(w, b"122099999", b"123456789", b"040621", b"0200", b"1", out));
+    let w = behind(writer::group(
+        w,
         b"031001234",
         b"122099999",
         b"1",
@@ -21,7 +22,15 @@ pub fn k1(out: &mut [u8; 4096]) -> Writer {
         out,
     ));
     let w = status_account(w, b"0975312468", b"USD", minus(500), out);
-    let w = behind(w.detail(b"165", plus(1500), b"DD1620", b"", b"DEALER PAYMENTS", out));
+    let w = behind(writer::detail(
+        w,
+        b"165",
+        plus(1500),
+        b"DD1620",
+        b"",
+        b"DEALER PAYMENTS",
+        out,
+    ));
     end_all(w, out)
 }
 
@@ -33,7 +42,8 @@ fn status_account(
     amount: MaybeAmount,
     out: &mut [u8; 4096],
 ) -> Writer {
-    behind(w.account(
+    behind(writer::account(
+        w,
         number,
         currency,
         true,
@@ -46,17 +56,26 @@ fn status_account(
 
 // The ends of account, group and file.
 fn end_all(w: Writer, out: &mut [u8; 4096]) -> Writer {
-    let w = behind(w.end_account(out));
-    let w = behind(w.end_group(out));
-    behind(w.end_file(out))
+    let w = behind(writer::end_account(w, out));
+    let w = behind(writer::end_group(w, out));
+    behind(writer::end_file(w, out))
 }
 
 // A file of two groups with every call.
 pub fn every_call(out: &mut [u8; 4096]) -> Writer {
     let w = Writer::new();
-    let w = behind(w.header(b"BANK A", b"0087654", b"240229", b"2400", b"000000001", out));
+    let w = behind(writer::header(
+        w,
+        b"BANK A",
+        b"0087654",
+        b"240229",
+        b"2400",
+        b"000000001",
+        out,
+    ));
     let w = two_accounts(w, out);
-    let w = behind(w.group(
+    let w = behind(writer::group(
+        w,
         b"031001234",
         b"BANK A",
         b"4",
@@ -72,15 +91,16 @@ pub fn every_call(out: &mut [u8; 4096]) -> Writer {
 
 // A group for no receiver, with an account without items and one with items.
 fn two_accounts(w: Writer, out: &mut [u8; 4096]) -> Writer {
-    let w = behind(w.group(b"", b"BANK A", b"1", b"240228", b"", b"USD", b"", out));
+    let w = behind(writer::group(w, b"", b"BANK A", b"1", b"240228", b"", b"USD", b"", out));
     let w = without_items(w, out);
     let w = with_items(w, out);
-    behind(w.end_group(out))
+    behind(writer::end_group(w, out))
 }
 
 // An account without an item, and a detail without an amount.
 fn without_items(w: Writer, out: &mut [u8; 4096]) -> Writer {
-    let w = behind(w.account(
+    let w = behind(writer::account(
+        w,
         b"0012345",
         b"",
         false,
@@ -89,7 +109,8 @@ fn without_items(w: Writer, out: &mut [u8; 4096]) -> Writer {
         MaybeCount::NoCount,
         out,
     ));
-    let w = behind(w.detail(
+    let w = behind(writer::detail(
+        w,
         b"890",
         MaybeAmount::NoAmount,
         b"",
@@ -97,20 +118,20 @@ fn without_items(w: Writer, out: &mut [u8; 4096]) -> Writer {
         b"PLEASE CALL 9/5, ROOM 7",
         out,
     ));
-    behind(w.end_account(out))
+    behind(writer::end_account(w, out))
 }
 
 // An account with three items, a credit and a debit.
 fn with_items(w: Writer, out: &mut [u8; 4096]) -> Writer {
     let w = status_account(w, b"0099887766", b"CAD", minus(250_075), out);
-    let w = behind(w.item(b"100", plus(300_000), MaybeCount::Given(2), out));
-    let w = behind(w.item(b"400", plus(50_000), MaybeCount::NoCount, out));
+    let w = behind(writer::item(w, b"100", plus(300_000), MaybeCount::Given(2), out));
+    let w = behind(writer::item(w, b"400", plus(50_000), MaybeCount::NoCount, out));
     credit_and_debit(w, out)
 }
 
 // A credit without text, a debit, and the account's end.
 fn credit_and_debit(w: Writer, out: &mut [u8; 4096]) -> Writer {
-    let w = behind(w.detail(b"165", plus(300_000), b"DD1620", b"REF 7", b"", out));
-    let w = behind(w.detail(b"475", plus(50_000), b"", b"", b"CHECK 000123", out));
-    behind(w.end_account(out))
+    let w = behind(writer::detail(w, b"165", plus(300_000), b"DD1620", b"REF 7", b"", out));
+    let w = behind(writer::detail(w, b"475", plus(50_000), b"", b"", b"CHECK 000123", out));
+    behind(writer::end_account(w, out))
 }

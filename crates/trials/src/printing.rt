@@ -1,7 +1,7 @@
 // What the exercise prints: files, and answers in figures.
 use libc::STDOUT_FILENO;
-use writer::state::Writer;
-use writer::state::Written;
+use turns::Writer;
+use turns::Written;
 
 // The bytes that stand.
 pub fn print_file(w: Writer, out: &[u8; 4096]) {

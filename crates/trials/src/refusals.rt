@@ -6,14 +6,15 @@ use crate::printing::print_answer;
 use crate::printing::print_file;
 use drafts::MaybeAmount;
 use drafts::MaybeCount;
-use writer::state::Writer;
+use turns::Writer;
 
 // A writer behind a header, a group and an account without an item.
 fn in_account(out: &mut [u8; 4096]) -> Writer {
     let w = Writer::new();
-    let w = behind(w.header(b"A", b"B", b"240229", b"0000", b"0", out));
-    let w = behind(w.group(b"B", b"A", b"1", b"240229", b"", b"", b"", out));
-    behind(w.account(
+    let w = behind(writer::header(w, b"A", b"B", b"240229", b"0000", b"0", out));
+    let w = behind(writer::group(w, b"B", b"A", b"1", b"240229", b"", b"", b"", out));
+    behind(writer::account(
+        w,
         b"7",
         b"",
         false,
@@ -26,12 +27,18 @@ fn in_account(out: &mut [u8; 4096]) -> Writer {
 
 // Prints what a header answers.
 fn try_header(tried: &[u8], w: Writer, sender: &[u8], date: &[u8], out: &mut [u8; 4096]) {
-    print_answer(tried, w.header(sender, b"B", date, b"0000", b"0", out));
+    print_answer(
+        tried,
+        writer::header(w, sender, b"B", date, b"0000", b"0", out),
+    );
 }
 
 // Prints what a further item answers.
 fn try_item(tried: &[u8], w: Writer, out: &mut [u8; 4096]) {
-    print_answer(tried, w.item(b"010", plus(1), MaybeCount::NoCount, out));
+    print_answer(
+        tried,
+        writer::item(w, b"010", plus(1), MaybeCount::NoCount, out),
+    );
 }
 
 // Prints what a detail answers.
@@ -43,23 +50,29 @@ fn try_detail(
     text: &[u8],
     out: &mut [u8; 4096],
 ) {
-    print_answer(tried, w.detail(type_code, amount, b"", b"", text, out));
+    print_answer(
+        tried,
+        writer::detail(w, type_code, amount, b"", b"", text, out),
+    );
 }
 
 // A detail without references and text.
 fn short_detail(w: Writer, type_code: &[u8], amount: MaybeAmount, out: &mut [u8; 4096]) -> Writer {
-    behind(w.detail(type_code, amount, b"", b"", b"", out))
+    behind(writer::detail(w, type_code, amount, b"", b"", b"", out))
 }
 
 // 19: calls out of turn.
 pub fn out_of_turn(out: &mut [u8; 4096]) {
     print_answer(
         b"end of a file that was not begun",
-        Writer::new().end_file(out),
+        writer::end_file(Writer::new(), out),
     );
     let w = in_account(out);
     try_header(b"second header", w, b"A", b"240229", out);
-    print_answer(b"end of a group with an open account", w.end_group(out));
+    print_answer(
+        b"end of a group with an open account",
+        writer::end_group(w, out),
+    );
     try_item(b"item after an account with none", w, out);
     behind_a_detail(w, out);
 }
@@ -68,7 +81,7 @@ pub fn out_of_turn(out: &mut [u8; 4096]) {
 fn behind_a_detail(w: Writer, out: &mut [u8; 4096]) {
     let w = short_detail(w, b"165", plus(1), out);
     try_item(b"item after a detail", w, out);
-    let w = behind(w.end_account(out));
+    let w = behind(writer::end_account(w, out));
     try_detail(b"detail after its account", w, b"165", plus(1), b"", out);
     print_file(w, out);
 }
@@ -112,7 +125,10 @@ pub fn too_much(out: &mut [u8; 4096]) {
     );
     let w = short_detail(w, b"475", plus(1), out);
     let mut short = [0u8; 10];
-    print_answer(b"slice of 10 bytes", w.end_account(&mut short[0..10]));
-    let w = behind(w.end_account(out));
+    print_answer(
+        b"slice of 10 bytes",
+        writer::end_account(w, &mut short[0..10]),
+    );
+    let w = behind(writer::end_account(w, out));
     print_file(w, out);
 }

@@ -24,7 +24,10 @@ use Rattle.readback.proofs.Details.{detailRest, detail-left}
 use Rattle.drafts.specs.Drafts.{Sofar, begun, withText, textAdded, addedAll}
 use Rattle.entries.specs.Entries.{lineIn}
 use Rattle.drafts.proofs.Chains.{noText, lineSofar, chain-is, fields-fit}
-use Rattle.writer.specs.Closing.{sizeFor, roomFor, closing}
+use Rattle.drafts.specs.declared.MaybeAmount.{MaybeAmount}
+use Rattle.drafts.specs.declared.MaybeCount.{MaybeCount}
+use Rattle.closing.specs.Closing.{sizeFor, roomFor, closing}
+use Rattle.writer.specs.Items.{itemMeant, itemGiven}
 
 -- ---- a drafted line and the rules' line
 
@@ -216,6 +219,11 @@ module _ (k : ℕ) (n : k ≡ 640) (c : Code) (ks : List Kind) (fs : List Bytes)
 pub answers : (w : Writer) (call : Call) (out : Bytes) (o : Outcome Entry) {r : Written} → r ≡ writtenBy w o out → o ≡ writeLine w (given w call) (length out) → r ≡ write w call out
 unfolding write
 answers w call out o e h = e ∙ rw h
+
+-- an account with an item
+pub with-item : (w : Writer) (n c y out : Bytes) (a : MaybeAmount) (k : MaybeCount) (g : Bool) {r : Written} → g ≡ true
+    → r ≡ write w (account n c (some (itemMeant y a k))) out → r ≡ write w (account n c (itemGiven g y a k)) out
+with-item w n c y out a k g e h = rw e h
 
 -- an account without an item is one with an empty item
 pub no-item : (w : Writer) (n c out : Bytes) → write w (account n c (some (record { type = []; amount = none; count = none }))) out ≡ write w (account n c none) out

@@ -1,3 +1,2 @@
--- The code's states in the rules' terms.
-pub mod States
-pub mod Closing
+-- What the calls are given, in the rules' terms.
+pub mod Items

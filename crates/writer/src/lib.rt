@@ -1,20 +1,18 @@
 // The writer of document 01: each call takes the state by value and hands back its answer with the state behind it. The line is drafted in a space
-// of its own, by `entries`; `line::finish` decides whether it is written.
+// of its own, by `entries`; `closing` decides whether it is written.
 use codes::Code;
 use digits::kinds::Records;
 use digits::kinds::Units;
 use drafts::MaybeAmount;
 use drafts::MaybeCount;
-use state::Writer;
-use state::Written;
+use turns::Writer;
+use turns::Written;
 ghost use mathlib.Core.Path.{_≡_};
 ghost use mathlib.Core.Bool.{true};
 ghost use Rattle.drafts.specs.Drafts.{amountGiven};
 ghost use Rattle.rules.specs.Writer as rules;
-ghost use Rattle.writer.specs.States.{writerMeant, writtenMeant, itemMeant, itemGiven};
-
-pub mod line;
-pub mod state;
+ghost use Rattle.turns.specs.States.{writerMeant, writtenMeant};
+ghost use Rattle.writer.specs.Items.{itemMeant, itemGiven};
 
 // An account with an item, which may be empty.
 fn open_account(
@@ -32,198 +30,172 @@ fn open_account(
     let d = entries::account(&mut space, number, currency, type_code, amount, count);
     let sum = drafts::sum_given(amount);
     let items = !values::is_empty(type_code);
-    line::finish(w, Code::AccountHeader, &space, d, sum, items, out)
+    closing::finish(w, Code::AccountHeader, &space, d, sum, items, out)
 }
 
-impl Writer {
-    // The line 01.
-    pub fn header(
-        self,
-        sender: &[u8],
-        receiver: &[u8],
-        date: &[u8],
-        time: &[u8],
-        file_number: &[u8],
-        out: &mut [u8],
-    ) -> Written
-        ensures { λ r. ⌜ writtenMeant r (now (out .exit)) ≡ rules.write (writerMeant self) (rules.header (now (sender .entry)) (now (receiver .entry)) (now (date .entry)) (now (time .entry)) (now («file_number» .entry))) (now (out .entry)) ⌝ }
-    {
-        let mut space = drafts::line_space();
-        let d = entries::header(&mut space, sender, receiver, date, time, file_number);
-        line::finish(self, Code::FileHeader, &space, d, Units::none(), false, out)
-    }
+// The line 01.
+pub fn header(
+    w: Writer,
+    sender: &[u8],
+    receiver: &[u8],
+    date: &[u8],
+    time: &[u8],
+    file_number: &[u8],
+    out: &mut [u8],
+) -> Written
+    ensures { λ r. ⌜ writtenMeant r (now (out .exit)) ≡ rules.write (writerMeant w) (rules.header (now (sender .entry)) (now (receiver .entry)) (now (date .entry)) (now (time .entry)) (now («file_number» .entry))) (now (out .entry)) ⌝ }
+{
+    let mut space = drafts::line_space();
+    let d = entries::header(&mut space, sender, receiver, date, time, file_number);
+    closing::finish(w, Code::FileHeader, &space, d, Units::none(), false, out)
+}
 
-    // The line 02.
-    pub fn group(
-        self,
-        receiver: &[u8],
-        originator: &[u8],
-        status: &[u8],
-        date: &[u8],
-        time: &[u8],
-        currency: &[u8],
-        modifier: &[u8],
-        out: &mut [u8],
-    ) -> Written
-        ensures { λ r. ⌜ writtenMeant r (now (out .exit)) ≡ rules.write (writerMeant self) (rules.group (now (receiver .entry)) (now (originator .entry)) (now (status .entry)) (now (date .entry)) (now (time .entry)) (now (currency .entry)) (now (modifier .entry))) (now (out .entry)) ⌝ }
-    {
-        let mut space = drafts::line_space();
-        let d = entries::group(
-            &mut space,
-            receiver,
-            originator,
-            status,
-            date,
-            time,
-            currency,
-            modifier,
-        );
-        line::finish(
-            self,
-            Code::GroupHeader,
-            &space,
-            d,
-            Units::none(),
-            false,
-            out,
-        )
-    }
+// The line 02.
+pub fn group(
+    w: Writer,
+    receiver: &[u8],
+    originator: &[u8],
+    status: &[u8],
+    date: &[u8],
+    time: &[u8],
+    currency: &[u8],
+    modifier: &[u8],
+    out: &mut [u8],
+) -> Written
+    ensures { λ r. ⌜ writtenMeant r (now (out .exit)) ≡ rules.write (writerMeant w) (rules.group (now (receiver .entry)) (now (originator .entry)) (now (status .entry)) (now (date .entry)) (now (time .entry)) (now (currency .entry)) (now (modifier .entry))) (now (out .entry)) ⌝ }
+{
+    let mut space = drafts::line_space();
+    let d = entries::group(
+        &mut space,
+        receiver,
+        originator,
+        status,
+        date,
+        time,
+        currency,
+        modifier,
+    );
+    closing::finish(w, Code::GroupHeader, &space, d, Units::none(), false, out)
+}
 
-    // The line 03, with an item or without one.
-    pub fn account(
-        self,
-        number: &[u8],
-        currency: &[u8],
-        item_given: bool,
-        type_code: &[u8],
-        amount: MaybeAmount,
-        count: MaybeCount,
-        out: &mut [u8],
-    ) -> Written
-        ensures { λ r. ⌜ writtenMeant r (now (out .exit)) ≡ rules.write (writerMeant self) (rules.account (now (number .entry)) (now (currency .entry)) (itemGiven «item_given» (now («type_code» .entry)) amount count)) (now (out .entry)) ⌝ }
-    {
-        if item_given {
-            return open_account(self, number, currency, type_code, amount, count, out);
-        }
-        let none = [0u8];
-        open_account(
-            self,
-            number,
-            currency,
-            &none[0..0],
-            MaybeAmount::NoAmount,
-            MaybeCount::NoCount,
-            out,
-        )
+// The line 03, with an item or without one.
+pub fn account(
+    w: Writer,
+    number: &[u8],
+    currency: &[u8],
+    item_given: bool,
+    type_code: &[u8],
+    amount: MaybeAmount,
+    count: MaybeCount,
+    out: &mut [u8],
+) -> Written
+    ensures { λ r. ⌜ writtenMeant r (now (out .exit)) ≡ rules.write (writerMeant w) (rules.account (now (number .entry)) (now (currency .entry)) (itemGiven «item_given» (now («type_code» .entry)) amount count)) (now (out .entry)) ⌝ }
+{
+    if item_given {
+        return open_account(w, number, currency, type_code, amount, count, out);
     }
+    let none = [0u8];
+    open_account(
+        w,
+        number,
+        currency,
+        &none[0..0],
+        MaybeAmount::NoAmount,
+        MaybeCount::NoCount,
+        out,
+    )
+}
 
-    // A further item of the account: a line 88.
-    pub fn item(
-        self,
-        type_code: &[u8],
-        amount: MaybeAmount,
-        count: MaybeCount,
-        out: &mut [u8],
-    ) -> Written
-        ensures { λ r. ⌜ writtenMeant r (now (out .exit)) ≡ rules.write (writerMeant self) (rules.further (itemMeant (now («type_code» .entry)) amount count)) (now (out .entry)) ⌝ }
-    {
-        let mut space = drafts::line_space();
-        let d = entries::item(&mut space, type_code, amount, count);
-        let sum = drafts::sum_given(amount);
-        line::finish(self, Code::Continuation, &space, d, sum, true, out)
-    }
+// A further item of the account: a line 88.
+pub fn item(
+    w: Writer,
+    type_code: &[u8],
+    amount: MaybeAmount,
+    count: MaybeCount,
+    out: &mut [u8],
+) -> Written
+    ensures { λ r. ⌜ writtenMeant r (now (out .exit)) ≡ rules.write (writerMeant w) (rules.further (itemMeant (now («type_code» .entry)) amount count)) (now (out .entry)) ⌝ }
+{
+    let mut space = drafts::line_space();
+    let d = entries::item(&mut space, type_code, amount, count);
+    let sum = drafts::sum_given(amount);
+    closing::finish(w, Code::Continuation, &space, d, sum, true, out)
+}
 
-    // The line 16.
-    pub fn detail(
-        self,
-        type_code: &[u8],
-        amount: MaybeAmount,
-        bank_reference: &[u8],
-        customer_reference: &[u8],
-        text: &[u8],
-        out: &mut [u8],
-    ) -> Written
-        ensures { λ r. ⌜ writtenMeant r (now (out .exit)) ≡ rules.write (writerMeant self) (rules.transaction (now («type_code» .entry)) (amountGiven amount) (now («bank_reference» .entry)) (now («customer_reference» .entry)) (now (text .entry))) (now (out .entry)) ⌝ }
-    {
-        let mut space = drafts::line_space();
-        let d = entries::detail(
-            &mut space,
-            type_code,
-            amount,
-            bank_reference,
-            customer_reference,
-            text,
-        );
-        let sum = drafts::sum_given(amount);
-        line::finish(self, Code::Detail, &space, d, sum, false, out)
-    }
+// The line 16.
+pub fn detail(
+    w: Writer,
+    type_code: &[u8],
+    amount: MaybeAmount,
+    bank_reference: &[u8],
+    customer_reference: &[u8],
+    text: &[u8],
+    out: &mut [u8],
+) -> Written
+    ensures { λ r. ⌜ writtenMeant r (now (out .exit)) ≡ rules.write (writerMeant w) (rules.transaction (now («type_code» .entry)) (amountGiven amount) (now («bank_reference» .entry)) (now («customer_reference» .entry)) (now (text .entry))) (now (out .entry)) ⌝ }
+{
+    let mut space = drafts::line_space();
+    let d = entries::detail(
+        &mut space,
+        type_code,
+        amount,
+        bank_reference,
+        customer_reference,
+        text,
+    );
+    let sum = drafts::sum_given(amount);
+    closing::finish(w, Code::Detail, &space, d, sum, false, out)
+}
 
-    // The line 49.
-    pub fn end_account(self, out: &mut [u8]) -> Written
-        ensures { λ r. ⌜ writtenMeant r (now (out .exit)) ≡ rules.write (writerMeant self) rules.accountEnd (now (out .entry)) ⌝ }
-    {
-        let account = self.account;
-        let records = account.lines.add(Records(1));
-        let mut space = drafts::line_space();
-        let d = entries::account_end(&mut space, account.sum, records.0);
-        line::finish(
-            self,
-            Code::AccountTrailer,
-            &space,
-            d,
-            Units::none(),
-            false,
-            out,
-        )
-    }
+// The line 49.
+pub fn end_account(w: Writer, out: &mut [u8]) -> Written
+    ensures { λ r. ⌜ writtenMeant r (now (out .exit)) ≡ rules.write (writerMeant w) rules.accountEnd (now (out .entry)) ⌝ }
+{
+    let account = w.account;
+    let records = account.lines.add(Records(1));
+    let mut space = drafts::line_space();
+    let d = entries::account_end(&mut space, account.sum, records.0);
+    closing::finish(
+        w,
+        Code::AccountTrailer,
+        &space,
+        d,
+        Units::none(),
+        false,
+        out,
+    )
+}
 
-    // The line 98.
-    pub fn end_group(self, out: &mut [u8]) -> Written
-        ensures { λ r. ⌜ writtenMeant r (now (out .exit)) ≡ rules.write (writerMeant self) rules.groupEnd (now (out .entry)) ⌝ }
-    {
-        let group = self.group;
-        let records = group.lines.add(Records(1));
-        let mut space = drafts::line_space();
-        let d = entries::trailer(
-            &mut space,
-            Code::GroupTrailer,
-            group.sum,
-            group.accounts,
-            records.0,
-        );
-        line::finish(
-            self,
-            Code::GroupTrailer,
-            &space,
-            d,
-            Units::none(),
-            false,
-            out,
-        )
-    }
+// The line 98.
+pub fn end_group(w: Writer, out: &mut [u8]) -> Written
+    ensures { λ r. ⌜ writtenMeant r (now (out .exit)) ≡ rules.write (writerMeant w) rules.groupEnd (now (out .entry)) ⌝ }
+{
+    let group = w.group;
+    let records = group.lines.add(Records(1));
+    let mut space = drafts::line_space();
+    let d = entries::trailer(
+        &mut space,
+        Code::GroupTrailer,
+        group.sum,
+        group.accounts,
+        records.0,
+    );
+    closing::finish(w, Code::GroupTrailer, &space, d, Units::none(), false, out)
+}
 
-    // The line 99.
-    pub fn end_file(self, out: &mut [u8]) -> Written
-        ensures { λ r. ⌜ writtenMeant r (now (out .exit)) ≡ rules.write (writerMeant self) rules.fileEnd (now (out .entry)) ⌝ }
-    {
-        let file = self.file;
-        let records = file.lines.add(Records(1));
-        let mut space = drafts::line_space();
-        let d = entries::trailer(
-            &mut space,
-            Code::FileTrailer,
-            file.sum,
-            file.groups,
-            records.0,
-        );
-        line::finish(
-            self,
-            Code::FileTrailer,
-            &space,
-            d,
-            Units::none(),
-            false,
-            out,
-        )
-    }
+// The line 99.
+pub fn end_file(w: Writer, out: &mut [u8]) -> Written
+    ensures { λ r. ⌜ writtenMeant r (now (out .exit)) ≡ rules.write (writerMeant w) rules.fileEnd (now (out .entry)) ⌝ }
+{
+    let file = w.file;
+    let records = file.lines.add(Records(1));
+    let mut space = drafts::line_space();
+    let d = entries::trailer(
+        &mut space,
+        Code::FileTrailer,
+        file.sum,
+        file.groups,
+        records.0,
+    );
+    closing::finish(w, Code::FileTrailer, &space, d, Units::none(), false, out)
 }

@@ -11,8 +11,9 @@ use Rattle.rules.specs.Writer as rules
 use Rattle.rules.specs.Writer.{itemFields}
 use Rattle.digits.specs.Kinds.{sumMeant}
 use Rattle.drafts.specs.Drafts.{draftOf}
-use Rattle.writer.specs.States.{writerMeant, itemMeant}
-use Rattle.writer.specs.Closing.{closing}
+use Rattle.turns.specs.States.{writerMeant}
+use Rattle.closing.specs.Closing.{closing}
+use Rattle.writer.specs.Items.{itemMeant}
 use Rattle.writer.proofs.Calls.{account-closes, in-space, answers}
 use Rattle.writer.proofs.open_account.Statement.{statement}
 use Rattle.writer.proofs.open_account.Tie as tie

@@ -2,7 +2,8 @@
 use mathlib.Core.Path.{ap}
 use borrow.Author.Needs.{needs}
 use Rattle.rules.specs.Writer as rules
-use Rattle.writer.specs.States.{writerMeant, writtenMeant, itemMeant}
+use Rattle.turns.specs.States.{writerMeant, writtenMeant}
+use Rattle.writer.specs.Items.{itemMeant}
 use Rattle.bai2.specs.Writing.{itemOf}
 use Rattle.bai2.proofs.Replies.{replies, written-as, amount-is, item-is}
 use Rattle.bai2.proofs.writing.bai2_write_item.Statement.{statement}

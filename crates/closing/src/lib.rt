@@ -1,0 +1,200 @@
+// A line written: what it adds, the room that it needs, the state behind it, and the order of refusals.
+use codes::Code;
+use digits::kinds::Place;
+use digits::kinds::Records;
+use digits::kinds::Units;
+use digits::kinds::UnitsSum;
+use drafts::Draft;
+use turns::Summary;
+use turns::Writer;
+use turns::Written;
+use wants::Taken;
+ghost use mathlib.Core.Path.{_≡_};
+ghost use mathlib.Core.Bool.{true, cond};
+ghost use Prim.Native.Nat.{_+_, _≤_};
+ghost use lib.ListN.{length};
+ghost use Rattle.rules.specs.Numbers.{magnitudes, most, _⊕_};
+ghost use Rattle.rules.specs.Outcome.{numberOf};
+ghost use Rattle.rules.specs.Totals.{noSummary, adding, _⊞_};
+ghost use Rattle.rules.specs.Verdict.{mostBytes};
+ghost use Rattle.rules.specs.Writer.{sound, writtenBy};
+ghost use Rattle.codes.specs.Meanings.{codeMeant};
+ghost use Rattle.digits.specs.Kinds.{sumMeant};
+ghost use Rattle.drafts.specs.Drafts.{draftOf};
+ghost use Rattle.turns.specs.States.{summaryMeant, writerMeant, writtenMeant};
+ghost use Rattle.closing.specs.Answers.{refusedBy, isNext, Small};
+ghost use Rattle.closing.specs.Closing.{stateAfter, sizeFor, roomFor, oneLine, closing};
+
+// 10, 18 or 15 where a line of n bytes that adds this sum has no room; 0 where it has.
+fn room_number(w: Writer, sum: Units, n: usize, room: usize) -> u64
+    ensures { λ r. ⌜ r ≡ numberOf (roomFor (writerMeant w) (sumMeant sum) n room) ⌝ }
+{
+    let size = w.size;
+    let f = w.file;
+    let total = f.sum;
+    match total.join(sum) {
+        UnitsSum::Beyond => 10,
+        UnitsSum::Within(_) => size_number(size.0, n, room),
+    }
+}
+
+// 18 or 15 where n bytes more don't fit the file or the slice; 0 where they do.
+fn size_number(size: usize, n: usize, room: usize) -> u64
+    ensures { λ r. ⌜ r ≡ numberOf (sizeFor size n room) ⌝ }
+{
+    if turns::MOST_BYTES < size {
+        return 18;
+    }
+    if turns::MOST_BYTES - size < n {
+        return 18;
+    }
+    if room < size + n {
+        return 15;
+    }
+    0
+}
+
+// Counts and a sum of one line.
+fn line_of(sum: Units, groups: u64, accounts: u64, details: u64) -> Summary
+    ensures { λ r. ⌜ summaryMeant r ≡ oneLine (sumMeant sum) groups accounts details ⌝ }
+{
+    Summary {
+        sum,
+        groups,
+        accounts,
+        details,
+        lines: Records(1),
+    }
+}
+
+// What a line of this code adds, with this sum.
+fn line_summary(code: Code, sum: Units) -> Summary
+    ensures { λ r. ⌜ summaryMeant r ≡ adding (codeMeant code) (sumMeant sum) 1 ⌝ }
+{
+    match code {
+        Code::FileHeader => line_of(sum, 0, 0, 0),
+        Code::GroupHeader => line_of(sum, 1, 0, 0),
+        Code::AccountHeader => line_of(sum, 0, 1, 0),
+        Code::Detail => line_of(sum, 0, 0, 1),
+        Code::AccountTrailer => line_of(sum, 0, 0, 0),
+        Code::GroupTrailer => line_of(sum, 0, 0, 0),
+        Code::FileTrailer => line_of(sum, 0, 0, 0),
+        Code::Continuation => line_of(sum, 0, 0, 0),
+    }
+}
+
+// Two sums in one.
+fn joined_sum(a: Units, b: Units) -> Units
+    requires { ⌜ (magnitudes (sumMeant a) ≤ most) × (magnitudes (sumMeant b) ≤ most) ⌝ }
+    ensures { λ r. ⌜ sumMeant r ≡ sumMeant a ⊕ sumMeant b ⌝ }
+{
+    Units(a.0 + b.0, a.1 + b.1)
+}
+
+// Two summaries in one.
+fn joined(a: Summary, b: Summary) -> Summary
+    requires { ⌜ Small a × Small b ⌝ }
+    ensures { λ r. ⌜ summaryMeant r ≡ summaryMeant a ⊞ summaryMeant b ⌝ }
+{
+    let m = a.lines;
+    let n = b.lines;
+    Summary {
+        sum: joined_sum(a.sum, b.sum),
+        groups: a.groups + b.groups,
+        accounts: a.accounts + b.accounts,
+        details: a.details + b.details,
+        lines: Records(m.0 + n.0),
+    }
+}
+
+// Two summaries in one where something is open; else none.
+fn joined_if(is_open: bool, a: Summary, b: Summary) -> Summary
+    requires { ⌜ Small a × Small b ⌝ }
+    ensures { λ r. ⌜ summaryMeant r ≡ cond is_open (summaryMeant a ⊞ summaryMeant b) noSummary ⌝ }
+{
+    if is_open {
+        return joined(a, b);
+    }
+    turns::no_summary()
+}
+
+// The state behind a line of n bytes that has room.
+fn after_line(w: Writer, code: Code, sum: Units, items: bool, n: usize) -> Writer
+    requires { ⌜ (sound (writerMeant w) ≡ true) × (magnitudes (sumMeant sum) ≤ most) × (w .size .0 + n ≤ mostBytes) ⌝ }
+    ensures { λ r. ⌜ writerMeant r ≡ stateAfter (writerMeant w) (codeMeant code) (sumMeant sum) items n ⌝ }
+{
+    let size = w.size;
+    let phase = turns::phase_after(code);
+    let p = turns::phase_number(phase);
+    let this = line_summary(code, sum);
+    Writer {
+        phase,
+        items,
+        size: Place(size.0 + n),
+        file: joined(w.file, this),
+        group: joined_if(turns::is_between(p, 2, 4), w.group, this),
+        account: joined_if(p == 4, w.account, this),
+    }
+}
+
+// A refusal: the state stays, and there is no length.
+fn refused(w: Writer, number: u64) -> Written
+    ensures { λ r. ⌜ r ≡ refusedBy w number ⌝ }
+{
+    Written {
+        number,
+        place: Place(0),
+        length: 0,
+        writer: w,
+    }
+}
+
+// A field was good.
+fn is_next(taken: Taken) -> bool
+    ensures { λ r. ⌜ r ≡ isNext taken ⌝ }
+{
+    match taken {
+        Taken::Next(_) => true,
+        Taken::Refused(_) => false,
+    }
+}
+
+// The drafted line at the end of what stands, with its line end; or the first refusal of 19, 20, 10, 18, 15, and nothing changed.
+pub fn finish(
+    w: Writer,
+    code: Code,
+    line: &[u8],
+    d: Draft,
+    sum: Units,
+    items: bool,
+    out: &mut [u8],
+) -> Written
+    ensures { λ r. ⌜ writtenMeant r (now (out .exit)) ≡ writtenBy (writerMeant w) (closing (writerMeant w) (codeMeant code) (draftOf (now (line .entry)) d) (sumMeant sum) items (length (now (out .entry)))) (now (out .entry)) ⌝ }
+{
+    let size = w.size;
+    let phase = w.phase;
+    let taken = d.taken;
+    if !turns::is_sound(w) {
+        return refused(w, 19);
+    }
+    if !turns::in_turn(code, phase, w.items) {
+        return refused(w, 19);
+    }
+    if !is_next(taken) {
+        return refused(w, 20);
+    }
+    let body = drafts::front(line, d.len);
+    let n = body.len() + 1;
+    let number = room_number(w, sum, n, out.len());
+    if number != 0 {
+        return refused(w, number);
+    }
+    drafts::put(out, size.0, body);
+    out[size.0 + body.len()] = b'\n';
+    Written {
+        number: 0,
+        place: Place(0),
+        length: size.0 + n,
+        writer: after_line(w, code, sum, items, n),
+    }
+}

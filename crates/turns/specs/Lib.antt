@@ -1,0 +1,2 @@
+-- The code's states in the rules' terms.
+pub mod States

@@ -1,0 +1,46 @@
+-- The states and answers of src/ as those of the rules, and numbers for phases. Assumes nothing.
+use Prim.Native.Nat.{ℕ}
+use Rattle.rules.specs.Bytes.{Bytes}
+use Rattle.rules.specs.Totals as totals
+use Rattle.rules.specs.Writer as rules
+use Rattle.digits.specs.Kinds.{sumMeant}
+use Rattle.turns.specs.declared.Summary.{Summary}
+use Rattle.turns.specs.declared.Phase.{Phase}
+use Rattle.turns.specs.declared.Phase.the-variants as phases
+use Rattle.turns.specs.declared.Writer.{Writer}
+use Rattle.turns.specs.declared.Written.{Written}
+
+abbrev pub summaryMeant : Summary → totals.Summary
+summaryMeant s = record { sum = sumMeant (s .sum); groups = s .groups; accounts = s .accounts; details = s .details; lines = s .lines .0 }
+
+abbrev pub phaseMeant : Phase → rules.Phase
+phaseMeant phases.Fresh = rules.fresh
+phaseMeant phases.BetweenGroups = rules.betweenGroups
+phaseMeant phases.InGroup = rules.inGroup
+phaseMeant phases.BetweenAccounts = rules.betweenAccounts
+phaseMeant phases.InAccount = rules.inAccount
+phaseMeant phases.Finished = rules.finished
+
+abbrev pub writerMeant : Writer → rules.Writer
+writerMeant w =
+    record {
+      phase = phaseMeant (w .phase);
+      items = w .items;
+      size = w .size .0;
+      file = summaryMeant (w .file);
+      group = summaryMeant (w .group);
+      account = summaryMeant (w .account);
+    }
+
+-- an answer with the output slice as it is then
+abbrev pub writtenMeant : Written → Bytes → rules.Written
+writtenMeant r out = record { number = r .number; place = r .place .0; len = r .length; writer = writerMeant (r .writer); output = out }
+
+-- a number for each phase
+abbrev pub phaseNumber : rules.Phase → ℕ
+phaseNumber rules.fresh = 0
+phaseNumber rules.betweenGroups = 1
+phaseNumber rules.inGroup = 2
+phaseNumber rules.betweenAccounts = 3
+phaseNumber rules.inAccount = 4
+phaseNumber rules.finished = 5
