@@ -5,7 +5,7 @@ use mathlib.Core.Bool.{Bool, true, false}
 use Rattle.rules.specs.Answers as rules
 use Rattle.parts.specs.declared.DetailAnswer.{DetailAnswer}
 use Rattle.parts.specs.Meanings.{oneIf, detailMeant}
-use Rattle.bai2.specs.Writing.{flag}
+use Rattle.figures.specs.Figures.{flag}
 
 same-flag : (b : Bool) → flag b ≡ oneIf b
 same-flag true = refl

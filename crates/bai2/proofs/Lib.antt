@@ -2,7 +2,5 @@
 pub mod Signs
 pub mod Reading
 pub mod Details
-pub mod Magnitudes
 pub mod Replies
-pub mod WriterStates
 pub mod OneAnswer

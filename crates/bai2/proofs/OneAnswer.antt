@@ -44,10 +44,10 @@ use Rattle.bai2.specs.declared.SplitAnswer.{SplitAnswer}
 use Rattle.bai2.specs.declared.CombineAnswer.{CombineAnswer}
 use Rattle.bai2.specs.declared.cutting.PartAnswer.{PartAnswer}
 use Rattle.bai2.specs.declared.cutting.DetailFigures.{DetailFigures}
-use Rattle.bai2.specs.declared.writing.WriterState.{WriterState}
-use Rattle.bai2.specs.declared.writing.WriteAnswer.{WriteAnswer}
+use Rattle.figures.specs.declared.WriterState.{WriterState}
+use Rattle.figures.specs.declared.WriteAnswer.{WriteAnswer}
 use Rattle.bai2.specs.Answers.{readMeant, splitMeant, combineMeant, partMeant, detailMeant}
-use Rattle.bai2.specs.Writing.{numbersOf, Reply, replied, replyTo}
+use Rattle.figures.specs.Figures.{numbersOf, Reply, replied, replyTo}
 
 -- ---- reading
 

@@ -1,14 +1,14 @@
 -- The reader's verdict in figures. Assumes nothing.
 use Prim.Native.Nat.{ℕ, _+_, _≤_}
-use mathlib.Core.Path.{_≡_, refl, sym, ap, _∙_}
+use mathlib.Core.Path.{_≡_, sym, ap, _∙_}
 use lib.IntN.{ℤ, pos}
 use mir.Syntax.{w64}
 use mir.Val.{toZ, ofZ}
 use Rattle.rules.specs.Bytes.{Bytes}
-use Rattle.rules.specs.Outcome.{refused, fine}
+use Rattle.rules.specs.Outcome.{fine}
 use Rattle.rules.specs.Numbers.{asInteger, most}
 use Rattle.rules.specs.Verdict.{judge}
-use Rattle.rules.specs.Answers.{ReadAnswer, readAnswer, read}
+use Rattle.rules.specs.Answers.{readAnswer, read}
 use Rattle.laws.proofs.FileTheorems.{magnitudes-bounded}
 use Rattle.digits.specs.Kinds.{sumMeant}
 use Rattle.digits.specs.declared.kinds.Place.{Place}

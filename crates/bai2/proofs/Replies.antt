@@ -20,9 +20,9 @@ use Rattle.turns.specs.States.{writerMeant, writtenMeant}
 use Rattle.turns.specs.declared.Writer.{Writer}
 use Rattle.turns.specs.declared.Written.{Written}
 use Rattle.writer.specs.Items.{itemMeant, itemGiven}
-use Rattle.bai2.specs.Writing.{stateOf, numbersBehind, answerOf, replied, replyTo, orNone, amountAsked, countAsked, itemOf, itemAsked}
-use Rattle.bai2.specs.declared.writing.WriterState.{WriterState}
-use Rattle.bai2.specs.declared.writing.WriteAnswer.{WriteAnswer}
+use Rattle.figures.specs.Figures.{stateOf, numbersBehind, answerOf, replied, replyTo, orNone, amountAsked, countAsked, itemOf, itemAsked}
+use Rattle.figures.specs.declared.WriterState.{WriterState}
+use Rattle.figures.specs.declared.WriteAnswer.{WriteAnswer}
 
 -- the reply, from what the state, the writer's call and the answer promise
 pub replies : (w : WriterState) (s : Writer) (r : Written) (a : WriteAnswer) (call : Call) (before out : Bytes)

@@ -1,5 +1,4 @@
 // The calls for C that cut a part out of a file: where it stands, counted from the file's first byte.
-use crate::writing;
 use parts::Part;
 ghost use mathlib.Core.Path.{_≡_};
 ghost use Rattle.rules.specs.Answers.{groupPart, accountPart, detailOfFile};
@@ -72,7 +71,7 @@ pub extern "C" fn bai2_detail_of(
         number: d.number,
         place: place.0 as u64,
         type_code: d.type_code,
-        amount_given: writing::flag_of(d.amount_given),
+        amount_given: figures::flag_of(d.amount_given),
         amount: d.amount,
         text_start: d.text_start as u64,
         text_length: d.text_length as u64,

@@ -1,5 +1,4 @@
 // The calls for C: numbers and byte slices in, numbers out. include/bai2.h declares them.
-use digits::kinds::Place;
 use digits::kinds::Units;
 use reader::Verdict;
 ghost use mathlib.Core.Path.{_≡_};

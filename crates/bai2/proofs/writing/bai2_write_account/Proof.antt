@@ -7,7 +7,7 @@ use lib.Dec.{eqb}
 use Rattle.rules.specs.Writer as rules
 use Rattle.turns.specs.States.{writerMeant, writtenMeant}
 use Rattle.writer.specs.Items.{itemGiven}
-use Rattle.bai2.specs.Writing.{itemOf, itemAsked}
+use Rattle.figures.specs.Figures.{itemOf, itemAsked}
 use Rattle.bai2.proofs.Replies.{replies, written-as, amount-is, item-or-none}
 use Rattle.bai2.proofs.writing.bai2_write_account.Statement.{statement}
 use Rattle.bai2.proofs.writing.bai2_write_account.Tie as tie

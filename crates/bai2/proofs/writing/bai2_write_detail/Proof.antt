@@ -6,7 +6,7 @@ use Rattle.rules.specs.Numbers.{Signed}
 use Rattle.rules.specs.Writer as rules
 use Rattle.drafts.specs.Drafts.{amountGiven}
 use Rattle.turns.specs.States.{writerMeant, writtenMeant}
-use Rattle.bai2.specs.Writing.{amountAsked}
+use Rattle.figures.specs.Figures.{amountAsked}
 use Rattle.bai2.proofs.Replies.{replies, written-as, amount-is}
 use Rattle.bai2.proofs.writing.bai2_write_detail.Statement.{statement}
 use Rattle.bai2.proofs.writing.bai2_write_detail.Tie as tie

@@ -6,9 +6,9 @@ use borrow.Author.Tests.{ne-eqb}
 use mir.Syntax.{w64}
 use mir.ValLaws.{toZ-ofZ}
 use Rattle.rules.specs.Numbers.{Signed}
-use Rattle.bai2.specs.Writing.{orNone, signedOf}
-use Rattle.bai2.proofs.writing.amount_asked.Statement.{statement}
-use Rattle.bai2.proofs.writing.amount_asked.Tie as tie
+use Rattle.figures.specs.Figures.{orNone, signedOf}
+use Rattle.figures.proofs.amount_asked.Statement.{statement}
+use Rattle.figures.proofs.amount_asked.Tie as tie
 
 returns : tie.Need-returns
 unfolding orNone

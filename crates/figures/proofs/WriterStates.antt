@@ -9,8 +9,8 @@ use Rattle.rules.specs.Bytes.{Bytes}
 use Rattle.rules.specs.Outcome.{Outcome, refused, fine}
 use Rattle.rules.specs.Writer.{Call, Phase, fresh, betweenGroups, inGroup, inAccount, betweenAccounts, finished, Writer, sound, given, Entry, writeLine, writtenBy, write}
 use Rattle.readback.specs.Words.{Session, called, calledAll}
-use Rattle.bai2.specs.Writing.{phaseFigure, phaseOf, flag, numbersOf, known, sizeOf, stateOf, numbersBehind, replied, replyTo, asked, askedAll, inNumbers}
-use Rattle.bai2.specs.declared.writing.WriterState.{WriterState}
+use Rattle.figures.specs.Figures.{phaseFigure, phaseOf, flag, numbersOf, known, sizeOf, stateOf, numbersBehind, replied, replyTo, asked, askedAll, inNumbers}
+use Rattle.figures.specs.declared.WriterState.{WriterState}
 
 -- ---- a state is its numbers
 

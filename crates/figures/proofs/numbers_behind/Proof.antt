@@ -1,9 +1,9 @@
 -- `numbers_behind` meets its contract: by whether the call was refused. Assumes nothing.
 use borrow.Author.Needs.{needs}
 use borrow.Author.Tests.{ne-eqb}
-use Rattle.bai2.specs.Writing.{numbersBehind}
-use Rattle.bai2.proofs.writing.numbers_behind.Statement.{statement}
-use Rattle.bai2.proofs.writing.numbers_behind.Tie as tie
+use Rattle.figures.specs.Figures.{numbersBehind}
+use Rattle.figures.proofs.numbers_behind.Statement.{statement}
+use Rattle.figures.proofs.numbers_behind.Tie as tie
 
 returns : tie.Need-returns
 unfolding numbersBehind

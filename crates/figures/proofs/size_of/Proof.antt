@@ -1,9 +1,9 @@
 -- `size_of` meets its contract: by the tests of phase and items. Assumes nothing.
 use borrow.Author.Needs.{needs}
 use borrow.Author.Tests.{le-leb, lt-leb}
-use Rattle.bai2.specs.Writing.{known, sizeOf}
-use Rattle.bai2.proofs.writing.size_of.Statement.{statement}
-use Rattle.bai2.proofs.writing.size_of.Tie as tie
+use Rattle.figures.specs.Figures.{known, sizeOf}
+use Rattle.figures.proofs.size_of.Statement.{statement}
+use Rattle.figures.proofs.size_of.Tie as tie
 
 returns : tie.Need-returns
 unfolding sizeOf known

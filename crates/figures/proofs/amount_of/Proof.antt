@@ -1,7 +1,7 @@
 -- `amount_of` meets its contract: a minus by one more than -1 less the number, a plus as it stands. Assumes nothing.
-use Rattle.bai2.proofs.Magnitudes.{less-fits, less-cast, one-more-fits, minus-meant, plus-cast, plus-meant}
-use Rattle.bai2.proofs.writing.amount_of.Statement.{statement}
-use Rattle.bai2.proofs.writing.amount_of.Tie as tie
+use Rattle.figures.proofs.Magnitudes.{less-fits, less-cast, one-more-fits, minus-meant, plus-cast, plus-meant}
+use Rattle.figures.proofs.amount_of.Statement.{statement}
+use Rattle.figures.proofs.amount_of.Tie as tie
 
 sub-t3 : tie.Need-sub-t3
 sub-t3 c = less-fits (c .before .args .n) (c .before .fits .n) (c .if1 .taken)

@@ -1,8 +1,8 @@
 -- `state_of` meets its contract: number by number. Assumes nothing.
 use borrow.Author.Needs.{needs}
-use Rattle.bai2.specs.Writing.{stateOf}
-use Rattle.bai2.proofs.writing.state_of.Statement.{statement}
-use Rattle.bai2.proofs.writing.state_of.Tie as tie
+use Rattle.figures.specs.Figures.{stateOf}
+use Rattle.figures.proofs.state_of.Statement.{statement}
+use Rattle.figures.proofs.state_of.Tie as tie
 
 returns : tie.Need-returns
 unfolding stateOf

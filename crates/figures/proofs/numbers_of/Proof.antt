@@ -1,7 +1,7 @@
 -- `numbers_of` meets its contract: number by number. Assumes nothing.
 use borrow.Author.Needs.{needs}
-use Rattle.bai2.proofs.writing.numbers_of.Statement.{statement}
-use Rattle.bai2.proofs.writing.numbers_of.Tie as tie
+use Rattle.figures.proofs.numbers_of.Statement.{statement}
+use Rattle.figures.proofs.numbers_of.Tie as tie
 
 returns : tie.Need-returns
 returns c =

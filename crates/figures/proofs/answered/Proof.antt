@@ -1,7 +1,7 @@
 -- `answered` meets its contract: figure by figure. Assumes nothing.
 use borrow.Author.Needs.{needs}
-use Rattle.bai2.proofs.writing.answered.Statement.{statement}
-use Rattle.bai2.proofs.writing.answered.Tie as tie
+use Rattle.figures.proofs.answered.Statement.{statement}
+use Rattle.figures.proofs.answered.Tie as tie
 
 returns : tie.Need-returns
 returns c = rw (c .numbers-behind .ensures)

@@ -11,7 +11,7 @@ use mir.Syntax.{w64}
 use mir.Val.{Fits, SFits, toZ, ofZ}
 use mir.ValLaws.{toZ-pos, toZ-ofZ}
 use Rattle.digits.specs.Reading.{amountMeant}
-use Rattle.bai2.specs.Writing.{signedOf}
+use Rattle.figures.specs.Figures.{signedOf}
 
 -- a number below 0 is a minus, any other a plus
 is-minus : (n : ℤ) → ltZ n (pos 0) ≡ true → n ≡ negsuc (mag n)

@@ -1,8 +1,8 @@
 -- `phase_of` meets its contract: a phase for each number. Assumes nothing.
 use borrow.Author.Tests.{ne-eqb}
-use Rattle.bai2.specs.Writing.{phaseOf}
-use Rattle.bai2.proofs.writing.phase_of.Statement.{statement}
-use Rattle.bai2.proofs.writing.phase_of.Tie as tie
+use Rattle.figures.specs.Figures.{phaseOf}
+use Rattle.figures.proofs.phase_of.Statement.{statement}
+use Rattle.figures.proofs.phase_of.Tie as tie
 
 returns : tie.Need-returns
 unfolding phaseOf

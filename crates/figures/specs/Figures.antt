@@ -11,9 +11,9 @@ use Rattle.rules.specs.Totals.{Summary}
 use Rattle.rules.specs.Verdict.{mostBytes}
 use Rattle.rules.specs.Writer.{Item, Call, Phase, fresh, betweenGroups, inGroup, inAccount, betweenAccounts, finished, Writer, Written, write}
 use Rattle.readback.specs.Words.{Session}
-use Rattle.bai2.specs.declared.writing.Figures.{Figures}
-use Rattle.bai2.specs.declared.writing.WriterState.{WriterState}
-use Rattle.bai2.specs.declared.writing.WriteAnswer.{WriteAnswer}
+use Rattle.figures.specs.declared.Figures.{Figures}
+use Rattle.figures.specs.declared.WriterState.{WriterState}
+use Rattle.figures.specs.declared.WriteAnswer.{WriteAnswer}
 
 -- ---- the state and its numbers
 

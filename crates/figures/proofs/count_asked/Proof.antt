@@ -1,8 +1,8 @@
 -- `count_asked` meets its contract: none where the number that says so is 0. Assumes nothing.
 use borrow.Author.Tests.{ne-eqb}
-use Rattle.bai2.specs.Writing.{orNone}
-use Rattle.bai2.proofs.writing.count_asked.Statement.{statement}
-use Rattle.bai2.proofs.writing.count_asked.Tie as tie
+use Rattle.figures.specs.Figures.{orNone}
+use Rattle.figures.proofs.count_asked.Statement.{statement}
+use Rattle.figures.proofs.count_asked.Tie as tie
 
 returns : tie.Need-returns
 unfolding orNone
