@@ -16,7 +16,7 @@ use Rattle.rules.specs.Split.{split}
 use Rattle.rules.specs.Writer as writing
 use Rattle.laws.specs.Words.{Left}
 use Rattle.laws.proofs.OneAnswer.{one-answer}
-use Rattle.digits.specs.Kinds.{unitsOf}
+use Rattle.kinds.specs.Kinds.{unitsOf}
 use Rattle.controls.specs.declared.Summary.{Summary}
 use Rattle.reader.specs.declared.Verdict.{Verdict}
 use Rattle.reader.specs.declared.Verdict.the-variants.{Accepted, Refused}

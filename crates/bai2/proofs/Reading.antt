@@ -10,8 +10,8 @@ use Rattle.rules.specs.Numbers.{asInteger, most}
 use Rattle.rules.specs.Verdict.{judge}
 use Rattle.rules.specs.Answers.{readAnswer, read}
 use Rattle.laws.proofs.FileTheorems.{magnitudes-bounded}
-use Rattle.digits.specs.Kinds.{sumMeant}
-use Rattle.digits.specs.declared.kinds.Place.{Place}
+use Rattle.kinds.specs.Kinds.{sumMeant}
+use Rattle.kinds.specs.declared.Place.{Place}
 use Rattle.controls.specs.Controls.{summaryMeant}
 use Rattle.reader.specs.Meanings.{verdictMeant}
 use Rattle.controls.specs.declared.Summary.{Summary}

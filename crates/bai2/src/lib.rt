@@ -1,11 +1,11 @@
 // The calls for C: numbers and byte slices in, numbers out. include/bai2.h declares them.
-use digits::kinds::Units;
+use kinds::Units;
 use reader::Verdict;
 ghost use mathlib.Core.Path.{_≡_};
 ghost use Prim.Native.Nat.{_+_, _≤_};
 ghost use Rattle.rules.specs.Numbers.{asInteger, most};
 ghost use Rattle.rules.specs.Answers.{read};
-ghost use Rattle.digits.specs.Kinds.{sumMeant};
+ghost use Rattle.kinds.specs.Kinds.{sumMeant};
 ghost use Rattle.rules.specs.Split.{split};
 ghost use Rattle.rules.specs.Combine.{combine};
 ghost use Rattle.bai2.specs.Answers.{readMeant, splitMeant, combineMeant};

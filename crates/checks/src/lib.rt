@@ -1,7 +1,7 @@
 // Refusals 3, 4 and 5: each line of a record in file order.
 use codes::Code;
-use digits::kinds::Place;
-use digits::kinds::Records;
+use kinds::Place;
+use kinds::Records;
 use lines::Coded;
 ghost use mathlib.Core.Path.{_≡_};
 ghost use Prim.Native.Nat.{_<_};

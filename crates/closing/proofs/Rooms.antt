@@ -6,10 +6,10 @@ use Rattle.rules.specs.Numbers.{Sum, _⊕_, magnitudes, most}
 use Rattle.rules.specs.Outcome.{numberOf}
 use Rattle.rules.specs.Verdict.{mostBytes}
 use Rattle.rules.specs.Writer.{Writer}
-use Rattle.digits.specs.Kinds.{unitsWithin}
-use Rattle.digits.specs.declared.kinds.Units.{Units}
-use Rattle.digits.specs.declared.kinds.UnitsSum.the-variants.{Within, Beyond}
-use Rattle.digits.proofs.Sums.{beyond-most, within-most}
+use Rattle.kinds.specs.Kinds.{unitsWithin}
+use Rattle.kinds.specs.declared.Units.{Units}
+use Rattle.kinds.specs.declared.UnitsSum.the-variants.{Within, Beyond}
+use Rattle.kinds.proofs.Sums.{beyond-most, within-most}
 use Rattle.closing.specs.Closing.{sizeFor, roomFor}
 
 -- ---- 18 and 15

@@ -12,7 +12,7 @@ use Rattle.rules.specs.Totals as totals
 use Rattle.rules.specs.Totals.{noSummary, _⊞_, adding}
 use Rattle.rules.specs.Writer as rules
 use Rattle.rules.specs.Writer.{sound, phaseAfter}
-use Rattle.digits.specs.Kinds.{sumMeant}
+use Rattle.kinds.specs.Kinds.{sumMeant}
 use Rattle.readback.proofs.Sound.{Counted, Sound, sound-says, one-few}
 use Rattle.turns.specs.States.{summaryMeant, writerMeant, phaseNumber}
 use Rattle.turns.specs.declared.Summary.{Summary}

@@ -2,7 +2,7 @@
 use Prim.Native.Nat.{ℕ, _≤_}
 use mathlib.Core.Bool.{Bool, true, false}
 use Rattle.rules.specs.Numbers.{magnitudes, most}
-use Rattle.digits.specs.Kinds.{sumMeant}
+use Rattle.kinds.specs.Kinds.{sumMeant}
 use Rattle.wants.specs.declared.Taken.{Taken}
 use Rattle.wants.specs.declared.Taken.the-variants.{Next, Refused}
 use Rattle.turns.specs.declared.Summary.{Summary}

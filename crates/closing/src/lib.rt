@@ -1,10 +1,10 @@
 // A line written: what it adds, the room that it needs, the state behind it, and the order of refusals.
 use codes::Code;
-use digits::kinds::Place;
-use digits::kinds::Records;
-use digits::kinds::Units;
-use digits::kinds::UnitsSum;
 use drafts::Draft;
+use kinds::Place;
+use kinds::Records;
+use kinds::Units;
+use kinds::UnitsSum;
 use turns::Summary;
 use turns::Writer;
 use turns::Written;
@@ -19,7 +19,7 @@ ghost use Rattle.rules.specs.Totals.{noSummary, adding, _⊞_};
 ghost use Rattle.rules.specs.Verdict.{mostBytes};
 ghost use Rattle.rules.specs.Writer.{sound, writtenBy};
 ghost use Rattle.codes.specs.Meanings.{codeMeant};
-ghost use Rattle.digits.specs.Kinds.{sumMeant};
+ghost use Rattle.kinds.specs.Kinds.{sumMeant};
 ghost use Rattle.drafts.specs.Drafts.{draftOf};
 ghost use Rattle.turns.specs.States.{summaryMeant, writerMeant, writtenMeant};
 ghost use Rattle.closing.specs.Answers.{refusedBy, isNext, Small};

@@ -1,9 +1,9 @@
 // Two files combined: A's header and groups, then B's groups, then a fresh 99; measured first, then written.
 use checks::Checked;
-use digits::kinds::Place;
-use digits::kinds::Records;
-use digits::kinds::Units;
-use digits::kinds::UnitsSum;
+use kinds::Place;
+use kinds::Records;
+use kinds::Units;
+use kinds::UnitsSum;
 use reader::GoodFile;
 use reader::Judged;
 use reader::MOST_BYTES;
@@ -19,8 +19,8 @@ ghost use Rattle.rules.specs.Verdict.{mostBytes};
 ghost use Rattle.rules.specs.Outcome.{refused};
 ghost use Rattle.rules.specs.Combine.{answered, linesWithin};
 ghost use Rattle.rules.specs.Combine as rules;
-ghost use Rattle.digits.specs.Kinds.{sumMeant};
-ghost use Rattle.digits.specs.Put.{Put};
+ghost use Rattle.kinds.specs.Kinds.{sumMeant};
+ghost use Rattle.numerals.specs.Put.{Put};
 ghost use Rattle.lines.specs.Cut.{firstRecord};
 ghost use Rattle.controls.specs.Controls.{summaryMeant};
 ghost use Rattle.reader.specs.Answers.{IsGood};

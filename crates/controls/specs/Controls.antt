@@ -5,7 +5,7 @@ use Rattle.rules.specs.Outcome.{Outcome, fine, _>>_, check}
 use Rattle.rules.specs.Numbers.{asSum, equals, withinMost}
 use Rattle.rules.specs.Lines.{Code, fileHeader, groupHeader, accountHeader, detail, accountTrailer, groupTrailer, fileTrailer, continuation}
 use Rattle.rules.specs.Totals as totals
-use Rattle.digits.specs.Kinds.{sumMeant}
+use Rattle.kinds.specs.Kinds.{sumMeant}
 use Rattle.kept.specs.declared.Kept.{Kept}
 use Rattle.controls.specs.declared.Summary.{Summary}
 

@@ -1,16 +1,16 @@
 // What a trailer is held to: the summary of what it encloses, what each record adds to it, and refusals 14, 11, 12 and 13.
 use checks::Checked;
 use codes::Code;
-use digits::kinds::MOST;
-use digits::kinds::Records;
-use digits::kinds::Units;
 use kept::Kept;
+use kinds::MOST;
+use kinds::Records;
+use kinds::Units;
 ghost use mathlib.Core.Path.{_≡_};
 ghost use mathlib.Core.Bool.{cond};
 ghost use Rattle.rules.specs.Totals.{noSummary};
 ghost use Rattle.rules.specs.Totals as totals;
 ghost use Rattle.codes.specs.Meanings.{codeMeant};
-ghost use Rattle.digits.specs.Kinds.{sumMeant};
+ghost use Rattle.kinds.specs.Kinds.{sumMeant};
 ghost use Rattle.checks.specs.Answers.{checkedOf};
 ghost use Rattle.controls.specs.Controls.{nothingYet, summaryMeant, withinK, totalK, countK, recordsK, trailerK, accountK, balancedK};
 

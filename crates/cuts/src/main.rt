@@ -1,5 +1,5 @@
 // Splits, combinations and parts of the files in data/: each call with its answer in figures, and below it the bytes that it gave.
-use digits::kinds::Place;
+use kinds::Place;
 use libc::STDOUT_FILENO;
 ghost use Rattle.io.specs.Counts.{Counts};
 

@@ -4,5 +4,3 @@ pub mod DigitStrings
 pub mod Reading
 pub mod Signs
 pub mod Totals
-pub mod Putting
-pub mod Sums

@@ -8,7 +8,7 @@ use mathlib.Core.Bool.{Bool, true, false}
 use lib.Dec.{leb, ltb}
 use borrow.Author.Tests.{lt-ltb, le-ltb, ltb-true, ltb-false, leb-true, eq-eqb, eqb-true}
 use Rattle.rules.specs.Bytes.{minus, startsWith}
-use Rattle.rules.specs.Numbers.{number, digits, decimal, withoutSign, Signed, signed, Sum, asSum, equals, most, withinMost, totalBytes}
+use Rattle.rules.specs.Numbers.{number, decimal, withoutSign, Signed, signed, Sum, asSum, equals, most, withinMost, totalBytes}
 use Rattle.rules.specs.Grammar.{isSigned}
 use Rattle.digits.proofs.Tests.{below-or-from, and-left, and-right}
 use Rattle.digits.proofs.DigitStrings.{decimal-digits, decimal-fits, number-decimal}

@@ -1,4 +1,2 @@
 -- What the code's structs and answers mean in the rules' terms.
-pub mod Kinds
 pub mod Reading
-pub mod Put

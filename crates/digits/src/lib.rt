@@ -1,13 +1,10 @@
-// Numbers in fields. This file reads them; `writing` writes them; `kinds` keeps sums, counts and places apart.
+// Numbers in fields, read: digits, signs and amounts.
 ghost use mathlib.Core.Path.{_≡_};
 ghost use Prim.Native.Nat.{_≤_};
 ghost use Rattle.rules.specs.Bytes.{all, between, minus, startsWith};
 ghost use Rattle.rules.specs.Numbers.{digits, most, withoutSign};
 ghost use Rattle.rules.specs.Grammar.{isSigned, isUnsigned};
 ghost use Rattle.digits.specs.Reading.{valueOf, amountMeant, amountIn};
-
-pub mod kinds;
-pub mod writing;
 
 // An amount or total has no more digits.
 const MOST_DIGITS: usize = 18;

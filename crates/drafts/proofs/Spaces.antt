@@ -11,16 +11,15 @@ use lib.ListN.{length, take, drop, getD, set, length-append}
 use lib.Seq.{length-take-le, take-all, take-length, paste, paste-suc, set-split, take-append-seam}
 use borrow.Author.Tests.{le-leb, lt-leb, leb-true}
 use Rattle.rules.specs.Bytes.{Bytes, slash, isEmpty, clean}
-use Rattle.rules.specs.Outcome.{refused}
 use Rattle.rules.specs.Lines.{Code, codeBytes}
 use Rattle.rules.specs.Grammar.{Kind, takeNext}
 use Rattle.rules.specs.Writer.{placed, goodText}
 use Rattle.rules.specs.Numbers.{Sum, decimal, totalBytes}
-use Rattle.digits.specs.Put.{Put}
+use Rattle.numerals.specs.Put.{Put}
 use Rattle.digits.proofs.Tests.{below-or-from, and-left}
 use Rattle.digits.proofs.DigitStrings.{decimal-at-most}
 use Rattle.digits.proofs.Totals.{total-below-zero, total-from-zero}
-use Rattle.digits.proofs.Putting.{put-count, put-bytes}
+use Rattle.numerals.proofs.Putting.{put-count, put-bytes}
 use Rattle.readback.proofs.Numbers.{not-empty}
 use Rattle.readback.proofs.Lines.{code-bytes}
 use Rattle.readback.proofs.Placing.{placed-front, placed-more}

@@ -1,8 +1,7 @@
 // A line in the making: it stands in a space of its own until the call that writes it is accepted.
 use codes::Code;
 use digits::Amount;
-use digits::kinds::Units;
-use digits::writing;
+use kinds::Units;
 use wants::Taken;
 use wants::want::Want;
 ghost use mathlib.Core.Path.{_≡_};
@@ -16,7 +15,7 @@ ghost use Rattle.rules.specs.Numbers.{asSum, decimal, totalBytes};
 ghost use Rattle.rules.specs.Lines.{codeBytes};
 ghost use Rattle.rules.specs.Writer.{placed, goodText, sumGiven, amountBytes, countBytes};
 ghost use Rattle.codes.specs.Meanings.{codeMeant};
-ghost use Rattle.digits.specs.Kinds.{sumMeant};
+ghost use Rattle.kinds.specs.Kinds.{sumMeant};
 ghost use Rattle.digits.specs.Reading.{amountMeant};
 ghost use Rattle.wants.specs.Wants.{wantedOf};
 ghost use Rattle.drafts.specs.Drafts.{draftOf, wanting, begun, fieldAdded, textAdded, amountGiven, countGiven};
@@ -222,7 +221,7 @@ pub fn add_total(line: &mut [u8], d: Draft, total: Units, mark: u8) -> Draft
     ensures { λ r. ⌜ draftOf (now (line .exit)) r ≡ fieldAdded (length (now (line .entry))) (totalBytes (sumMeant total)) mark (draftOf (now (line .entry)) d) ⌝ }
 {
     let mut space = number_space();
-    let k = writing::put_total(&mut space, total);
+    let k = numerals::put_total(&mut space, total);
     add(line, d, &space[0..k], mark)
 }
 
@@ -231,7 +230,7 @@ pub fn add_count(line: &mut [u8], d: Draft, n: u64, mark: u8) -> Draft
     ensures { λ r. ⌜ draftOf (now (line .exit)) r ≡ fieldAdded (length (now (line .entry))) (decimal n) mark (draftOf (now (line .entry)) d) ⌝ }
 {
     let mut space = number_space();
-    let k = writing::put_digits(&mut space, n);
+    let k = numerals::put_digits(&mut space, n);
     add(line, d, &space[0..k], mark)
 }
 

@@ -1,9 +1,9 @@
 // The lines of the writer's calls, drafted: the fields in the order of their record.
 use codes::Code;
-use digits::kinds::Units;
 use drafts::Draft;
 use drafts::MaybeAmount;
 use drafts::MaybeCount;
+use kinds::Units;
 use wants::want;
 use wants::want::Want;
 ghost use mathlib.Core.Path.{_≡_};
@@ -14,7 +14,7 @@ ghost use Rattle.rules.specs.Lines as lines;
 ghost use Rattle.rules.specs.Grammar.{fieldsOf, furtherType};
 ghost use Rattle.rules.specs.Writer.{amountBytes, countBytes};
 ghost use Rattle.codes.specs.Meanings.{codeMeant};
-ghost use Rattle.digits.specs.Kinds.{sumMeant};
+ghost use Rattle.kinds.specs.Kinds.{sumMeant};
 ghost use Rattle.drafts.specs.Drafts.{draftOf, textAdded, amountGiven, countGiven};
 ghost use Rattle.entries.specs.Entries.{lineIn};
 

@@ -1,10 +1,10 @@
 // The writer's state and its answers as plain numbers, which C hands from call to call; amounts and counts that C gives or leaves out.
 use digits::Amount;
-use digits::kinds::Place;
-use digits::kinds::Records;
-use digits::kinds::Units;
 use drafts::MaybeAmount;
 use drafts::MaybeCount;
+use kinds::Place;
+use kinds::Records;
+use kinds::Units;
 use turns::Phase;
 use turns::Summary;
 use turns::Writer;

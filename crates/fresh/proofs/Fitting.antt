@@ -9,8 +9,8 @@ use Rattle.rules.specs.Bytes.{Bytes}
 use Rattle.rules.specs.Outcome.{refused}
 use Rattle.rules.specs.Verdict.{mostBytes}
 use Rattle.rules.specs.Combine.{Answer, answered, fitting}
-use Rattle.digits.specs.Put.{Put}
-use Rattle.digits.proofs.Putting.{put-count, put-bytes}
+use Rattle.numerals.specs.Put.{Put}
+use Rattle.numerals.proofs.Putting.{put-count, put-bytes}
 
 module _ (result before : Bytes) (which : ℕ) where
   pub too-long : mostBytes < length result → answered (refused 18 0) which before ≡ answered (fitting result (length before)) which before

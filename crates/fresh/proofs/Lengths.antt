@@ -1,18 +1,17 @@
 -- No fresh 99 is longer than 80 bytes. Assumes nothing.
-use Prim.Native.Nat.{ℕ, _+_, _-_, _≤_, _<_, _^_}
+use Prim.Native.Nat.{ℕ, _-_, _≤_, _<_}
 use native.Mathlib.Omega.{arith}
-use mathlib.Core.Path.{_≡_, refl, sym, ap, _∙_}
+use mathlib.Core.Path.{_≡_, _∙_}
 use mathlib.Core.Logic.{⊎-elim}
-use mathlib.Core.List.{[], _∷_, _++_}
 use lib.ListN.{length, take, drop, length-append, length-drop}
 use lib.Seq.{take-append-seam}
-use Rattle.rules.specs.Bytes.{Bytes, LF, comma, slash}
+use Rattle.rules.specs.Bytes.{Bytes}
 use Rattle.rules.specs.Numbers.{Sum, decimal, totalBytes}
 use Rattle.digits.proofs.DigitStrings.{decimal-at-most}
 use Rattle.digits.proofs.Tests.{below-or-from}
 use Rattle.digits.proofs.Totals.{total-below-zero, total-from-zero}
-use Rattle.digits.specs.Put.{Put}
-use Rattle.digits.proofs.Putting.{put-count, put-bytes}
+use Rattle.numerals.specs.Put.{Put}
+use Rattle.numerals.proofs.Putting.{put-count, put-bytes}
 use Rattle.fresh.specs.Fresh.{lastLine}
 
 digits-most : (n : ℕ) → n < 18446744073709551616 → length (decimal n) ≤ 20

@@ -1,7 +1,6 @@
 // A fresh 99, and how many records a part has.
-use digits::kinds::Records;
-use digits::kinds::Units;
-use digits::writing;
+use kinds::Records;
+use kinds::Units;
 ghost use mathlib.Core.Path.{_≡_};
 ghost use mathlib.Core.List.{_∷_};
 ghost use Prim.Native.Nat.{_≤_};
@@ -9,8 +8,8 @@ ghost use lib.ListN.{length, take};
 ghost use Rattle.rules.specs.Bytes.{comma};
 ghost use Rattle.rules.specs.Numbers.{decimal};
 ghost use Rattle.rules.specs.Lines.{linesOf};
-ghost use Rattle.digits.specs.Kinds.{sumMeant};
-ghost use Rattle.digits.specs.Put.{Put};
+ghost use Rattle.kinds.specs.Kinds.{sumMeant};
+ghost use Rattle.numerals.specs.Put.{Put};
 ghost use Rattle.fresh.specs.Fresh.{lastLine};
 
 // A fresh 99: its bytes and how many they are.
@@ -23,12 +22,12 @@ pub struct Trailer {
 fn put_number(out: &mut [u8], n: u64) -> usize
     ensures { λ r. ⌜ Put (comma ∷ decimal n) (now (out .entry)) r (now (out .exit)) ⌝ }
 {
-    let k = writing::digit_count(n);
+    let k = numerals::digit_count(n);
     if out.len() < k + 1 {
         return 0;
     }
     out[0] = b',';
-    writing::put_digits(&mut out[1..], n) + 1
+    numerals::put_digits(&mut out[1..], n) + 1
 }
 
 // A 99 with these numbers at the front of out: how many bytes.
@@ -37,7 +36,7 @@ fn put_trailer(out: &mut [u8], total: Units, groups: u64, records: u64) -> usize
     ensures { λ r. ⌜ Put (lastLine (sumMeant total) groups records) (now (out .entry)) r (now (out .exit)) ⌝ }
 {
     let mut o = slices::put(out, b"99,");
-    o += writing::put_total(&mut out[o..], total);
+    o += numerals::put_total(&mut out[o..], total);
     o += put_number(&mut out[o..], groups);
     o += put_number(&mut out[o..], records);
     o += slices::put(&mut out[o..], b"/\n");

@@ -2,18 +2,18 @@
 use Prim.Native.Nat.{ℕ, _+_, _≤_}
 use native.Mathlib.Omega.{arith}
 use native.Mathlib.Nat.{zero-add}
-use mathlib.Core.Path.{_≡_, refl, sym, ap, subst, _∙_}
+use mathlib.Core.Path.{_≡_, sym, ap, subst, _∙_}
 use mathlib.Core.List.{List, [], _∷_, _++_, append-nil}
 use lib.Dec.{T}
 use lib.ListN.{length, take, drop}
 use Rattle.rules.specs.Bytes.{Bytes}
 use Rattle.rules.specs.Numbers.{magnitudes, most}
 use Rattle.rules.specs.Outcome.{fine}
-use Rattle.rules.specs.Lines.{Line, linesOf, Code, Record, recordSize, recordBytes, fileRecords}
+use Rattle.rules.specs.Lines.{Line, linesOf, Record, recordSize, recordBytes, fileRecords}
 use Rattle.rules.specs.Totals.{Summary, noSummary, _⊞_}
 use Rattle.rules.specs.Verdict.{judge, mostBytes}
 use Rattle.rules.specs.Parts.{headerIn, groupsIn, sizeOfAll}
-use Rattle.rules.specs.Combine.{summaryOf, summaryOfAll, linesWithin, limitOf, joined}
+use Rattle.rules.specs.Combine.{summaryOfAll, linesWithin, limitOf, joined}
 use Rattle.rules.proofs.Accepted.{accepted}
 use Rattle.lines.specs.Cut.{firstRecord}
 use Rattle.laws.specs.Words.{All, GroupControlled, between}
@@ -23,7 +23,6 @@ use Rattle.laws.proofs.Summaries.{summary-append, within-left, within-right}
 use Rattle.laws.proofs.Controls.{file-controlled}
 use Rattle.laws.proofs.Runs.{through}
 use Rattle.laws.proofs.Groups.{GoodGroup, Decomposed, decomposed}
-use Rattle.laws.proofs.Slices.{size-length}
 use Rattle.groups.specs.Ahead.{Stands, Ahead}
 use Rattle.groups.proofs.Records.{first-is, first-lines, records-drop, records-take, records-fit}
 use Rattle.groups.proofs.Extents.{ahead-of}

@@ -2,19 +2,18 @@
 use Prim.Native.Nat.{ℕ, _+_, _≤_, _<_}
 use native.Mathlib.Omega.{arith}
 use mathlib.Core.Path.{_≡_, refl, sym, ap, subst, _∙_}
-use mathlib.Core.Bool.{Bool, true, false, cond, not, _||_}
-use mathlib.Core.List.{List, [], _∷_, _++_, append-assoc}
+use mathlib.Core.Bool.{true, false, not, _||_}
+use mathlib.Core.List.{List, [], _∷_, _++_}
 use lib.Dec.{T}
 use lib.ListN.{length, take, drop, length-append}
 use lib.Seq.{drop-drop, take-append-seam}
 use Rattle.rules.specs.Bytes.{Bytes, sameBytes}
-use Rattle.rules.specs.Lines.{Line, sizeOf, linesOf, Code, continuation, codeBytes, begins, Record, recordsOf, recordSize, recordBytes, fileRecords}
+use Rattle.rules.specs.Lines.{Line, linesOf, Code, continuation, codeBytes, begins, Record, recordsOf, recordSize, recordBytes, fileRecords}
 use Rattle.rules.specs.Order.{among}
 use Rattle.rules.specs.Parts.{heads, sizeOfAll}
 use Rattle.rules.specs.Combine.{joined}
-use Rattle.rules.proofs.Tests.{is-true}
 use Rattle.rules.proofs.LineLaws.{file-bytes}
-use Rattle.lines.specs.Cut.{firstLine, firstRecord, lineLen}
+use Rattle.lines.specs.Cut.{firstRecord}
 use Rattle.lines.specs.Cutting.{first-of}
 use Rattle.lines.specs.OneRecord.{one-record, first-part}
 use Rattle.lines.proofs.Fronts.{begins-front}

@@ -18,7 +18,7 @@ use Rattle.lines.specs.Cut.{firstLine, firstRecord}
 use Rattle.lines.specs.Cutting.{first-of}
 use Rattle.lines.proofs.Fronts.{begins-front}
 use Rattle.marks.specs.Marks.{markLen}
-use Rattle.digits.specs.Put.{Put}
+use Rattle.numerals.specs.Put.{Put}
 use Rattle.slices.specs.Wrote.{Wrote}
 use Rattle.slices.proofs.Writing.{wrote-put}
 use Rattle.laws.proofs.Codes.{of-own, not-of}

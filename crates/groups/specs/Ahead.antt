@@ -14,7 +14,7 @@ use Rattle.rules.specs.Records.{walkRecord}
 use Rattle.rules.specs.Parts.{heads, groupsIn, fieldsIn}
 use Rattle.rules.specs.Combine.{summaryOfAll, joined}
 use Rattle.rules.specs.Split.{groupsFor}
-use Rattle.digits.specs.Put.{Put}
+use Rattle.numerals.specs.Put.{Put}
 use Rattle.laws.specs.Words.{All, accountsIn, Controlled, IsGroup}
 use Rattle.laws.proofs.Kept.{Kept}
 

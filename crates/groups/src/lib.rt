@@ -1,8 +1,8 @@
 // The groups of an accepted file that are for one receiver: their totals and records, from what their 98s state, and their bytes, copied.
 use codes::Code;
-use digits::kinds::Records;
-use digits::kinds::Units;
-use digits::kinds::UnitsSum;
+use kinds::Records;
+use kinds::Units;
+use kinds::UnitsSum;
 use seek::Sought;
 ghost use mathlib.Core.Path.{_≡_};
 ghost use Prim.Native.Nat.{_≤_, _<_};
@@ -10,7 +10,7 @@ ghost use lib.ListN.{length, drop};
 ghost use Rattle.rules.specs.Numbers.{_⊕_, asSum, magnitudes, most};
 ghost use Rattle.rules.specs.Lines.{linesOf};
 ghost use Rattle.lines.specs.Cut.{firstRecord};
-ghost use Rattle.digits.specs.Kinds.{sumMeant};
+ghost use Rattle.kinds.specs.Kinds.{sumMeant};
 ghost use Rattle.groups.specs.Ahead.{Takes};
 ghost use Rattle.groups.specs.Reading.{Names, StatesTotal, StatesRecords};
 

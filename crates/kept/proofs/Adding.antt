@@ -8,7 +8,7 @@ use borrow.Author.Tests.{le-leb, lt-leb, lt-ltb, le-ltb, ltb-true, ltb-false}
 use lib.Dec.{ltb}
 use Rattle.rules.specs.Bytes.{Bytes}
 use Rattle.rules.specs.Numbers.{Signed, magnitudes, most}
-use Rattle.digits.specs.Kinds.{sumMeant}
+use Rattle.kinds.specs.Kinds.{sumMeant}
 use Rattle.wants.specs.Wants.{Purpose, forAmount, forTotal, forCount, forRecords, forLength, forNothing, samePurpose}
 use Rattle.kept.specs.declared.Figure.{Figure}
 use Rattle.kept.specs.declared.Kept.{Kept}

@@ -8,7 +8,7 @@ use borrow.Author.Tests.{leb-true}
 use Rattle.rules.specs.Bytes.{Bytes}
 use Rattle.rules.specs.Numbers.{Signed, asSum, _⊕_, magnitudes, most}
 use Rattle.rules.proofs.Tests.{Known, holds, fails, known}
-use Rattle.digits.specs.Kinds.{sumMeant}
+use Rattle.kinds.specs.Kinds.{sumMeant}
 use Rattle.wants.specs.Wants.{Purpose, forAmount, forTotal, forCount, forRecords, forLength, samePurpose}
 use Rattle.kept.specs.declared.Figure.{Figure}
 use Rattle.kept.specs.declared.Kept.{Kept}

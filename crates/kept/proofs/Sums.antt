@@ -13,7 +13,7 @@ use Rattle.rules.specs.Outcome.{_>>=_, check}
 use Rattle.rules.specs.Records.{Field}
 use Rattle.rules.specs.Totals.{amountOf, sumOf, boundedFrom}
 use Rattle.rules.proofs.Tests.{Known, holds, fails, known}
-use Rattle.digits.specs.Kinds.{sumMeant}
+use Rattle.kinds.specs.Kinds.{sumMeant}
 use Rattle.wants.specs.Wants.{Purpose, forAmount, samePurpose, purpose}
 use Rattle.kept.specs.declared.Kept.{Kept}
 use Rattle.kept.specs.Keeping.{fresh, addTo, keepWith, keepField, keepAll}

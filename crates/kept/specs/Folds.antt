@@ -9,7 +9,7 @@ use Rattle.rules.specs.Outcome.{Outcome, refused, fine}
 use Rattle.rules.specs.Grammar.{total, count, records, physicalLength}
 use Rattle.rules.specs.Records.{Field, the}
 use Rattle.rules.specs.Totals.{sumOf, boundedFrom}
-use Rattle.digits.specs.Kinds.{sumMeant}
+use Rattle.kinds.specs.Kinds.{sumMeant}
 use Rattle.kept.specs.declared.Figure.{Figure}
 use Rattle.kept.specs.declared.Kept.{Kept}
 

@@ -7,9 +7,9 @@ use lib.Dec.{leb}
 use Rattle.rules.specs.Bytes.{Bytes, isEmpty}
 use Rattle.rules.specs.Numbers.{Signed, signed, zeroSum, asSum, _⊕_, magnitudes, most}
 use Rattle.rules.specs.Records.{Field}
-use Rattle.digits.specs.declared.kinds.Units.{Units}
-use Rattle.digits.specs.declared.kinds.Place.{Place}
-use Rattle.digits.specs.Kinds.{sumMeant, unitsOf}
+use Rattle.kinds.specs.declared.Units.{Units}
+use Rattle.kinds.specs.declared.Place.{Place}
+use Rattle.kinds.specs.Kinds.{sumMeant, unitsOf}
 use Rattle.digits.specs.Reading.{amountIn}
 use Rattle.wants.specs.Wants.{Purpose, forAmount, forTotal, forCount, forRecords, forLength, samePurpose, purpose}
 use Rattle.kept.specs.declared.Figure.{Figure}

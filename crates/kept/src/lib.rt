@@ -1,7 +1,7 @@
 // What a walk keeps of a record's fields for the checks that come behind it: 10, a trailer's 11 to 14, and L.
-use digits::kinds::MOST;
-use digits::kinds::Place;
-use digits::kinds::Units;
+use kinds::MOST;
+use kinds::Place;
+use kinds::Units;
 use wants::want::Keep;
 use wants::want::Want;
 ghost use mathlib.Core.Path.{_≡_};
@@ -11,7 +11,7 @@ ghost use lib.Dec.{ltb};
 ghost use Rattle.rules.specs.Bytes.{isEmpty};
 ghost use Rattle.rules.specs.Numbers.{magnitudes, most};
 ghost use Rattle.rules.specs.Grammar.{nextKind};
-ghost use Rattle.digits.specs.Kinds.{sumMeant};
+ghost use Rattle.kinds.specs.Kinds.{sumMeant};
 ghost use Rattle.digits.specs.Reading.{amountIn};
 ghost use Rattle.wants.specs.Wants.{wantedOf, forNothing, samePurpose, purpose};
 ghost use Rattle.kept.specs.Keeping.{noFigure, figureWith, fresh, addedTo, keepRead};

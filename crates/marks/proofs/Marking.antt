@@ -11,7 +11,7 @@ use lib.Dec.{eqb, eqb→eq}
 use lib.ListN.{length, take, drop, getD, length-append, drop-of-length-le}
 use lib.Seq.{drop-cons}
 use Rattle.rules.specs.Bytes.{Bytes, LF, sameBytes}
-use Rattle.rules.specs.Lines.{Line, sizeOf, endBytes, longerLine, longerFirst, linesOf, lineBytes, Code, codeBytes, begins}
+use Rattle.rules.specs.Lines.{Line, sizeOf, endBytes, longerLine, longerFirst, linesOf, lineBytes, Code, codeBytes}
 use Rattle.rules.proofs.Tests.{Known, holds, fails, known}
 use Rattle.rules.proofs.LineLaws.{longer-bytes}
 use Rattle.lines.specs.Cutting.{first-of}

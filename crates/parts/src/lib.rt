@@ -1,6 +1,6 @@
 // Parts of a file by number: its groups, a group's accounts, an account's details. A part is a slice of the lent file itself.
 use codes::Code;
-use digits::kinds::Place;
+use kinds::Place;
 use reader::Verdict;
 use seek::Sought;
 use seek::Spot;

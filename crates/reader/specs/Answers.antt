@@ -10,7 +10,7 @@ use Rattle.rules.specs.Lines.{Code, linesOf, recordSize}
 use Rattle.rules.specs.Verdict.{mostBytes, step, judge}
 use Rattle.rules.specs.Parts.{headerIn, groupsIn, sizeOfAll}
 use Rattle.rules.specs.Combine.{joined, limitOf}
-use Rattle.digits.specs.Kinds.{sumMeant}
+use Rattle.kinds.specs.Kinds.{sumMeant}
 use Rattle.lines.specs.Cut.{firstRecord}
 use Rattle.kept.specs.declared.Kept.{Kept}
 use Rattle.kept.specs.Keeping.{Within}

@@ -9,7 +9,7 @@ use Rattle.rules.specs.Totals.{Summary, _⊞_, adding}
 use Rattle.rules.specs.Order.{after, groupBehind, accountBehind}
 use Rattle.rules.specs.Grammar.{fieldsOf}
 use Rattle.rules.specs.Verdict.{State, ownLines, goodLines, inOrder}
-use Rattle.digits.specs.Kinds.{sumMeant}
+use Rattle.kinds.specs.Kinds.{sumMeant}
 use Rattle.controls.specs.Controls.{balancedK}
 use Rattle.kept.specs.declared.Kept.{Kept}
 use Rattle.kept.specs.Keeping.{fresh}

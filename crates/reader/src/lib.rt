@@ -2,7 +2,7 @@
 use crate::record::Stepped;
 use crate::state::State;
 use controls::Summary;
-use digits::kinds::Place;
+use kinds::Place;
 ghost use mathlib.Core.Path.{_≡_};
 ghost use Rattle.rules.specs.Verdict.{judge};
 ghost use Rattle.reader.specs.Meanings.{verdictMeant};

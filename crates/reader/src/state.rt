@@ -1,8 +1,8 @@
 // What is known between two records: what may come next, the longest line, and the summaries of the file, the open group and the open account.
 use codes::Code;
 use controls::Summary;
-use digits::kinds::Records;
-use digits::kinds::Units;
+use kinds::Records;
+use kinds::Units;
 use order::Expected;
 ghost use mathlib.Core.Path.{_≡_};
 ghost use Rattle.rules.specs.Totals.{_⊞_};

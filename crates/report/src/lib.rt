@@ -1,8 +1,7 @@
 // Reads a file of up to 65,536 bytes and writes one line: its summary, its refusal, or that it is too long.
 use controls::Summary;
-use digits::kinds::Place;
-use digits::kinds::Records;
-use digits::kinds::Units;
+use kinds::Place;
+use kinds::Units;
 use libc::STDOUT_FILENO;
 use reader::Verdict;
 
@@ -64,6 +63,6 @@ fn print_figure(n: u64) {
 // A total as one number.
 fn print_total(total: Units) {
     let mut text = [0u8; 21];
-    let k = digits::writing::put_total(&mut text, total);
+    let k = numerals::put_total(&mut text, total);
     io::write_all(STDOUT_FILENO, &text[0..k]);
 }

@@ -1,5 +1,5 @@
 -- A result written piece by piece: each call is lent the rest of the slice. Assumes nothing.
-use Prim.Native.Nat.{ℕ, suc, _+_, _-_, _≤_, _<_}
+use Prim.Native.Nat.{ℕ, _+_, _-_, _≤_, _<_}
 use native.Mathlib.Nat.{zero-add}
 use native.Mathlib.Numerals.{add-one}
 use native.Mathlib.Omega.{arith}
@@ -9,8 +9,8 @@ use borrow.Rule.Slice.PartMut.{midOf, putMid}
 use lib.ListN.{length, getD, take, drop, set, length-append, length-drop, take-append-drop}
 use lib.Seq.{paste, paste-suc, take-length, take-append-seam, drop-append-seam, length-take-le, drop-drop}
 use Rattle.rules.specs.Bytes.{Bytes}
-use Rattle.digits.specs.Put.{Put}
-use Rattle.digits.proofs.Putting.{put-fits, put-count, put-bytes, rest-is, rest-back}
+use Rattle.numerals.specs.Put.{Put}
+use Rattle.numerals.proofs.Putting.{put-fits, put-count, put-bytes, rest-is, rest-back}
 use Rattle.slices.specs.Wrote.{Wrote}
 
 -- ---- one turn of the loop that copies

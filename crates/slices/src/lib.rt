@@ -1,7 +1,7 @@
 // Bytes compared, and bytes put into a lent slice.
 ghost use mathlib.Core.Path.{_≡_};
 ghost use Rattle.rules.specs.Bytes.{sameBytes};
-ghost use Rattle.digits.specs.Put.{Put};
+ghost use Rattle.numerals.specs.Put.{Put};
 
 // Equal byte for byte.
 pub fn same_bytes(a: &[u8], b: &[u8]) -> bool

@@ -14,7 +14,7 @@ use Rattle.rules.specs.Parts.{headerIn, groupsIn}
 use Rattle.rules.specs.Combine as rules
 use Rattle.rules.specs.Combine.{summaryOfAll, freshTrailer, withTrailer, joined, fitting, answered}
 use Rattle.rules.specs.Split.{groupsFor}
-use Rattle.digits.specs.Put.{Put}
+use Rattle.numerals.specs.Put.{Put}
 use Rattle.lines.specs.Cut.{firstRecord}
 use Rattle.fresh.specs.declared.Trailer.{Trailer}
 use Rattle.splitting.specs.declared.Answer.{Answer}

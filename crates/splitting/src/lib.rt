@@ -1,7 +1,7 @@
 // A file split for one receiver: measured first, then written.
-use digits::kinds::Place;
-use digits::kinds::Records;
 use fresh::Trailer;
+use kinds::Place;
+use kinds::Records;
 use reader::MOST_BYTES;
 use reader::Verdict;
 ghost use mathlib.Core.Path.{_≡_};
@@ -11,7 +11,7 @@ ghost use Rattle.rules.specs.Bytes.{Bytes, inField};
 ghost use Rattle.rules.specs.Outcome.{refused};
 ghost use Rattle.rules.specs.Combine.{answered};
 ghost use Rattle.rules.specs.Split as rules;
-ghost use Rattle.digits.specs.Put.{Put};
+ghost use Rattle.numerals.specs.Put.{Put};
 ghost use Rattle.splitting.specs.Answers.{answerMeant, Accepts, Opens, RestIs, splitResult, misfitOf, splitFitting};
 
 // No fresh 99 of a file is longer.

@@ -1,9 +1,9 @@
 // The writer's state: what was written last, how many bytes stand, and the sums and counts that the trailers need; which states are sound, and
 // which line is in turn.
 use codes::Code;
-use digits::kinds::Place;
-use digits::kinds::Records;
-use digits::kinds::Units;
+use kinds::Place;
+use kinds::Records;
+use kinds::Units;
 ghost use mathlib.Core.Path.{_≡_};
 ghost use mathlib.Core.Bool.{_&&_};
 ghost use lib.Dec.{leb};
@@ -12,7 +12,7 @@ ghost use Rattle.rules.specs.Numbers.{magnitudes};
 ghost use Rattle.rules.specs.Totals.{noSummary};
 ghost use Rattle.rules.specs.Writer.{freshWriter, counted, sound, inTurn, phaseAfter};
 ghost use Rattle.codes.specs.Meanings.{codeMeant};
-ghost use Rattle.digits.specs.Kinds.{sumMeant};
+ghost use Rattle.kinds.specs.Kinds.{sumMeant};
 ghost use Rattle.turns.specs.States.{summaryMeant, phaseMeant, writerMeant, phaseNumber};
 
 // A file's most bytes.

@@ -1,7 +1,7 @@
 // The walk over a record's lines and fields: refusals 7, 8 and 9, and what the later checks need.
-use digits::kinds::Place;
 use fields::Cut;
 use kept::Kept;
+use kinds::Place;
 use wants::Taken;
 use wants::want;
 use wants::want::Want;

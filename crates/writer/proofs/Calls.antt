@@ -15,7 +15,7 @@ use Rattle.rules.specs.Lines.{Code, fileHeader, groupHeader, accountHeader, det
 use Rattle.rules.specs.Grammar.{Kind, furtherType, detailType, reference, text, fieldsOf}
 use Rattle.rules.specs.Writer.{Item, Call, header, group, account, further, transaction, accountEnd, groupEnd, fileEnd, Writer, Given, given, amountBytes, countBytes, itemFields, sumGiven, ofGiven, withCommas, bodyOf, lineOf, sound, behindFields, goodText, goodTextOrNone, wantsItem, Entry, entryOf, hasRoom, writeLine, Written, writtenBy, write}
 use Rattle.rules.proofs.Tests.{Known, holds, fails, known}
-use Rattle.digits.specs.Kinds.{mostRecords}
+use Rattle.kinds.specs.Kinds.{mostRecords}
 use Rattle.readback.proofs.Sound.{sound-says}
 use Rattle.readback.proofs.Fields.{takes-all, simples}
 use Rattle.readback.proofs.Lines.{code-bytes}

@@ -1,10 +1,10 @@
 // The writer of document 01: each call takes the state by value and hands back its answer with the state behind it. The line is drafted in a space
 // of its own, by `entries`; `closing` decides whether it is written.
 use codes::Code;
-use digits::kinds::Records;
-use digits::kinds::Units;
 use drafts::MaybeAmount;
 use drafts::MaybeCount;
+use kinds::Records;
+use kinds::Units;
 use turns::Writer;
 use turns::Written;
 ghost use mathlib.Core.Path.{_≡_};

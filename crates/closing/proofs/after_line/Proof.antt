@@ -1,6 +1,6 @@
 -- `after_line` meets its contract. Assumes nothing.
 use Rattle.codes.specs.Meanings.{codeMeant}
-use Rattle.digits.specs.Kinds.{sumMeant}
+use Rattle.kinds.specs.Kinds.{sumMeant}
 use Rattle.turns.specs.States.{writerMeant}
 use Rattle.closing.proofs.Sums.{small-file, small-group, small-account, small-line, state-is}
 use borrow.Author.Needs.{needs}

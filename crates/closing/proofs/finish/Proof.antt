@@ -12,7 +12,7 @@ use Rattle.rules.specs.Lines as lines
 use Rattle.rules.specs.Writer as rules
 use Rattle.rules.specs.Writer.{sound, inTurn, Entry}
 use Rattle.codes.specs.Meanings.{codeMeant}
-use Rattle.digits.specs.Kinds.{sumMeant}
+use Rattle.kinds.specs.Kinds.{sumMeant}
 use Rattle.drafts.specs.Drafts.{Sofar, draftOf}
 use Rattle.turns.specs.States.{writerMeant}
 use Rattle.turns.specs.declared.Writer.{Writer}

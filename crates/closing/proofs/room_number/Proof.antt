@@ -1,6 +1,6 @@
 -- `room_number` meets its contract. Assumes nothing.
 use mathlib.Core.Path.{sym, _∙_}
-use Rattle.digits.specs.Kinds.{sumMeant}
+use Rattle.kinds.specs.Kinds.{sumMeant}
 use Rattle.turns.specs.States.{writerMeant}
 use Rattle.closing.proofs.Rooms.{sum-beyond, sum-fits}
 use borrow.Author.Needs.{needs}

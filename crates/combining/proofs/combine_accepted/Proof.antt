@@ -7,7 +7,7 @@ use borrow.Author.Tests.{not-true, not-false}
 use Rattle.rules.specs.Lines.{linesOf, recordSize}
 use Rattle.rules.specs.Parts.{headerIn, groupsIn}
 use Rattle.rules.specs.Combine.{limitOf, linesWithin, joined}
-use Rattle.digits.proofs.Sums.{within-is, within-most, beyond-most}
+use Rattle.kinds.proofs.Sums.{within-is, within-most, beyond-most}
 use Rattle.lines.specs.Cut.{firstRecord}
 use Rattle.controls.specs.Controls.{summaryMeant}
 use Rattle.combining.proofs.Combining.{too-large, too-wide, to-fit, last-inside, header-first, groups-within, same-lines}

@@ -7,9 +7,9 @@ use lib.ListN.{length, take, drop}
 use Rattle.rules.specs.Bytes.{Bytes}
 use Rattle.rules.specs.Lines.{linesOf}
 use Rattle.rules.specs.Verdict.{mostBytes}
-use Rattle.digits.specs.Kinds.{sumMeant}
-use Rattle.digits.specs.Put.{Put}
-use Rattle.digits.proofs.Putting.{rest-is}
+use Rattle.kinds.specs.Kinds.{sumMeant}
+use Rattle.numerals.specs.Put.{Put}
+use Rattle.numerals.proofs.Putting.{rest-is}
 use Rattle.fresh.specs.Fresh.{lastLine}
 use Rattle.combining.specs.Answers.{combinedResult, combinedFitting}
 use Rattle.fresh.proofs.Fitting.{too-long, no-room, written, part-most, front-size}

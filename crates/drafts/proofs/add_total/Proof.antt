@@ -1,5 +1,5 @@
 -- `add_total` meets its contract. Assumes nothing.
-use Rattle.digits.specs.Kinds.{sumMeant}
+use Rattle.kinds.specs.Kinds.{sumMeant}
 use Rattle.drafts.proofs.Spaces.{number-bytes, total-short}
 use native.Mathlib.Omega.{arith}
 use borrow.Author.Needs.{needs}

@@ -6,7 +6,7 @@ use borrow.Author.Needs.{needs}
 use Rattle.rules.specs.Numbers.{decimal, totalBytes}
 use Rattle.codes.specs.Meanings.{codeMeant}
 use Rattle.rules.specs.Grammar.{fieldsOf}
-use Rattle.digits.specs.Kinds.{sumMeant}
+use Rattle.kinds.specs.Kinds.{sumMeant}
 use Rattle.wants.specs.Wants.{wantedOf}
 use Rattle.drafts.specs.Drafts.{draftOf}
 use Rattle.entries.proofs.Steps.{begins-so, adds-so}

@@ -1,14 +1,9 @@
-use Prim.Native.Nat.{ℕ}
 use native.Mathlib.Omega.{arith}
-use mathlib.Core.Path.{_≡_, sym, ap, _∙_}
-use lib.ListN.{length}
-use Rattle.digits.specs.Kinds.{sumMeant}
+use Rattle.kinds.specs.Kinds.{sumMeant}
 use Rattle.fresh.proofs.Lengths.{last-most, whole-last}
 use borrow.Author.Needs.{needs}
 use Rattle.fresh.proofs.fresh_trailer.Statement.{statement}
 use Rattle.fresh.proofs.fresh_trailer.Tie as tie
-use Rattle.fresh.proofs.fresh_trailer.Reads as reads
-use Rattle.fresh.proofs.fresh_trailer.Lts as lts
 use Rattle.fresh.proofs.put_trailer.Reads as put-trailer-reads
 
 -- src/lib.rt:53:30

@@ -2,14 +2,12 @@ use mathlib.Core.Path.{_∙_}
 use native.Mathlib.Omega.{arith}
 use lib.ListN.{length-set}
 use Rattle.rules.specs.Bytes.{comma}
-use Rattle.digits.proofs.Putting.{put-short, put-first, put-at-most}
+use Rattle.numerals.proofs.Putting.{put-short, put-first, put-at-most}
 use borrow.Author.Needs.{needs}
 use Rattle.fresh.proofs.put_number.Statement.{statement}
 use Rattle.fresh.proofs.put_number.Tie as tie
-use Rattle.fresh.proofs.put_number.Reads as reads
-use Rattle.fresh.proofs.put_number.Lts as lts
-use Rattle.digits.proofs.writing.digit_count.Reads as digit-count-reads
-use Rattle.digits.proofs.writing.put_digits.Reads as put-digits-reads
+use Rattle.numerals.proofs.digit_count.Reads as digit-count-reads
+use Rattle.numerals.proofs.put_digits.Reads as put-digits-reads
 
 -- src/lib.rt:27:9
 digit-count-requires : tie.Need-digit-count-requires

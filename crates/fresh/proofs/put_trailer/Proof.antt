@@ -1,15 +1,13 @@
 use mathlib.Core.List.{[], _∷_, _++_}
 use Rattle.rules.specs.Bytes.{Bytes, LF, comma, slash}
 use Rattle.rules.specs.Numbers.{decimal, totalBytes}
-use Rattle.digits.specs.Kinds.{sumMeant}
+use Rattle.kinds.specs.Kinds.{sumMeant}
 use Rattle.fresh.specs.Fresh.{lastLine}
 use Rattle.slices.proofs.Writing.{wrote-first, wrote-piece, wrote-last}
 use borrow.Author.Needs.{needs}
 use Rattle.fresh.proofs.put_trailer.Statement.{statement}
 use Rattle.fresh.proofs.put_trailer.Tie as tie
-use Rattle.fresh.proofs.put_trailer.Reads as reads
-use Rattle.fresh.proofs.put_trailer.Lts as lts
-use Rattle.digits.proofs.writing.put_total.Reads as put-total-reads
+use Rattle.numerals.proofs.put_total.Reads as put-total-reads
 use Rattle.fresh.proofs.put_number.Reads as put-number-reads
 use Rattle.slices.proofs.put.Reads as put-reads
 

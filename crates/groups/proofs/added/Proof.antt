@@ -1,14 +1,12 @@
 use native.Mathlib.Omega.{arith}
 use Rattle.rules.specs.Numbers.{_⊕_}
-use Rattle.digits.specs.Kinds.{sumMeant}
-use Rattle.digits.proofs.Sums.{within-is, beyond-most}
-use mathlib.Core.Path.{_≡_, sym, ap, _∙_}
+use Rattle.kinds.specs.Kinds.{sumMeant}
+use Rattle.kinds.proofs.Sums.{within-is, beyond-most}
+use mathlib.Core.Path.{sym, _∙_}
 use borrow.Author.Needs.{needs}
 use Rattle.groups.proofs.added.Statement.{statement}
 use Rattle.groups.proofs.added.Tie as tie
-use Rattle.groups.proofs.added.Reads as reads
-use Rattle.groups.proofs.added.Lts as lts
-use Rattle.digits.proofs.kinds.Units.join.Reads as join-reads
+use Rattle.kinds.proofs.Units.join.Reads as join-reads
 
 -- src/lib.rt:80:11
 join-requires : tie.Need-join-requires

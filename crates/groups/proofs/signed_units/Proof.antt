@@ -1,9 +1,5 @@
-use mathlib.Core.Path.{sym}
-use borrow.Author.Needs.{needs}
 use Rattle.groups.proofs.signed_units.Statement.{statement}
 use Rattle.groups.proofs.signed_units.Tie as tie
-use Rattle.groups.proofs.signed_units.Reads as reads
-use Rattle.groups.proofs.signed_units.Lts as lts
 
 -- src/lib.rt:51:9
 returns : tie.Need-returns

@@ -9,9 +9,9 @@ use Rattle.rules.specs.Numbers.{Sum, _⊕_, magnitudes, most}
 use Rattle.rules.specs.Lines.{groupHeader, codeBytes, linesOf, Record, recordBytes}
 use Rattle.rules.specs.Parts.{groupsIn}
 use Rattle.rules.specs.Combine.{joined}
-use Rattle.digits.specs.Kinds.{sumMeant}
-use Rattle.digits.specs.Put.{Put}
-use Rattle.digits.proofs.Putting.{put-count}
+use Rattle.kinds.specs.Kinds.{sumMeant}
+use Rattle.numerals.specs.Put.{Put}
+use Rattle.numerals.proofs.Putting.{put-count}
 use Rattle.slices.specs.Wrote.{Wrote}
 use Rattle.slices.proofs.Writing.{wrote-none, wrote-piece, within-rest}
 use Rattle.laws.proofs.CombineSplit.{fewer}

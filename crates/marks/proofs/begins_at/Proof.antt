@@ -1,11 +1,9 @@
-use mathlib.Core.Path.{_≡_, ap, _∙_}
+use mathlib.Core.Path.{ap, _∙_}
 use lib.ListN.{take, drop}
 use Rattle.rules.specs.Bytes.{Bytes, sameBytes}
 use borrow.Author.Needs.{needs}
 use Rattle.marks.proofs.begins_at.Statement.{statement}
 use Rattle.marks.proofs.begins_at.Tie as tie
-use Rattle.marks.proofs.begins_at.Reads as reads
-use Rattle.marks.proofs.begins_at.Lts as lts
 use Rattle.lines.proofs.begins_with.Reads as begins-with-reads
 use Rattle.marks.proofs.digits_of.Reads as digits-of-reads
 

@@ -1,13 +1,11 @@
-use mathlib.Core.Path.{_≡_, sym, ap}
+use mathlib.Core.Path.{sym, ap}
 use Rattle.rules.specs.Lines.{codeBytes}
 use Rattle.codes.specs.Meanings.{codeMeant}
 use Rattle.codes.specs.declared.Code.{Code}
-use mathlib.Core.Path.{refl, sym}
+use mathlib.Core.Path.{sym}
 use borrow.Author.Needs.{needs}
 use Rattle.marks.proofs.digits_of.Statement.{statement}
 use Rattle.marks.proofs.digits_of.Tie as tie
-use Rattle.marks.proofs.digits_of.Reads as reads
-use Rattle.marks.proofs.digits_of.Lts as lts
 
 -- src/lib.rt:23:29
 enum-told : tie.Need-enum-told

@@ -4,8 +4,6 @@ use Rattle.marks.proofs.Marking.{ends-line, no-end}
 use borrow.Author.Needs.{needs}
 use Rattle.marks.proofs.ends_before_mark.Statement.{statement}
 use Rattle.marks.proofs.ends_before_mark.Tie as tie
-use Rattle.marks.proofs.ends_before_mark.Reads as reads
-use Rattle.marks.proofs.ends_before_mark.Lts as lts
 use Rattle.marks.proofs.is_marked.Reads as is-marked-reads
 
 -- src/lib.rt:113:8

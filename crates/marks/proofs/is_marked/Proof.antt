@@ -1,10 +1,7 @@
-use mathlib.Core.Path.{_≡_, sym, ap, _∙_}
-use mathlib.Core.Bool.{Bool, _||_}
+use mathlib.Core.Path.{sym, _∙_}
 use borrow.Author.Needs.{needs}
 use Rattle.marks.proofs.is_marked.Statement.{statement}
 use Rattle.marks.proofs.is_marked.Tie as tie
-use Rattle.marks.proofs.is_marked.Reads as reads
-use Rattle.marks.proofs.is_marked.Lts as lts
 use Rattle.lines.proofs.begins_with.Reads as begins-with-reads
 
 -- src/lib.rt:46:8

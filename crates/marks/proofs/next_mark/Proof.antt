@@ -1,17 +1,14 @@
-use Prim.Native.Nat.{ℕ, _+_}
 use native.Mathlib.Omega.{arith}
-use mathlib.Core.Path.{_≡_, sym, ap, ap₂, _∙_}
+use mathlib.Core.Path.{_≡_, sym, ap₂, _∙_}
 use mathlib.Core.Bool.{Bool}
-use lib.ListN.{length, drop}
+use lib.ListN.{drop}
 use Rattle.rules.specs.Bytes.{Bytes}
 use Rattle.codes.specs.Meanings.{codeMeant}
-use Rattle.marks.specs.Marks.{bytesMeant, marked, aheadLen}
+use Rattle.marks.specs.Marks.{marked, aheadLen}
 use Rattle.marks.proofs.Marking.{mark-here, mark-ahead, mark-none}
 use borrow.Author.Needs.{needs}
 use Rattle.marks.proofs.next_mark.Statement.{statement}
 use Rattle.marks.proofs.next_mark.Tie as tie
-use Rattle.marks.proofs.next_mark.Reads as reads
-use Rattle.marks.proofs.next_mark.Lts as lts
 use Rattle.marks.proofs.digits_of.Reads as digits-of-reads
 use Rattle.marks.proofs.is_marked.Reads as is-marked-reads
 use Rattle.marks.proofs.mark_behind.Reads as mark-behind-reads

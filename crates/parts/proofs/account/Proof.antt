@@ -7,8 +7,6 @@ use Rattle.parts.proofs.Moving.{named-slice}
 use borrow.Author.Needs.{needs}
 use Rattle.parts.proofs.account.Statement.{statement}
 use Rattle.parts.proofs.account.Tie as tie
-use Rattle.parts.proofs.account.Reads as reads
-use Rattle.parts.proofs.account.Lts as lts
 use Rattle.parts.proofs.find_account.Reads as find-account-reads
 
 add-to : tie.Need-add-to

@@ -3,8 +3,6 @@ use Rattle.rules.specs.Answers.{PartAnswer, partAnswer, accountPart}
 use borrow.Author.Needs.{needs}
 use Rattle.parts.proofs.account_refusal.Statement.{statement}
 use Rattle.parts.proofs.account_refusal.Tie as tie
-use Rattle.parts.proofs.account_refusal.Reads as reads
-use Rattle.parts.proofs.account_refusal.Lts as lts
 use Rattle.parts.proofs.find_account.Reads as find-account-reads
 
 returns : tie.Need-returns

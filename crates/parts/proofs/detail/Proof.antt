@@ -5,8 +5,6 @@ use Rattle.parts.proofs.Answering.{detail-refused, detail-found}
 use borrow.Author.Needs.{needs}
 use Rattle.parts.proofs.detail.Statement.{statement}
 use Rattle.parts.proofs.detail.Tie as tie
-use Rattle.parts.proofs.detail.Reads as reads
-use Rattle.parts.proofs.detail.Lts as lts
 use Rattle.parts.proofs.find_detail.Reads as find-detail-reads
 use Rattle.parts.proofs.text_in.Reads as text-in-reads
 use Rattle.seek.proofs.amount_of.Reads as amount-of-reads

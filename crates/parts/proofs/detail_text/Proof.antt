@@ -5,8 +5,6 @@ use lib.ListN.{take, drop}
 use borrow.Author.Needs.{needs}
 use Rattle.parts.proofs.detail_text.Statement.{statement}
 use Rattle.parts.proofs.detail_text.Tie as tie
-use Rattle.parts.proofs.detail_text.Reads as reads
-use Rattle.parts.proofs.detail_text.Lts as lts
 use Rattle.parts.proofs.detail.Reads as detail-reads
 
 add-to : tie.Need-add-to

@@ -4,8 +4,6 @@ use Rattle.parts.proofs.Standing.{outer-group}
 use borrow.Author.Needs.{needs}
 use Rattle.parts.proofs.find_account.Statement.{statement}
 use Rattle.parts.proofs.find_account.Tie as tie
-use Rattle.parts.proofs.find_account.Reads as reads
-use Rattle.parts.proofs.find_account.Lts as lts
 use Rattle.parts.proofs.find_group.Reads as find-group-reads
 use Rattle.parts.proofs.part_within.Reads as part-within-reads
 

@@ -4,8 +4,6 @@ use Rattle.parts.proofs.Standing.{outer-account}
 use borrow.Author.Needs.{needs}
 use Rattle.parts.proofs.find_detail.Statement.{statement}
 use Rattle.parts.proofs.find_detail.Tie as tie
-use Rattle.parts.proofs.find_detail.Reads as reads
-use Rattle.parts.proofs.find_detail.Lts as lts
 use Rattle.parts.proofs.find_account.Reads as find-account-reads
 use Rattle.parts.proofs.part_within.Reads as part-within-reads
 

@@ -7,8 +7,6 @@ use Rattle.parts.proofs.Standing.{file-envelope, group-refused, group-a
 use borrow.Author.Needs.{needs}
 use Rattle.parts.proofs.find_group.Statement.{statement}
 use Rattle.parts.proofs.find_group.Tie as tie
-use Rattle.parts.proofs.find_group.Reads as reads
-use Rattle.parts.proofs.find_group.Lts as lts
 use Rattle.parts.proofs.no_part.Reads as no-part-reads
 use Rattle.parts.proofs.nth_part.Reads as nth-part-reads
 use Rattle.reader.proofs.read.Reads as read-reads

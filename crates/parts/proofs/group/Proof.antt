@@ -7,8 +7,6 @@ use Rattle.parts.proofs.Moving.{named-slice}
 use borrow.Author.Needs.{needs}
 use Rattle.parts.proofs.group.Statement.{statement}
 use Rattle.parts.proofs.group.Tie as tie
-use Rattle.parts.proofs.group.Reads as reads
-use Rattle.parts.proofs.group.Lts as lts
 use Rattle.parts.proofs.find_group.Reads as find-group-reads
 
 add-to : tie.Need-add-to

@@ -3,8 +3,6 @@ use Rattle.rules.specs.Answers.{PartAnswer, partAnswer, groupPart}
 use borrow.Author.Needs.{needs}
 use Rattle.parts.proofs.group_refusal.Statement.{statement}
 use Rattle.parts.proofs.group_refusal.Tie as tie
-use Rattle.parts.proofs.group_refusal.Reads as reads
-use Rattle.parts.proofs.group_refusal.Lts as lts
 use Rattle.parts.proofs.find_group.Reads as find-group-reads
 
 returns : tie.Need-returns

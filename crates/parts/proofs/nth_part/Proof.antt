@@ -14,8 +14,6 @@ use Rattle.parts.proofs.Turns.{spans, Left, started, hit, go, missed}
 use borrow.Author.Needs.{needs}
 use Rattle.parts.proofs.nth_part.Statement.{statement}
 use Rattle.parts.proofs.nth_part.Tie as tie
-use Rattle.parts.proofs.nth_part.Reads as reads
-use Rattle.parts.proofs.nth_part.Lts as lts
 use Rattle.lines.proofs.record_end.Reads as record-end-reads
 use Rattle.marks.proofs.begins_at.Reads as begins-at-reads
 use Rattle.marks.proofs.next_mark.Reads as next-mark-reads

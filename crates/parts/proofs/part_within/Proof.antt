@@ -6,8 +6,6 @@ use Rattle.parts.proofs.Moving.{same-refusal, inner-fits, inner-refused
 use borrow.Author.Needs.{needs}
 use Rattle.parts.proofs.part_within.Statement.{statement}
 use Rattle.parts.proofs.part_within.Tie as tie
-use Rattle.parts.proofs.part_within.Reads as reads
-use Rattle.parts.proofs.part_within.Lts as lts
 use Rattle.parts.proofs.no_part.Reads as no-part-reads
 use Rattle.parts.proofs.nth_part.Reads as nth-part-reads
 

@@ -11,8 +11,6 @@ use Rattle.parts.proofs.Answering.{no-piece, some-piece}
 use borrow.Author.Needs.{needs}
 use Rattle.parts.proofs.text_in.Statement.{statement}
 use Rattle.parts.proofs.text_in.Tie as tie
-use Rattle.parts.proofs.text_in.Reads as reads
-use Rattle.parts.proofs.text_in.Lts as lts
 use Rattle.seek.proofs.seek.Reads as seek-reads
 use Rattle.values.proofs.is_one_of.Reads as is-one-of-reads
 use Rattle.wants.proofs.want.first_want.Reads as first-want-reads

@@ -1,7 +1,6 @@
 -- `samples::main`. Assumes nothing.
 use borrow.Author.Needs.{needs}
-use native.Mathlib.Omega.{arith}
-use Prim.Native.Nat.{ℕ, _+_, _-_, _<_, _≤_}
+use Prim.Native.Nat.{_-_}
 use Rattle.samples.proofs.main.Statement.{statement}
 use Rattle.samples.proofs.main.Tie as tie
 

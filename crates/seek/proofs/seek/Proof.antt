@@ -15,8 +15,6 @@ use Rattle.seek.proofs.Sighting.{short-line, line-lost, line-onto, line
 use borrow.Author.Needs.{needs}
 use Rattle.seek.proofs.seek.Statement.{statement}
 use Rattle.seek.proofs.seek.Tie as tie
-use Rattle.seek.proofs.seek.Reads as reads
-use Rattle.seek.proofs.seek.Lts as lts
 use Rattle.lines.proofs.body_end.Reads as body-end-reads
 use Rattle.lines.proofs.next_line.Reads as next-line-reads
 use Rattle.seek.proofs.seek_line.Reads as seek-line-reads

@@ -20,8 +20,6 @@ use Rattle.seek.proofs.Sighting.{at-open, short, wrong, hit, past-text,
 use borrow.Author.Needs.{needs}
 use Rattle.seek.proofs.seek_line.Statement.{statement}
 use Rattle.seek.proofs.seek_line.Tie as tie
-use Rattle.seek.proofs.seek_line.Reads as reads
-use Rattle.seek.proofs.seek_line.Lts as lts
 use Rattle.fields.proofs.cut_field.Reads as cut-field-reads
 use Rattle.fields.proofs.take_field.Reads as take-field-reads
 use Rattle.seek.proofs.is_sought.Reads as is-sought-reads

@@ -1,15 +1,13 @@
-use Prim.Native.Nat.{_+_, _-_, _≤_}
+use Prim.Native.Nat.{_-_, _≤_}
 use native.Mathlib.Omega.{arith}
 use mathlib.Core.Path.{_≡_, refl}
 use lib.ListN.{length, length-set}
 use lib.Seq.{paste, paste-zero}
-use Rattle.digits.proofs.Putting.{put-short}
+use Rattle.numerals.proofs.Putting.{put-short}
 use Rattle.slices.proofs.Writing.{put-turn, put-all}
 use borrow.Author.Needs.{needs}
 use Rattle.slices.proofs.put.Statement.{statement}
 use Rattle.slices.proofs.put.Tie as tie
-use Rattle.slices.proofs.put.Reads as reads
-use Rattle.slices.proofs.put.Lts as lts
 
 abbrev Inv-loop : tie.InvT-loop
 Inv-loop out₀ src i₀ out i = (i ≤ length src) × (length src ≤ length out₀) × (length out ≡ length out₀) × (out ≡ paste out₀ 0 src i)

@@ -1,4 +1,4 @@
-use Prim.Native.Nat.{_+_, _-_, _≤_}
+use Prim.Native.Nat.{_-_, _≤_}
 use native.Mathlib.Omega.{arith}
 use mathlib.Core.Path.{_≡_, sym, _∙_}
 use lib.ListN.{length, drop}
@@ -7,8 +7,6 @@ use Rattle.slices.proofs.Comparing.{other-lengths, same-end, same-go, s
 use borrow.Author.Needs.{needs}
 use Rattle.slices.proofs.same_bytes.Statement.{statement}
 use Rattle.slices.proofs.same_bytes.Tie as tie
-use Rattle.slices.proofs.same_bytes.Reads as reads
-use Rattle.slices.proofs.same_bytes.Lts as lts
 
 abbrev Inv-loop : tie.InvT-loop
 Inv-loop a b i₀ i = (i ≤ length a) × (length a ≡ length b) × (sameBytes a b ≡ sameBytes (drop i a) (drop i b))

@@ -5,8 +5,8 @@ use mathlib.Core.Path.{_≡_, ap, subst, _∙_}
 use lib.ListN.{length, take, drop}
 use Rattle.rules.specs.Bytes.{Bytes}
 use Rattle.rules.specs.Lines.{linesOf}
-use Rattle.digits.specs.Kinds.{sumMeant}
-use Rattle.digits.specs.Put.{Put}
+use Rattle.kinds.specs.Kinds.{sumMeant}
+use Rattle.numerals.specs.Put.{Put}
 use Rattle.groups.specs.Ahead.{matching, Tallied}
 use Rattle.groups.proofs.Opening.{Opened, opened}
 use Rattle.fresh.proofs.Fitting.{part-most}

@@ -6,7 +6,7 @@ use mathlib.Core.List.{_++_}
 use borrow.Rule.Slice.PartMut.{midOf, putMid}
 use lib.ListN.{length, take, drop}
 use Rattle.rules.specs.Bytes.{Bytes}
-use Rattle.digits.specs.Put.{Put}
+use Rattle.numerals.specs.Put.{Put}
 use Rattle.slices.specs.Wrote.{Wrote}
 use Rattle.slices.proofs.Writing.{wrote-first, wrote-piece, wrote-last, has-room, within-rest}
 use Rattle.groups.proofs.Opening.{Opened, opened}

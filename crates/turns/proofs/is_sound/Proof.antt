@@ -4,7 +4,7 @@ use mathlib.Core.Path.{sym, _∙_}
 use borrow.Author.Tests.{lt-leb, le-leb, leb-true, not-true, not-false}
 use Rattle.rules.specs.Writer.{sound}
 use Rattle.rules.specs.Numbers.{magnitudes, most}
-use Rattle.digits.specs.Kinds.{sumMeant}
+use Rattle.kinds.specs.Kinds.{sumMeant}
 use Rattle.turns.proofs.States.{stops, goes-on}
 use borrow.Author.Needs.{needs}
 use Rattle.turns.proofs.is_sound.Statement.{statement}

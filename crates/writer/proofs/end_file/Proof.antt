@@ -8,7 +8,7 @@ use Rattle.rules.specs.Numbers.{decimal, totalBytes}
 use Rattle.rules.specs.Lines.{fileTrailer}
 use Rattle.rules.specs.Grammar.{fieldsOf}
 use Rattle.rules.specs.Writer as rules
-use Rattle.digits.specs.Kinds.{sumMeant}
+use Rattle.kinds.specs.Kinds.{sumMeant}
 use Rattle.drafts.specs.Drafts.{draftOf}
 use Rattle.turns.specs.States.{writerMeant}
 use Rattle.closing.specs.Closing.{closing}

@@ -7,7 +7,7 @@ use lib.ListN.{length}
 use Rattle.rules.specs.Lines.{groupHeader}
 use Rattle.rules.specs.Grammar.{fieldsOf}
 use Rattle.rules.specs.Writer as rules
-use Rattle.digits.specs.Kinds.{sumMeant}
+use Rattle.kinds.specs.Kinds.{sumMeant}
 use Rattle.drafts.specs.Drafts.{draftOf}
 use Rattle.turns.specs.States.{writerMeant}
 use Rattle.closing.specs.Closing.{closing}

@@ -8,7 +8,7 @@ use Rattle.rules.specs.Lines.{continuation}
 use Rattle.rules.specs.Grammar.{furtherType}
 use Rattle.rules.specs.Writer as rules
 use Rattle.rules.specs.Writer.{itemFields}
-use Rattle.digits.specs.Kinds.{sumMeant}
+use Rattle.kinds.specs.Kinds.{sumMeant}
 use Rattle.drafts.specs.Drafts.{draftOf}
 use Rattle.turns.specs.States.{writerMeant}
 use Rattle.closing.specs.Closing.{closing}

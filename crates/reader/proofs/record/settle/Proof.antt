@@ -11,7 +11,7 @@ use Rattle.rules.specs.Lines.{linesOf}
 use Rattle.rules.specs.Verdict.{ownLines}
 use Rattle.rules.specs.Order.{groupOpen, accountOpen}
 use Rattle.codes.specs.Meanings.{codeMeant}
-use Rattle.digits.specs.Kinds.{sumMeant}
+use Rattle.kinds.specs.Kinds.{sumMeant}
 use Rattle.checks.specs.Answers.{checkedOf}
 use Rattle.controls.specs.Controls.{summaryMeant}
 use Rattle.reader.specs.Meanings.{stateMeant, Small}

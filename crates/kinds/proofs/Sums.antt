@@ -6,10 +6,10 @@ use mathlib.Core.Bool.{Bool, true, false, cond}
 use lib.Dec.{leb}
 use borrow.Author.Tests.{le-leb, lt-leb, leb-true, leb-false}
 use Rattle.rules.specs.Numbers.{Sum, asSum, _⊕_, magnitudes, most}
-use Rattle.digits.specs.Kinds.{sumMeant, unitsOf, unitsWithin}
-use Rattle.digits.specs.declared.kinds.Units.{Units}
-use Rattle.digits.specs.declared.kinds.UnitsSum.{UnitsSum}
-use Rattle.digits.specs.declared.kinds.UnitsSum.the-variants.{Within, Beyond}
+use Rattle.kinds.specs.Kinds.{sumMeant, unitsOf, unitsWithin}
+use Rattle.kinds.specs.declared.Units.{Units}
+use Rattle.kinds.specs.declared.UnitsSum.{UnitsSum}
+use Rattle.kinds.specs.declared.UnitsSum.the-variants.{Within, Beyond}
 
 -- ---- what an answer says
 

@@ -2,7 +2,7 @@
 ghost use mathlib.Core.Path.{_≡_};
 ghost use Prim.Native.Nat.{_+_, min};
 ghost use Rattle.rules.specs.Numbers.{zeroSum, asSum, _⊕_};
-ghost use Rattle.digits.specs.Kinds.{sumMeant, unitsWithin, mostRecords};
+ghost use Rattle.kinds.specs.Kinds.{sumMeant, unitsWithin, mostRecords};
 
 // The largest sum of magnitudes.
 pub const MOST: u64 = 999_999_999_999_999_999;

@@ -3,9 +3,9 @@ use Prim.Native.Nat.{ℕ}
 use mathlib.Core.Bool.{cond}
 use lib.Dec.{leb}
 use Rattle.rules.specs.Numbers.{Sum, magnitudes, most}
-use Rattle.digits.specs.declared.kinds.Units.{Units}
-use Rattle.digits.specs.declared.kinds.UnitsSum.{UnitsSum}
-use Rattle.digits.specs.declared.kinds.UnitsSum.the-variants.{Within, Beyond}
+use Rattle.kinds.specs.declared.Units.{Units}
+use Rattle.kinds.specs.declared.UnitsSum.{UnitsSum}
+use Rattle.kinds.specs.declared.UnitsSum.the-variants.{Within, Beyond}
 
 -- units as a sum
 abbrev pub sumMeant : Units → Sum

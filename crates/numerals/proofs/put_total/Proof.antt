@@ -4,11 +4,11 @@ use native.Mathlib.Omega.{arith}
 use borrow.Author.Needs.{needs}
 use lib.ListN.{length-set}
 use Rattle.rules.specs.Bytes.{minus}
-use Rattle.digits.specs.Kinds.{sumMeant}
+use Rattle.kinds.specs.Kinds.{sumMeant}
 use Rattle.digits.proofs.Totals.{total-below-zero, total-from-zero}
-use Rattle.digits.proofs.Putting.{put-short, put-first, put-at-most}
-use Rattle.digits.proofs.writing.put_total.Statement.{statement}
-use Rattle.digits.proofs.writing.put_total.Tie as tie
+use Rattle.numerals.proofs.Putting.{put-short, put-first, put-at-most}
+use Rattle.numerals.proofs.put_total.Statement.{statement}
+use Rattle.numerals.proofs.put_total.Tie as tie
 
 returns : tie.Need-returns
 returns c =

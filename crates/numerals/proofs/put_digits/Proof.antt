@@ -2,10 +2,10 @@
 use native.Mathlib.Omega.{arith}
 use borrow.Author.Needs.{needs}
 use lib.ListN.{length-set}
 use Rattle.digits.proofs.DigitStrings.{decimal-some}
-use Rattle.digits.proofs.Putting.{Writing, start, turn, last, one-digit, put-fits, put-short}
-use Rattle.digits.proofs.writing.put_digits.Statement.{statement}
-use Rattle.digits.proofs.writing.put_digits.Tie as tie
+use Rattle.numerals.proofs.Putting.{Writing, start, turn, last, one-digit, put-fits, put-short}
+use Rattle.numerals.proofs.put_digits.Statement.{statement}
+use Rattle.numerals.proofs.put_digits.Tie as tie
 
 abbrev Inv-loop : tie.InvT-loop
 Inv-loop out₀ n k m₀ i₀ out m i = Writing n out₀ out m i

@@ -13,9 +13,9 @@ use lib.Dec.{leb}
 use borrow.Author.Tests.{le-leb, lt-leb}
 use Rattle.rules.specs.Bytes.{Bytes}
 use Rattle.rules.specs.Numbers.{decimal}
-use Rattle.digits.specs.Put.{Put}
+use Rattle.numerals.specs.Put.{Put}
 use Rattle.digits.proofs.Tests.{below-or-from}
 use Rattle.digits.proofs.DigitStrings.{decimal-small, decimal-step, decimal-some, decimal-longer, decimal-at-most}
 
 -- ---- Put by its two cases, and what it says
 

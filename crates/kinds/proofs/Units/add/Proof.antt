@@ -1,9 +1,9 @@
 -- `Units::add` meets its contract. Assumes nothing.
 use native.Mathlib.Omega.{arith}
 use borrow.Author.Needs.{needs}
-use Rattle.digits.proofs.Sums.{sum-within, add-beyond}
-use Rattle.digits.proofs.kinds.Units.add.Statement.{statement}
-use Rattle.digits.proofs.kinds.Units.add.Tie as tie
+use Rattle.kinds.proofs.Sums.{sum-within, add-beyond}
+use Rattle.kinds.proofs.Units.add.Statement.{statement}
+use Rattle.kinds.proofs.Units.add.Tie as tie
 
 returns : tie.Need-returns
 returns c = let a = c .before .args in add-beyond (a .self) (a .minus) (a .n) (omega arith)

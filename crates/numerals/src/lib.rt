@@ -1,11 +1,11 @@
 // Numbers written: their digits without leading zeros, and totals with a minus in front where one is due.
-use crate::kinds::Units;
+use kinds::Units;
 ghost use mathlib.Core.Path.{_≡_};
 ghost use Prim.Native.Nat.{_≤_};
 ghost use lib.ListN.{length};
 ghost use Rattle.rules.specs.Numbers.{decimal, totalBytes};
-ghost use Rattle.digits.specs.Kinds.{sumMeant};
-ghost use Rattle.digits.specs.Put.{Put};
+ghost use Rattle.kinds.specs.Kinds.{sumMeant};
+ghost use Rattle.numerals.specs.Put.{Put};
 
 // How many digits n has.
 pub fn digit_count(n: u64) -> usize

@@ -5,9 +5,9 @@ use native.Mathlib.Omega.{arith}
 use borrow.Author.Needs.{needs}
 use lib.ListN.{length}
 use Rattle.rules.specs.Numbers.{decimal}
 use Rattle.digits.proofs.DigitStrings.{decimal-some, decimal-longer, decimal-at-most}
-use Rattle.digits.proofs.writing.digit_count.Statement.{statement}
-use Rattle.digits.proofs.writing.digit_count.Tie as tie
+use Rattle.numerals.proofs.digit_count.Statement.{statement}
+use Rattle.numerals.proofs.digit_count.Tie as tie
 
 abbrev Inv-loop : tie.InvT-loop
 Inv-loop n m₀ k₀ m k = (k + length (decimal m) ≡ length (decimal n) + 1) × (length (decimal n) ≤ 20)

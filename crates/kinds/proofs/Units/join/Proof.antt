@@ -1,9 +1,9 @@
 -- `Units::join` meets its contract. Assumes nothing.
 use mathlib.Core.Path.{sym, _∙_}
 use borrow.Author.Needs.{needs}
-use Rattle.digits.proofs.Sums.{join-within, join-beyond}
-use Rattle.digits.proofs.kinds.Units.join.Statement.{statement}
-use Rattle.digits.proofs.kinds.Units.join.Tie as tie
+use Rattle.kinds.proofs.Sums.{join-within, join-beyond}
+use Rattle.kinds.proofs.Units.join.Statement.{statement}
+use Rattle.kinds.proofs.Units.join.Tie as tie
 
 returns : tie.Need-returns
 returns c =

@@ -1,0 +1,2 @@
+-- What sums, counts and places mean.
+pub mod Kinds

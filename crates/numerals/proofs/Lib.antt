@@ -1,0 +1,2 @@
+-- Digits put one by one, and bytes put at the front of a slice.
+pub mod Putting
