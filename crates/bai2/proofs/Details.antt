@@ -3,8 +3,8 @@ use Prim.Native.Nat.{ℕ}
 use mathlib.Core.Path.{_≡_, refl}
 use mathlib.Core.Bool.{Bool, true, false}
 use Rattle.rules.specs.Answers as rules
-use Rattle.parts.specs.declared.DetailAnswer.{DetailAnswer}
-use Rattle.parts.specs.Meanings.{oneIf, detailMeant}
+use Rattle.details.specs.declared.DetailAnswer.{DetailAnswer}
+use Rattle.details.specs.Details.{oneIf, detailMeant}
 use Rattle.figures.specs.Figures.{flag}
 
 same-flag : (b : Bool) → flag b ≡ oneIf b

@@ -31,8 +31,9 @@ use Rattle.combining.specs.declared.Combined.{Combined}
 use Rattle.combining.specs.Answers.{combinedMeant}
 use Rattle.parts.specs.declared.Part.{Part}
 use Rattle.parts.specs.declared.Refusal.{Refusal}
-use Rattle.parts.specs.declared.DetailAnswer.{DetailAnswer}
+use Rattle.details.specs.declared.DetailAnswer.{DetailAnswer}
 use Rattle.parts.specs.Meanings as parts
+use Rattle.details.specs.Details as details
 use Rattle.turns.specs.declared.Summary as written-summary
 use Rattle.turns.specs.declared.Phase.{Phase}
 use Rattle.turns.specs.declared.Phase.the-variants as phases
@@ -142,11 +143,11 @@ c-combine-one a b before =
 
 -- ---- parts
 
--- parts::group, account, detail_text: the part's bytes are promised themselves
+-- parts::group, account, details::detail_text: the part's bytes are promised themselves
 pub slice-one : (promised x y : Bytes) → x ≡ promised → y ≡ promised → x ≡ y
 slice-one = one-answer (λ (x : Bytes). x) (λ (x : Bytes). x) (λ x. refl)
 
--- parts::find_group, find_account
+-- parts::find_group, find_account, find_detail
 pub part-one : (promised : rules.PartAnswer) (x y : Part) → parts.partMeant x ≡ promised → parts.partMeant y ≡ promised → x ≡ y
 part-one =
     one-answer parts.partMeant (λ (m : rules.PartAnswer). record { number = m .number; place = record { 0 = m .place }; start = m .start; length = m .len })
@@ -162,7 +163,7 @@ c-part-one =
 pub refusal-one : (number place : ℕ) (x y : Refusal) → (x .number ≡ number) × (x .place .0 ≡ place) → (y .number ≡ number) × (y .place .0 ≡ place) → x ≡ y
 refusal-one number place x y (n, p) (m, q) = ap₂ (λ (a b : ℕ). record { number = a; place = record { 0 = b } }) (n ∙ sym m) (p ∙ sym q)
 
-same-given : (b : Bool) → eqb (parts.oneIf b) 1 ≡ b
+same-given : (b : Bool) → eqb (details.oneIf b) 1 ≡ b
 same-given true = refl
 same-given false = refl
 
@@ -172,7 +173,7 @@ same-detail : (d : DetailAnswer)
       number = d .number;
       place = d .place;
       «type_code» = d .«type_code»;
-      «amount_given» = eqb (parts.oneIf (d .«amount_given»)) 1;
+      «amount_given» = eqb (details.oneIf (d .«amount_given»)) 1;
       amount = d .amount;
       «text_start» = d .«text_start»;
       «text_length» = d .«text_length»;
@@ -191,10 +192,10 @@ same-detail d =
     })
     (same-given (d .«amount_given»))
 
--- parts::detail
-pub detail-one : (promised : rules.DetailAnswer) (x y : DetailAnswer) → parts.detailMeant x ≡ promised → parts.detailMeant y ≡ promised → x ≡ y
+-- details::detail
+pub detail-one : (promised : rules.DetailAnswer) (x y : DetailAnswer) → details.detailMeant x ≡ promised → details.detailMeant y ≡ promised → x ≡ y
 detail-one =
-    one-answer parts.detailMeant
+    one-answer details.detailMeant
     (λ (m : rules.DetailAnswer). record {
       number = m .number;
       place = record { 0 = m .place };

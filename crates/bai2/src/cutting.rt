@@ -65,7 +65,7 @@ pub extern "C" fn bai2_detail_of(
 ) -> DetailFigures
     ensures { λ r. ⌜ detailMeant r ≡ detailOfFile (now (file .entry)) group account detail ⌝ }
 {
-    let d = parts::detail(file, group, account, detail);
+    let d = details::detail(file, group, account, detail);
     let place = d.place;
     DetailFigures {
         number: d.number,

@@ -140,7 +140,7 @@ fn details() {
 fn detail(path: &[u8], g: u64, a: u64, n: u64) {
     let mut file = io::buffer();
     let k = load(path, &mut file);
-    let d = parts::detail(&file[..k], g, a, n);
+    let d = details::detail(&file[..k], g, a, n);
     let place = d.place;
     say(b"detail ");
     say(path);
@@ -153,7 +153,7 @@ fn detail(path: &[u8], g: u64, a: u64, n: u64) {
         figure(d.amount);
     }
     say(b" \"");
-    say(parts::detail_text(&file[..k], g, a, n));
+    say(details::detail_text(&file[..k], g, a, n));
     say(b"\"\n");
 }
 

@@ -1,3 +1,2 @@
--- Laws of cutting and judging fields.
-pub mod Cutting
-pub mod Arms
+-- Laws of judging fields.
+mod Arms

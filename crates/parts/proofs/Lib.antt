@@ -2,4 +2,3 @@
 pub mod Turns
 pub mod Moving
 pub mod Standing
-pub mod Answering

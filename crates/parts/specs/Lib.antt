@@ -1,4 +1,3 @@
 -- What the answers of src/ say, the envelopes that parts are found in, and a detail's text.
 pub mod Meanings
 pub mod Enclosing
-pub mod Texts

@@ -2,19 +2,15 @@
 use codes::Code;
 use kinds::Place;
 use reader::Verdict;
-use seek::Sought;
-use seek::Spot;
-use wants::want;
 ghost use mathlib.Core.Path.{_≡_};
 ghost use Prim.Native.Nat.{_+_, _≤_};
 ghost use lib.ListN.{length};
-ghost use Rattle.rules.specs.Outcome.{numberOf, placeOf, orElse};
+ghost use Rattle.rules.specs.Outcome.{numberOf, placeOf};
 ghost use Rattle.rules.specs.Parts as rules;
-ghost use Rattle.rules.specs.Answers.{partAnswer, groupPart, accountPart, detailOfFile, noDetail};
+ghost use Rattle.rules.specs.Answers.{partAnswer, groupPart, accountPart};
 ghost use Rattle.codes.specs.Meanings.{codeMeant};
-ghost use Rattle.parts.specs.Meanings.{partMeant, detailMeant, Inside, TextStands};
+ghost use Rattle.parts.specs.Meanings.{partMeant, Inside};
 ghost use Rattle.parts.specs.Enclosing.{Finds, FindsWithin};
-ghost use Rattle.parts.specs.Texts.{TextIs};
 
 // A refusal's number and place, or 0 and 0.
 pub struct Refusal {
@@ -28,17 +24,6 @@ pub struct Part {
     pub place: Place,
     pub start: usize,
     pub length: usize,
-}
-
-// A refusal's number and place, or 0 and 0; and a detail's type, whether its amount is given and which, and where its first text piece starts in the file, and its length: 0 where there is none.
-pub struct DetailAnswer {
-    pub number: u64,
-    pub place: Place,
-    pub type_code: u64,
-    pub amount_given: bool,
-    pub amount: u64,
-    pub text_start: usize,
-    pub text_length: usize,
 }
 
 // No part, for this reason.
@@ -122,7 +107,7 @@ pub fn find_account(file: &[u8], g: u64, n: u64) -> Part
 }
 
 // Where the detail of this number in that account stands: its 16, to the end of its last line.
-fn find_detail(file: &[u8], g: u64, a: u64, n: u64) -> Part
+pub fn find_detail(file: &[u8], g: u64, a: u64, n: u64) -> Part
     ensures { λ r. ⌜ (partMeant r ≡ partAnswer (rules.detailPieceAt (now (file .entry)) g a n)) × Inside (now (file .entry)) (partMeant r) ⌝ }
 {
     part_within(
@@ -176,68 +161,4 @@ pub fn account_refusal(file: &[u8], g: u64, n: u64) -> Refusal
         number: part.number,
         place,
     }
-}
-
-// Where the first text piece of the detail from `from` to `to` starts in the file, and its length; 0 and 0 where there is none.
-fn text_in(file: &[u8], from: usize, to: usize) -> Spot
-    requires { ⌜ (from ≤ to) × (to ≤ length (now file)) ⌝ }
-    ensures { λ r. ⌜ TextIs (now (file .entry)) from to r ⌝ }
-{
-    let rec = &file[from..to];
-    let text = seek::seek(rec, want::first_want(Code::Detail), Sought::Text);
-    let start = text.start;
-    let end = start + text.length;
-    if values::is_one_of(&rec[start..end], b'/', b'/') {
-        return Spot {
-            start: 0,
-            length: 0,
-        };
-    }
-    Spot {
-        start: from + start,
-        length: text.length,
-    }
-}
-
-// The detail of this number in that account: reader's refusal, 17.
-pub fn detail(file: &[u8], g: u64, a: u64, n: u64) -> DetailAnswer
-    ensures { λ r. ⌜ (detailMeant r ≡ detailOfFile (now (file .entry)) g a n) × TextStands (now (file .entry)) r (orElse (rules.detailAt (now (file .entry)) g a n) noDetail .textBytes) ⌝ }
-{
-    let part = find_detail(file, g, a, n);
-    let place = part.place;
-    if part.number != 0 {
-        return DetailAnswer {
-            number: part.number,
-            place,
-            type_code: 0,
-            amount_given: false,
-            amount: 0,
-            text_start: 0,
-            text_length: 0,
-        };
-    }
-    let from = part.start;
-    let to = from + part.length;
-    let rec = &file[from..to];
-    let amount = seek::amount_of(rec);
-    let text = text_in(file, from, to);
-    DetailAnswer {
-        number: 0,
-        place,
-        type_code: seek::type_of(rec),
-        amount_given: amount.given,
-        amount: amount.amount,
-        text_start: text.start,
-        text_length: text.length,
-    }
-}
-
-// The detail's first text piece, in the file; empty if none, and when refused.
-pub fn detail_text(file: &[u8], g: u64, a: u64, n: u64) -> &[u8]
-    ensures { λ r. ⌜ now r ≡ orElse (rules.detailAt (now (file .entry)) g a n) noDetail .textBytes ⌝ }
-{
-    let found = detail(file, g, a, n);
-    let from = found.text_start;
-    let to = from + found.text_length;
-    &file[from..to]
 }

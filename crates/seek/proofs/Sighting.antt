@@ -16,9 +16,9 @@ use Rattle.rules.proofs.Tests.{Known, holds, fails, known}
 use Rattle.lines.specs.Cut.{bodyLen, lineLen, firstLine}
 use Rattle.lines.specs.Cutting.{first-of}
 use Rattle.lines.specs.OneRecord.{first-size}
-use Rattle.fields.specs.declared.Cut.the-variants.{Field, Open}
-use Rattle.fields.specs.Lengths.{fieldLen, cutOf}
-use Rattle.fields.proofs.Cutting.{cut-short, cut-open, cut-text}
+use Rattle.lengths.specs.declared.Cut.the-variants.{Field, Open}
+use Rattle.lengths.specs.Lengths.{fieldLen, cutOf}
+use Rattle.lengths.proofs.Cutting.{cut-short, cut-open, cut-text}
 use Rattle.kept.proofs.EachKind.{told}
 use Rattle.lines.proofs.Passing.{take-drop}
 use Rattle.walk.proofs.Parts.{part-slice, part-front}

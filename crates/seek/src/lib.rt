@@ -1,6 +1,6 @@
 // The first field of a kind in a record: where it stands, and its length; and what a detail's type and amount say.
 use codes::Code;
-use fields::Cut;
+use lengths::Cut;
 use wants::Taken;
 use wants::want;
 use wants::want::Want;
@@ -86,7 +86,7 @@ fn seek_line(rest: &[u8], first: Want, sought: Sought) -> Seen
     let mut a: usize = 0;
     loop {
         let text = want::is_text(want);
-        let Cut::Field(n) = fields::cut_field(text, &rest[a..]) else {
+        let Cut::Field(n) = lengths::cut_field(text, &rest[a..]) else {
             return Seen::Lost;
         };
         let f = a + n;

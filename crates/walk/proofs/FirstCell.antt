@@ -12,7 +12,7 @@ use Rattle.rules.specs.Bytes.{Bytes, comma, slash, all}
 use Rattle.rules.specs.Cells.{Mark, atComma, atSlash, atLineEnd, Cell, cellsFrom}
 use Rattle.rules.proofs.Tests.{Known, holds, fails, known, both}
 use Rattle.rules.proofs.CellLaws.{plainByte, cells-comma, cells-slash, cells-end}
-use Rattle.fields.specs.Lengths.{until, isMark, fieldLen}
+use Rattle.lengths.specs.Lengths.{until, isMark, fieldLen}
 
 -- ---- the bytes before the mark, and the mark
 

@@ -18,9 +18,9 @@ use Rattle.lines.specs.Cut.{bodyLen, lineLen, firstLine}
 use Rattle.lines.specs.Cutting.{first-of}
 use Rattle.lines.specs.OneRecord.{first-size}
 use Rattle.wants.specs.Wants.{purpose}
-use Rattle.fields.specs.declared.Cut.the-variants.{Field, Open}
-use Rattle.fields.specs.Lengths.{fieldLen, cutOf}
-use Rattle.fields.proofs.Cutting.{cut-short, cut-open, cut-text, cut-within}
+use Rattle.lengths.specs.declared.Cut.the-variants.{Field, Open}
+use Rattle.lengths.specs.Lengths.{fieldLen, cutOf}
+use Rattle.lengths.proofs.Cutting.{cut-short, cut-open, cut-text, cut-within}
 use Rattle.kept.specs.declared.Kept.{Kept}
 use Rattle.kept.specs.Keeping.{keepRead}
 use Rattle.kept.proofs.EachKind.{told}

@@ -1,7 +1,7 @@
 // The walk over a record's lines and fields: refusals 7, 8 and 9, and what the later checks need.
-use fields::Cut;
 use kept::Kept;
 use kinds::Place;
+use lengths::Cut;
 use wants::Taken;
 use wants::want;
 use wants::want::Want;
@@ -49,7 +49,7 @@ fn walk_lines(rest: &[u8], rec: &[u8], first: Want, before: u64) -> Walked
         }
         loop {
             let text = want::is_text(want);
-            let Cut::Field(n) = fields::cut_field(text, &rec[a..e]) else {
+            let Cut::Field(n) = lengths::cut_field(text, &rec[a..e]) else {
                 break 'walk Walked::Refused(7, Place(e));
             };
             let f = a + n;
@@ -65,7 +65,7 @@ fn walk_lines(rest: &[u8], rec: &[u8], first: Want, before: u64) -> Walked
             }
             a = f + 1;
             if rec[f] == b'/' {
-                let t = a + fields::blanks_len(&rec[a..e]);
+                let t = a + lengths::blanks_len(&rec[a..e]);
                 if t < e {
                     break 'walk Walked::Refused(7, Place(t));
                 }

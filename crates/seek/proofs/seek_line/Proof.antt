@@ -11,16 +11,16 @@ use Rattle.rules.specs.Cells.{cellsFrom}
 use Rattle.rules.specs.Grammar.{Kind, good, takeNext, nextKind, isText}
 use Rattle.wants.specs.Wants.{wantedOf}
 use Rattle.wants.specs.Takes.{judgedOf}
-use Rattle.fields.specs.declared.Cut.the-variants as cut
-use Rattle.fields.specs.Lengths.{cutOf}
-use Rattle.fields.proofs.Cutting.{cut-within}
+use Rattle.lengths.specs.declared.Cut.the-variants as cut
+use Rattle.lengths.specs.Lengths.{cutOf}
+use Rattle.lengths.proofs.Cutting.{cut-within}
 use Rattle.seek.specs.Seeking.{seekCells}
 use Rattle.seek.specs.Meanings.{kindMeant}
 use Rattle.seek.proofs.Sighting.{at-open, short, wrong, hit, past-text, past-slash, past-comma, next-cell}
 use borrow.Author.Needs.{needs}
 use Rattle.seek.proofs.seek_line.Statement.{statement}
 use Rattle.seek.proofs.seek_line.Tie as tie
-use Rattle.fields.proofs.cut_field.Reads as cut-field-reads
+use Rattle.lengths.proofs.cut_field.Reads as cut-field-reads
 use Rattle.fields.proofs.take_field.Reads as take-field-reads
 use Rattle.seek.proofs.is_sought.Reads as is-sought-reads
 use Rattle.wants.proofs.want.is_text.Reads as is-text-reads

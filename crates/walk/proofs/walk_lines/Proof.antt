@@ -17,8 +17,8 @@ use Rattle.lines.specs.Cutting.{run-le}
 use Rattle.lines.proofs.Passing.{next-is, next-within, next-behind}
 use Rattle.wants.specs.Wants.{wantedOf, purpose}
 use Rattle.wants.specs.Takes.{judgedOf}
-use Rattle.fields.specs.declared.Cut.the-variants as cut
-use Rattle.fields.specs.Lengths.{cutOf}
+use Rattle.lengths.specs.declared.Cut.the-variants as cut
+use Rattle.lengths.specs.Lengths.{cutOf}
 use Rattle.kept.specs.declared.Kept.{Kept}
 use Rattle.kept.specs.Keeping.{fresh, keepRead}
 use Rattle.kept.proofs.Adding.{kept-for-nothing}

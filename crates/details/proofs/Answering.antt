@@ -19,9 +19,9 @@ use Rattle.rules.proofs.Tests.{Known, holds, fails, known}
 use Rattle.seek.specs.Seeking.{Found, seekLines, inDetail}
 use Rattle.seek.proofs.Agreeing.{found-is}
 use Rattle.seek.proofs.Sighting.{part-of-part}
-use Rattle.parts.specs.Meanings.{oneIf}
-use Rattle.parts.specs.Texts.{pieceAt}
+use Rattle.details.specs.Details.{oneIf}
+use Rattle.details.specs.Texts.{pieceAt}
 use Rattle.parts.proofs.Standing.{DetailStands, detail-stands, detail-refuses}
 
 -- ---- the text piece
 

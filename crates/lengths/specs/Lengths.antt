@@ -5,8 +5,8 @@ use mathlib.Core.List.{[], _∷_}
 use lib.Dec.{eqb, ltb}
 use lib.ListN.{length}
 use Rattle.rules.specs.Bytes.{Bytes, comma, slash, trimmed}
-use Rattle.fields.specs.declared.Cut.{Cut}
-use Rattle.fields.specs.declared.Cut.the-variants.{Field, Open}
+use Rattle.lengths.specs.declared.Cut.{Cut}
+use Rattle.lengths.specs.declared.Cut.the-variants.{Field, Open}
 
 -- how many bytes stand before the first that passes the test
 unfoldable pub until : (ℕ → Bool) → Bytes → ℕ

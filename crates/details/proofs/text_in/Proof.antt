@@ -7,10 +7,10 @@ use Rattle.rules.specs.Grammar.{text}
 use Rattle.seek.specs.Seeking.{inDetail}
 use Rattle.seek.specs.Meanings.{spotMeant}
 use Rattle.seek.proofs.Reading.{spot-is, spot-bytes}
-use Rattle.parts.proofs.Answering.{no-piece, some-piece}
+use Rattle.details.proofs.Answering.{no-piece, some-piece}
 use borrow.Author.Needs.{needs}
-use Rattle.parts.proofs.text_in.Statement.{statement}
-use Rattle.parts.proofs.text_in.Tie as tie
+use Rattle.details.proofs.text_in.Statement.{statement}
+use Rattle.details.proofs.text_in.Tie as tie
 use Rattle.seek.proofs.seek.Reads as seek-reads
 use Rattle.values.proofs.is_one_of.Reads as is-one-of-reads
 use Rattle.wants.proofs.want.first_want.Reads as first-want-reads

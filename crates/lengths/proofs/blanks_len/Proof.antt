@@ -4,10 +4,10 @@ use mathlib.Core.Path.{_≡_, _∙_}
 use native.Mathlib.Omega.{arith}
 use borrow.Author.Needs.{needs}
 use lib.ListN.{length, drop}
-use Rattle.fields.specs.Lengths.{until}
-use Rattle.fields.proofs.Cutting.{until-stop, until-on, until-end, noBlank, blank-none, blank-here, blanks-until}
-use Rattle.fields.proofs.blanks_len.Statement.{statement}
-use Rattle.fields.proofs.blanks_len.Tie as tie
+use Rattle.lengths.specs.Lengths.{until}
+use Rattle.lengths.proofs.Cutting.{until-stop, until-on, until-end, noBlank, blank-none, blank-here, blanks-until}
+use Rattle.lengths.proofs.blanks_len.Statement.{statement}
+use Rattle.lengths.proofs.blanks_len.Tie as tie
 
 abbrev Inv-loop : tie.InvT-loop
 Inv-loop f i₀ i = (i ≤ length f) × (i + until noBlank (drop i f) ≡ until noBlank f)

@@ -5,9 +5,9 @@ use native.Mathlib.Omega.{arith}
 use borrow.Author.Needs.{needs}
 use lib.ListN.{length, take}
 use Rattle.rules.specs.Bytes.{trimmed}
-use Rattle.fields.proofs.Cutting.{trim-start, trim-stop, trim-on, trim-none}
-use Rattle.fields.proofs.trimmed_len.Statement.{statement}
-use Rattle.fields.proofs.trimmed_len.Tie as tie
+use Rattle.lengths.proofs.Cutting.{trim-start, trim-stop, trim-on, trim-none}
+use Rattle.lengths.proofs.trimmed_len.Statement.{statement}
+use Rattle.lengths.proofs.trimmed_len.Tie as tie
 
 abbrev Inv-loop : tie.InvT-loop
 Inv-loop f n₀ n = (n ≤ length f) × (trimmed (take n f) ≡ trimmed f)

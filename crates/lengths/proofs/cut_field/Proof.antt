@@ -1,11 +1,11 @@
 -- `cut_field` meets its contract. Assumes nothing.
 use mathlib.Core.Path.{ap, sym, _∙_}
 use mathlib.Core.Bool.{Bool}
-use Rattle.fields.specs.Lengths.{cutOf}
-use Rattle.fields.proofs.Cutting.{text-cut, field-cut, open-cut}
+use Rattle.lengths.specs.Lengths.{cutOf}
+use Rattle.lengths.proofs.Cutting.{text-cut, field-cut, open-cut}
 use borrow.Author.Needs.{needs}
-use Rattle.fields.proofs.cut_field.Statement.{statement}
-use Rattle.fields.proofs.cut_field.Tie as tie
+use Rattle.lengths.proofs.cut_field.Statement.{statement}
+use Rattle.lengths.proofs.cut_field.Tie as tie
 
 returns : tie.Need-returns
 returns c =

@@ -4,10 +4,10 @@ use mathlib.Core.Path.{_≡_}
 use native.Mathlib.Omega.{arith}
 use borrow.Author.Needs.{needs}
 use lib.ListN.{length, drop}
-use Rattle.fields.specs.Lengths.{until, isMark}
-use Rattle.fields.proofs.Cutting.{until-stop, until-on, until-end, mark-comma, mark-slash, mark-none}
-use Rattle.fields.proofs.field_len.Statement.{statement}
-use Rattle.fields.proofs.field_len.Tie as tie
+use Rattle.lengths.specs.Lengths.{until, isMark}
+use Rattle.lengths.proofs.Cutting.{until-stop, until-on, until-end, mark-comma, mark-slash, mark-none}
+use Rattle.lengths.proofs.field_len.Statement.{statement}
+use Rattle.lengths.proofs.field_len.Tie as tie
 
 abbrev Inv-loop : tie.InvT-loop
 Inv-loop f i₀ i = (i ≤ length f) × (i + until isMark (drop i f) ≡ until isMark f)

@@ -1,12 +1,12 @@
 use Prim.Native.Nat.{zero-le}
 use native.Mathlib.Omega.{arith}
 use Rattle.parts.specs.Meanings.{partMeant}
-use Rattle.parts.proofs.Answering.{detail-refused, detail-found}
+use Rattle.details.proofs.Answering.{detail-refused, detail-found}
 use borrow.Author.Needs.{needs}
-use Rattle.parts.proofs.detail.Statement.{statement}
-use Rattle.parts.proofs.detail.Tie as tie
+use Rattle.details.proofs.detail.Statement.{statement}
+use Rattle.details.proofs.detail.Tie as tie
 use Rattle.parts.proofs.find_detail.Reads as find-detail-reads
-use Rattle.parts.proofs.text_in.Reads as text-in-reads
+use Rattle.details.proofs.text_in.Reads as text-in-reads
 use Rattle.seek.proofs.amount_of.Reads as amount-of-reads
 use Rattle.seek.proofs.type_of.Reads as type-of-reads
 

@@ -3,9 +3,9 @@ use native.Mathlib.Omega.{arith}
 use mathlib.Core.Path.{_≡_, ap, _∙_}
 use lib.ListN.{take, drop}
 use borrow.Author.Needs.{needs}
-use Rattle.parts.proofs.detail_text.Statement.{statement}
-use Rattle.parts.proofs.detail_text.Tie as tie
-use Rattle.parts.proofs.detail.Reads as detail-reads
+use Rattle.details.proofs.detail_text.Statement.{statement}
+use Rattle.details.proofs.detail_text.Tie as tie
+use Rattle.details.proofs.detail.Reads as detail-reads
 
 add-to : tie.Need-add-to
 add-to c = omega (arith, c .before .detail .ensures .1 .inside, c .before .before .before .good)

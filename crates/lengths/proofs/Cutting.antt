@@ -11,8 +11,8 @@ use lib.Seq.{drop-cons, take-all, take-suc, length-take-le}
 use borrow.Author.Tests.{ne-eqb, ltb-true, ltb-false, lt-ltb, le-ltb}
 use Rattle.rules.specs.Bytes.{Bytes, blank, comma, slash, trimmed, trimmedBefore}
 use Rattle.rules.specs.Cells.{leadingBlanks}
-use Rattle.fields.specs.Lengths.{until, isMark, fieldLen, cutOf}
-use Rattle.fields.specs.declared.Cut.the-variants.{Field, Open}
+use Rattle.lengths.specs.Lengths.{until, isMark, fieldLen, cutOf}
+use Rattle.lengths.specs.declared.Cut.the-variants.{Field, Open}
 
 -- ---- up to the first byte that passes a test
 

@@ -1,0 +1,2 @@
+-- Laws of cutting fields.
+pub mod Cutting
