@@ -6,7 +6,7 @@ use Rattle.rules.specs.Bytes.{Bytes, sameBytes}
 use Rattle.rules.specs.Lines.{Record, groupHeader}
 use Rattle.rules.specs.Parts.{fieldsIn, firstFields, receiverOf}
 use Rattle.groups.specs.Ahead.{Stands}
-use Rattle.groups.specs.Reading.{Names}
+use Rattle.frames.specs.Frames.{Names}
 
 pub named : (name : Bytes) (g : List Record) (s : Stands g) (b : Bool) → Names name (s .is-group .enclosed .header) b → b ≡ sameBytes name (receiverOf g)
 unfolding receiverOf firstFields

@@ -22,7 +22,7 @@ use Rattle.laws.proofs.Summaries.{summary-append, summary-as, lines-counted}
 use Rattle.laws.proofs.WholeLines.{no-more-lines}
 use Rattle.laws.proofs.Kept.{bytes-append, bytes-joined}
 use Rattle.groups.specs.Ahead.{Stands, Tallied}
-use Rattle.groups.specs.Reading.{StatesTotal, StatesRecords}
+use Rattle.frames.specs.Frames.{StatesTotal, StatesRecords}
 
 -- ---- what one group adds
 

@@ -24,7 +24,7 @@ use Rattle.slices.proofs.Writing.{wrote-put}
 use Rattle.laws.proofs.Codes.{of-own, not-of}
 use Rattle.laws.proofs.Kept.{bytes-append}
 use Rattle.groups.specs.Ahead.{Ahead, matching}
-use Rattle.groups.specs.Reading.{Names, StatesTotal, StatesRecords}
+use Rattle.frames.specs.Frames.{Names, StatesTotal, StatesRecords}
 use Rattle.groups.proofs.Extents.{before, last, group-size, Next, next, none}
 use Rattle.groups.proofs.Receivers.{named}
 use Rattle.groups.proofs.Tallies.{Adds, adds, Tallying, tally-add}

@@ -3,16 +3,11 @@ use codes::Code;
 use kinds::Records;
 use kinds::Units;
 use kinds::UnitsSum;
-use seek::Sought;
 ghost use mathlib.Core.Path.{_≡_};
-ghost use Prim.Native.Nat.{_≤_, _<_};
-ghost use lib.ListN.{length, drop};
-ghost use Rattle.rules.specs.Numbers.{_⊕_, asSum, magnitudes, most};
-ghost use Rattle.rules.specs.Lines.{linesOf};
-ghost use Rattle.lines.specs.Cut.{firstRecord};
+ghost use Prim.Native.Nat.{_≤_};
+ghost use Rattle.rules.specs.Numbers.{_⊕_, magnitudes, most};
 ghost use Rattle.kinds.specs.Kinds.{sumMeant};
 ghost use Rattle.groups.specs.Ahead.{Takes};
-ghost use Rattle.groups.specs.Reading.{Names, StatesTotal, StatesRecords};
 
 // What groups add: how many they are, their bytes, their total and their records.
 pub struct Tally {
@@ -20,43 +15,6 @@ pub struct Tally {
     pub bytes: usize,
     pub total: Units,
     pub records: Records,
-}
-
-// The group that starts at `at` is for this name.
-fn is_for(name: &[u8], file: &[u8], at: usize) -> bool
-    requires { ⌜ at < length (now file) ⌝ }
-    ensures { λ r. ⌜ Names (now (name .entry)) (firstRecord (linesOf (drop at (now (file .entry))))) r ⌝ }
-{
-    let e = lines::record_end(file, at);
-    slices::same_bytes(
-        name,
-        seek::field(&file[at..e], Code::GroupHeader, Sought::Receiver),
-    )
-}
-
-// A magnitude as a sum.
-fn signed_units(negative: bool, n: u64) -> Units
-    ensures { λ r. ⌜ sumMeant r ≡ asSum (record { negative = negative; magnitude = n }) ⌝ }
-{
-    if negative {
-        return Units(0, n);
-    }
-    Units(n, 0)
-}
-
-// The total that the 98 in these bytes states.
-fn stated_total(rec: &[u8]) -> Units
-    ensures { λ r. ⌜ StatesTotal (linesOf (now (rec .entry))) (sumMeant r) ⌝ }
-{
-    let total = digits::amount_in(seek::field(rec, Code::GroupTrailer, Sought::Total));
-    signed_units(total.negative, total.magnitude)
-}
-
-// The number of records that the 98 in these bytes states.
-fn stated_records(rec: &[u8]) -> Records
-    ensures { λ r. ⌜ StatesRecords (linesOf (now (rec .entry))) (r .0) ⌝ }
-{
-    Records(digits::value(seek::field(rec, Code::GroupTrailer, Sought::Records)))
 }
 
 // Both sums in one; the first alone where their magnitudes pass the largest.
@@ -82,10 +40,11 @@ pub fn take_groups(name: &[u8], file: &[u8], from: usize, out: &mut [u8]) -> Tal
     while marks::begins_at(file, at, Code::GroupHeader) {
         let last = marks::next_mark(file, at, Code::GroupTrailer, Code::FileTrailer);
         let e = lines::record_end(file, last);
-        if is_for(name, file, at) {
+        let header = lines::record_end(file, at);
+        if frames::is_for(name, &file[at..header]) {
             o += slices::put(&mut out[o..], &file[at..e]);
-            total = added(total, stated_total(&file[last..e]));
-            records = records.add(stated_records(&file[last..e]));
+            total = added(total, frames::stated_total(&file[last..e]));
+            records = records.add(frames::stated_records(&file[last..e]));
             groups += 1;
             bytes += e - at;
         }

@@ -1,3 +1,4 @@
+-- `details::detail` meets its contract. Assumes nothing.
 use Prim.Native.Nat.{zero-le}
 use native.Mathlib.Omega.{arith}
 use Rattle.parts.specs.Meanings.{partMeant}

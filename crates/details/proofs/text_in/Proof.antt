@@ -1,3 +1,4 @@
+-- `details::text_in` meets its contract. Assumes nothing.
 use Prim.Native.Nat.{_+_, _-_, _≤_, zero-le}
 use native.Mathlib.Omega.{arith}
 use mathlib.Core.Path.{_≡_, sym, ap, _∙_}

@@ -1,3 +1,4 @@
+-- `fresh::fresh_trailer` meets its contract. Assumes nothing.
 use native.Mathlib.Omega.{arith}
 use Rattle.kinds.specs.Kinds.{sumMeant}
 use Rattle.fresh.proofs.Lengths.{last-most, whole-last}

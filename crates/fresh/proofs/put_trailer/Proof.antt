@@ -1,3 +1,4 @@
+-- `fresh::put_trailer` meets its contract. Assumes nothing.
 use mathlib.Core.List.{[], _∷_, _++_}
 use Rattle.rules.specs.Bytes.{Bytes, LF, comma, slash}
 use Rattle.rules.specs.Numbers.{decimal, totalBytes}

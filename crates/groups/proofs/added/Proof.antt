@@ -1,3 +1,4 @@
+-- `groups::added` meets its contract. Assumes nothing.
 use native.Mathlib.Omega.{arith}
 use Rattle.rules.specs.Numbers.{_⊕_}
 use Rattle.kinds.specs.Kinds.{sumMeant}

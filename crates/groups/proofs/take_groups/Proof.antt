@@ -1,22 +1,26 @@
-use Prim.Native.Nat.{ℕ, _+_, _-_, _≤_}
+-- `take_groups` meets its contract: turn by turn, what is ahead of the file's groups is what is left to take. Assumes nothing.
+use Prim.Native.Nat.{ℕ, _+_, _-_, _≤_, min}
 use native.Mathlib.Omega.{arith}
-use mathlib.Core.Path.{_≡_, refl, sym, subst, _∙_}
+use mathlib.Core.Path.{_≡_, refl, ap, sym, subst, _∙_}
 use mathlib.Core.Bool.{true, false}
 use mathlib.Core.List.{List, [], _++_}
-use lib.ListN.{length, take, drop}
+use lib.ListN.{length, take, drop, length-drop}
 use Rattle.rules.specs.Bytes.{Bytes, sameBytes}
 use Rattle.rules.specs.Numbers.{Sum, _⊕_, magnitudes, most}
-use Rattle.rules.specs.Lines.{groupHeader, codeBytes, linesOf, Record, recordBytes}
+use Rattle.rules.specs.Lines.{groupHeader, codeBytes, linesOf, Record, recordSize, recordBytes}
+use Rattle.rules.specs.Records.{walkRecord}
 use Rattle.rules.specs.Parts.{groupsIn}
 use Rattle.rules.specs.Combine.{joined}
-use Rattle.kinds.specs.Kinds.{sumMeant}
+use Rattle.kinds.specs.Kinds.{sumMeant, mostRecords}
 use Rattle.numerals.specs.Put.{Put}
 use Rattle.numerals.proofs.Putting.{put-count}
 use Rattle.slices.specs.Wrote.{Wrote}
 use Rattle.slices.proofs.Writing.{wrote-none, wrote-piece, within-rest}
 use Rattle.laws.proofs.CombineSplit.{fewer}
 use Rattle.groups.specs.Ahead.{Ahead, Tallied, matching}
-use Rattle.groups.specs.Reading.{StatesTotal, StatesRecords}
+use Rattle.lines.specs.Cut.{firstRecord}
+use Rattle.lines.specs.OneRecord.{first-part}
+use Rattle.frames.specs.Frames.{Names, StatesTotal, StatesRecords}
 use Rattle.groups.proofs.Tallies.{Tallying, tally-start, tally-end}
 use Rattle.groups.proofs.Turns.{spans, turn-behind, turn-not, turn-bytes, turn-tally, few-lines, in-range, no-more, finished}
 use borrow.Author.Needs.{needs}
@@ -61,6 +65,9 @@ begun c = sym (c .before .before .before .begins-at .ensures) ∙ c .before .bef
 places : (c : Turn) → (at-of c + 3 ≤ last-of c) × (last-of c ≤ end-of c) × (end-of c ≤ length (file-of c)) × (length (take (end-of c - at-of c) (drop (at-of c) (file-of c))) ≡ end-of c - at-of c)
 places c = spans (file-of c) (at-of c) (last-of c) (end-of c) (begun c) (c .before .next-mark .ensures) (c .record-end .ensures)
 
+count-room : (c : Turn) → (c .before .before .before .before .loop .bytes ≤ at-of c) × (at-of c ≤ end-of c) × (end-of c ≤ mostRecords)
+count-room c = let h = places c in (omega (arith, c .before .before .before .before .loop .inv .3), omega arith, omega arith)
+
 behind : (c : Turn) → Ahead (drop (at-of c) (file-of c)) → Ahead (drop (end-of c) (file-of c))
 behind c = turn-behind (file-of c) (at-of c) (last-of c) (end-of c) (begun c) (c .before .next-mark .ensures .0) (c .record-end .ensures .0)
 
@@ -72,15 +79,26 @@ all-of c = matching (name-of c) (drop (c .before .before .before .before .before
 abbrev Asked : Type 0
 Asked = tie.After-is-for Inv-loop μ-loop
 
-module _ (c : Asked) (a : Ahead (drop (at-of (c .before)) (file-of (c .before)))) where
+abbrev turn-of : Asked → Turn
+turn-of c = c .before .before .before
+
+names : (c : Asked) → Names (name-of (turn-of c)) (firstRecord (linesOf (drop (at-of (turn-of c)) (file-of (turn-of c))))) (c .is-for .result)
+names c = λ fs walked.
+    let t = turn-of c in
+    let xs = drop (at-of t) (file-of t) in
+    let e = c .before .before .record-end2 in
+    let size : e .result - at-of t ≡ recordSize (firstRecord (linesOf xs)) = omega (arith, e .ensures .0) in
+    c .is-for .ensures fs (ap (walkRecord groupHeader) (first-part xs (e .result - at-of t) size (omega (arith, length-drop (at-of t) (file-of t), places t))) ∙ walked)
+
+module _ (c : Asked) (a : Ahead (drop (at-of (turn-of c)) (file-of (turn-of c)))) where
   abbrev t : Turn
-  t = c .before
+  t = turn-of c
 
   left-out : c .is-for .result ≡ false → matching (name-of t) (drop (at-of t) (file-of t)) ≡ matching (name-of t) (drop (end-of t) (file-of t))
-  left-out = turn-not (file-of t) (at-of t) (last-of t) (end-of t) (begun t) (t .before .next-mark .ensures .0) (t .record-end .ensures .0) a (name-of t) (c .is-for .result) (c .is-for .ensures)
+  left-out = turn-not (file-of t) (at-of t) (last-of t) (end-of t) (begun t) (t .before .next-mark .ensures .0) (t .record-end .ensures .0) a (name-of t) (c .is-for .result) (names c)
 
   comes-next : c .is-for .result ≡ true → bytesFor (name-of t) (drop (at-of t) (file-of t)) ≡ take (end-of t - at-of t) (drop (at-of t) (file-of t)) ++ bytesFor (name-of t) (drop (end-of t) (file-of t))
-  comes-next = turn-bytes (file-of t) (at-of t) (last-of t) (end-of t) (begun t) (t .before .next-mark .ensures .0) (t .record-end .ensures .0) a (name-of t) (c .is-for .result) (c .is-for .ensures)
+  comes-next = turn-bytes (file-of t) (at-of t) (last-of t) (end-of t) (begun t) (t .before .next-mark .ensures .0) (t .record-end .ensures .0) a (name-of t) (c .is-for .result) (names c)
 
   -- a group more
   module _ (h : c .is-for .result ≡ true) (groups bytes : ℕ) (sum : Sum) (lines : ℕ) (more : Sum) (m : ℕ) (tally : Tallying (all-of t) (matching (name-of t) (drop (at-of t) (file-of t))) groups bytes sum lines)
@@ -90,9 +108,9 @@ module _ (c : Asked) (a : Ahead (drop (at-of (c .before)) (file-of (c .before)))
     one-more =
         let p = t .before .next-mark .ensures .0 in
         let q = t .record-end .ensures .0 in (
-          few-lines (file-of t) (at-of t) (last-of t) (end-of t) (begun t) p q a (name-of t) (c .is-for .result) (c .is-for .ensures) h (all-of t) groups bytes sum lines more m tally said counts,
-          in-range (file-of t) (at-of t) (last-of t) (end-of t) (begun t) p q a (name-of t) (c .is-for .result) (c .is-for .ensures) h (all-of t) groups bytes sum lines more m tally said counts,
-          turn-tally (file-of t) (at-of t) (last-of t) (end-of t) (begun t) p q a (name-of t) (c .is-for .result) (c .is-for .ensures) h (all-of t) groups bytes sum lines more m tally said counts,
+          few-lines (file-of t) (at-of t) (last-of t) (end-of t) (begun t) p q a (name-of t) (c .is-for .result) (names c) h (all-of t) groups bytes sum lines more m tally said counts,
+          in-range (file-of t) (at-of t) (last-of t) (end-of t) (begun t) p q a (name-of t) (c .is-for .result) (names c) h (all-of t) groups bytes sum lines more m tally said counts,
+          turn-tally (file-of t) (at-of t) (last-of t) (end-of t) (begun t) p q a (name-of t) (c .is-for .result) (names c) h (all-of t) groups bytes sum lines more m tally said counts,
         )
 
 -- at the end of a turn that took the group
@@ -101,6 +119,9 @@ Took = tie.After-add Inv-loop μ-loop
 
 abbrev asked-of : Took → Asked
 asked-of c = c .before .before .before .before .before .before .before .before .before .before .before .before
+
+count-kept : (lines m bytes at e : ℕ) → lines ≤ bytes → m ≤ e - at → (bytes ≤ at) × (at ≤ e) × (e ≤ mostRecords) → min (lines + m) mostRecords ≡ lines + m
+count-kept lines m bytes at e few more room = omega (arith, room)
 
 same-tally : (all ahead : List (List Record)) (groups bytes : ℕ) (sum sum′ : Sum) (lines lines′ : ℕ) → sum ≡ sum′ → lines ≡ lines′ → Tallying all ahead groups bytes sum′ lines′ → Tallying all ahead groups bytes sum lines
 same-tally all ahead groups bytes sum sum′ lines lines′ e f tally = rw (e, f) tally
@@ -111,31 +132,31 @@ loop-holds c =
     let xs = drop (a .from) (a .file .now) in
     (omega arith, refl, omega arith, omega arith, omega arith, λ h. (h, tally-start (matching (a .name .now) xs) (omega (arith, fewer 0 (a .name .now) (groupsIn xs) .no-more, h .bounded)), λ room. wrote-none (bytesFor (a .name .now) xs) (a .out .now) room))
 
-is-for-requires : tie.Need-is-for-requires Inv-loop μ-loop
-is-for-requires c κs = omega (arith, places c)
+part-is-for-end : tie.Need-part-is-for-end Inv-loop μ-loop
+part-is-for-end c = omega (arith, places (c .before), c .record-end2 .ensures .1)
 
 part-put-end-2 : tie.Need-part-put-end-2 Inv-loop μ-loop
-part-put-end-2 c = places (c .before .before .before) .2
+part-put-end-2 c = places (turn-of (c .before .before)) .2
 
 part-stated-total-end : tie.Need-part-stated-total-end Inv-loop μ-loop
-part-stated-total-end c = places (c .before .before .before .before .before .before .before) .2
+part-stated-total-end c = places (turn-of (c .before .before .before .before .before .before)) .2
 
 part-stated-records-end : tie.Need-part-stated-records-end Inv-loop μ-loop
-part-stated-records-end c = places (c .before .before .before .before .before .before .before .before .before .before) .2
+part-stated-records-end c = places (turn-of (c .before .before .before .before .before .before .before .before .before)) .2
 
 add-groups : tie.Need-add-groups Inv-loop μ-loop
-add-groups c = let t = asked-of c .before in omega (arith, places t, t .before .before .before .before .loop .inv .2)
+add-groups c = let t = turn-of (asked-of c) in omega (arith, places t, t .before .before .before .before .loop .inv .2)
 
 add-bytes : tie.Need-add-bytes Inv-loop μ-loop
-add-bytes c = let t = asked-of c .before in omega (arith, places t, t .before .before .before .before .loop .inv .3)
+add-bytes c = let t = turn-of (asked-of c) in omega (arith, places t, t .before .before .before .before .loop .inv .3)
 
 loop-less : tie.Need-loop-less Inv-loop μ-loop
-loop-less c = omega (arith, places (asked-of c .before))
+loop-less c = omega (arith, places (turn-of (asked-of c)))
 
 loop-again : tie.Need-loop-again Inv-loop μ-loop
 loop-again c =
     let asked = asked-of c in
-    let t = asked .before in
+    let t = turn-of asked in
     let l = t .before .before .before .before .loop in
     let h = places t in
     let put = c .before .before .before .before .before .before .before .before .put .ensures in
@@ -152,7 +173,7 @@ loop-again c =
           let m = c .before .stated-records .result .0 in
           let (lines, range, next) = one-more asked here is-for (l .groups) (l .bytes) (sumMeant (l .total)) (l .records .0) more m tally (c .before .before .before .before .stated-total .ensures) (c .before .stated-records .ensures) in
           let sum : sumMeant (c .before .before .before .added .result) ≡ sumMeant (l .total) ⊕ more = c .before .before .before .added .ensures range in
-          let count : c .add .result .0 ≡ l .records .0 + m = c .add .ensures ∙ omega (arith, l .inv .3, tally .few) in (
+          let count : c .add .result .0 ≡ l .records .0 + m = c .add .ensures ∙ count-kept (l .records .0) m (l .bytes) (at-of t) (end-of t) (tally .few) lines (count-room t) in (
             behind t here,
             same-tally (all-of t) (matching (name-of t) (drop (end-of t) (file-of t))) (l .groups + 1) (l .bytes + (end-of t - at-of t)) _ _ _ _ sum count next,
             λ room. wrote-piece _ _ (l .o) (take (end-of t - at-of t) (drop (at-of t) (file-of t))) (bytesFor (name-of t) (drop (end-of t) (file-of t))) (l .out) _ _ (rw (comes-next asked here is-for) at (wrote room)) put,
@@ -160,11 +181,11 @@ loop-again c =
     )
 
 loop-less-2 : tie.Need-loop-less-2 Inv-loop μ-loop
-loop-less-2 c = omega (arith, places (c .before .before))
+loop-less-2 c = omega (arith, places (turn-of (c .before)))
 
 loop-again-2 : tie.Need-loop-again-2 Inv-loop μ-loop
 loop-again-2 c =
-    let t = c .before .before in
+    let t = turn-of (c .before) in
     let l = t .before .before .before .before .loop in
     let h = places t in (
       l .inv .0,
@@ -210,7 +231,11 @@ take-groups-spec =
     (λ c κs. search needs)
     (λ c κs. search needs)
     (λ c κs. search needs)
-    is-for-requires
+    (λ c κs. search needs)
+    (λ c. search needs)
+    (λ c. search needs)
+    part-is-for-end
+    (λ c κs. search needs)
     (λ c. search needs)
     (λ c. search needs)
     (λ c. search needs)

@@ -1,3 +1,4 @@
+-- `marks::begins_at` meets its contract. Assumes nothing.
 use mathlib.Core.Path.{ap, _∙_}
 use lib.ListN.{take, drop}
 use Rattle.rules.specs.Bytes.{Bytes, sameBytes}

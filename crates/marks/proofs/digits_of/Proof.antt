@@ -1,3 +1,4 @@
+-- `marks::digits_of` meets its contract. Assumes nothing.
 use mathlib.Core.Path.{sym, ap}
 use Rattle.rules.specs.Lines.{codeBytes}
 use Rattle.codes.specs.Meanings.{codeMeant}

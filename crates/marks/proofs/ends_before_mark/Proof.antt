@@ -1,3 +1,4 @@
+-- `marks::ends_before_mark` meets its contract. Assumes nothing.
 use mathlib.Core.Path.{_∙_}
 use Rattle.marks.specs.Marks.{bytesMeant}
 use Rattle.marks.proofs.Marking.{ends-line, no-end}

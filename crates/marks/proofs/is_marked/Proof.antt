@@ -1,3 +1,4 @@
+-- `marks::is_marked` meets its contract. Assumes nothing.
 use mathlib.Core.Path.{sym, _∙_}
 use borrow.Author.Needs.{needs}
 use Rattle.marks.proofs.is_marked.Statement.{statement}

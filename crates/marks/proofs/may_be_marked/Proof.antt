@@ -1,3 +1,4 @@
+-- `marks::may_be_marked` meets its contract. Assumes nothing.
 use Rattle.marks.specs.Marks.{bytesMeant}
 use Rattle.marks.proofs.Marking.{no-end-quiet}
 use borrow.Author.Needs.{needs}

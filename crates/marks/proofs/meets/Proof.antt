@@ -1,3 +1,4 @@
+-- `marks::meets` meets its contract. Assumes nothing.
 use native.Mathlib.Omega.{arith}
 use Rattle.marks.proofs.Marking.{tests-fail}
 use borrow.Author.Needs.{needs}

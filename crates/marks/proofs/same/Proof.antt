@@ -1,3 +1,4 @@
+-- `marks::same` meets its contract. Assumes nothing.
 use mathlib.Core.Path.{sym}
 use borrow.Author.Tests.{eq-eqb, ne-eqb}
 use Rattle.marks.proofs.same.Statement.{statement}

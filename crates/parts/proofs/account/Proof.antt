@@ -1,3 +1,4 @@
+-- `parts::account` meets its contract. Assumes nothing.
 use native.Mathlib.Omega.{arith}
 use Rattle.rules.specs.Parts.{accountAt}
 use Rattle.rules.specs.Answers.{accountPart}

@@ -1,3 +1,4 @@
+-- `parts::account_refusal` meets its contract. Assumes nothing.
 use mathlib.Core.Path.{ap}
 use Rattle.rules.specs.Answers.{PartAnswer, partAnswer, accountPart}
 use borrow.Author.Needs.{needs}

@@ -1,3 +1,4 @@
+-- `parts::find_account` meets its contract. Assumes nothing.
 use Rattle.rules.specs.Parts.{groupAt, accountAt, accountPieces}
 use Rattle.rules.specs.Answers.{groupPart, accountPart}
 use Rattle.parts.proofs.Standing.{outer-group}

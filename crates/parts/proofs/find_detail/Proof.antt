@@ -1,3 +1,4 @@
+-- `parts::find_detail` meets its contract. Assumes nothing.
 use Rattle.rules.specs.Parts.{accountAt, detailPieceAt, detailPieces}
 use Rattle.rules.specs.Answers.{accountPart}
 use Rattle.parts.proofs.Standing.{outer-account}

@@ -1,3 +1,4 @@
+-- `parts::find_group` meets its contract. Assumes nothing.
 use native.Mathlib.Omega.{arith}
 use mathlib.Core.Path.{sym, ap, subst, _∙_}
 use Rattle.reader.specs.declared.Verdict.{Verdict}

@@ -1,3 +1,4 @@
+-- `parts::group` meets its contract. Assumes nothing.
 use native.Mathlib.Omega.{arith}
 use Rattle.rules.specs.Parts.{groupAt}
 use Rattle.rules.specs.Answers.{groupPart}

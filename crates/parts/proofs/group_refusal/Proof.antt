@@ -1,3 +1,4 @@
+-- `parts::group_refusal` meets its contract. Assumes nothing.
 use mathlib.Core.Path.{ap}
 use Rattle.rules.specs.Answers.{PartAnswer, partAnswer, groupPart}
 use borrow.Author.Needs.{needs}

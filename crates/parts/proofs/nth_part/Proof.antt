@@ -1,3 +1,4 @@
+-- `parts::nth_part` meets its contract. Assumes nothing.
 use Rattle.parts.specs.Meanings.{Inside}
 use Prim.Native.Nat.{ℕ, _-_, _≤_, _<_}
 use native.Mathlib.Omega.{arith}

@@ -1,3 +1,4 @@
+-- `parts::part_within` meets its contract. Assumes nothing.
 use native.Mathlib.Omega.{arith}
 use mathlib.Core.Path.{sym, subst, _∙_}
 use Rattle.codes.specs.Meanings.{codeMeant}

@@ -1,3 +1,4 @@
+-- `seek::amount_of` meets its contract. Assumes nothing.
 use mathlib.Core.Path.{ap, _∙_}
 use mathlib.Core.Bool.{not}
 use Rattle.digits.specs.Reading.{valueOf}

@@ -1,3 +1,4 @@
+-- `seek::field` meets its contract. Assumes nothing.
 use Rattle.seek.specs.Meanings.{kindMeant}
 use Rattle.seek.proofs.Reading.{lent-is}
 use borrow.Author.Needs.{needs}

@@ -1,3 +1,4 @@
+-- `seek::is_sought` meets its contract. Assumes nothing.
 use Rattle.rules.specs.Grammar.{fieldsOf}
 use Rattle.wants.specs.Wants.{wantedOf}
 use Rattle.seek.proofs.Asking.{no-type, no-amount, no-text, no-receiver, no-total, no-records}

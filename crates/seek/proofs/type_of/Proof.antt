@@ -1,3 +1,4 @@
+-- `seek::type_of` meets its contract. Assumes nothing.
 use mathlib.Core.Path.{_∙_}
 use Rattle.seek.proofs.Reading.{type-in}
 use borrow.Author.Needs.{needs}

@@ -1,5 +1,6 @@
-use Rattle.groups.proofs.signed_units.Statement.{statement}
-use Rattle.groups.proofs.signed_units.Tie as tie
+-- `frames::signed_units` meets its contract. Assumes nothing.
+use Rattle.frames.proofs.signed_units.Statement.{statement}
+use Rattle.frames.proofs.signed_units.Tie as tie
 
 -- src/lib.rt:51:9
 returns : tie.Need-returns

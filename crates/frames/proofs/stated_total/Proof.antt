@@ -1,10 +1,11 @@
+-- `frames::stated_total` meets its contract. Assumes nothing.
 use mathlib.Core.Path.{ap, _∙_}
 use Rattle.rules.specs.Numbers.{asSum}
 use Rattle.rules.specs.Lines.{groupTrailer}
 use Rattle.seek.proofs.Reading.{total-in}
 use borrow.Author.Needs.{needs}
-use Rattle.groups.proofs.stated_total.Statement.{statement}
-use Rattle.groups.proofs.stated_total.Tie as tie
+use Rattle.frames.proofs.stated_total.Statement.{statement}
+use Rattle.frames.proofs.stated_total.Tie as tie
 
 returns : tie.Need-returns
 returns c = λ fs walked.
