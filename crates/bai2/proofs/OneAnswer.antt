@@ -17,12 +17,12 @@ use Rattle.rules.specs.Writer as writing
 use Rattle.laws.specs.Words.{Left}
 use Rattle.laws.proofs.OneAnswer.{one-answer}
 use Rattle.kinds.specs.Kinds.{unitsOf}
-use Rattle.controls.specs.declared.Summary.{Summary}
+use Rattle.summaries.specs.declared.Summary.{Summary}
 use Rattle.reader.specs.declared.Verdict.{Verdict}
 use Rattle.reader.specs.declared.Verdict.the-variants.{Accepted, Refused}
 use Rattle.reader.specs.declared.Judged.{Judged}
 use Rattle.reader.specs.declared.Judged.the-variants as judged
-use Rattle.controls.specs.Controls.{summaryMeant}
+use Rattle.summaries.specs.Summaries.{summaryMeant}
 use Rattle.reader.specs.Meanings.{verdictMeant}
 use Rattle.reader.specs.Answers.{JudgedIs}
 use Rattle.splitting.specs.declared.Answer.{Answer}
@@ -34,7 +34,6 @@ use Rattle.parts.specs.declared.Refusal.{Refusal}
 use Rattle.details.specs.declared.DetailAnswer.{DetailAnswer}
 use Rattle.parts.specs.Meanings as parts
 use Rattle.details.specs.Details as details
-use Rattle.turns.specs.declared.Summary as written-summary
 use Rattle.turns.specs.declared.Phase.{Phase}
 use Rattle.turns.specs.declared.Phase.the-variants as phases
 use Rattle.turns.specs.declared.Writer.{Writer}
@@ -52,11 +51,11 @@ use Rattle.figures.specs.Figures.{numbersOf, Reply, replied, replyTo}
 
 -- ---- reading
 
-abbrev fileSummaryOf : totals.Summary → Summary
-fileSummaryOf s = record { total = unitsOf (s .sum); groups = s .groups; accounts = s .accounts; details = s .details; records = record { 0 = s .lines } }
+abbrev summaryOf : totals.Summary → Summary
+summaryOf s = record { total = unitsOf (s .sum); groups = s .groups; accounts = s .accounts; details = s .details; records = record { 0 = s .lines } }
 
 abbrev verdictOf : Outcome totals.Summary → Verdict
-verdictOf (fine s) = Accepted (fileSummaryOf s)
+verdictOf (fine s) = Accepted (summaryOf s)
 verdictOf (refused n p) = Refused n (record { 0 = p })
 
 same-verdict : (v : Verdict) → verdictOf (verdictMeant v) ≡ v
@@ -78,7 +77,7 @@ judgedMeant (judged.Accepted g) = fine (record { summary = summaryMeant (g .summ
 judgedMeant (judged.Refused n p) = refused n (p .0)
 
 abbrev judgedOf : Outcome Known → Judged
-judgedOf (fine k) = judged.Accepted (record { summary = fileSummaryOf (k .summary); limit = k .limit; last = k .last })
+judgedOf (fine k) = judged.Accepted (record { summary = summaryOf (k .summary); limit = k .limit; last = k .last })
 judgedOf (refused n p) = judged.Refused n (record { 0 = p })
 
 same-judged : (v : Judged) → judgedOf (judgedMeant v) ≡ v
@@ -239,9 +238,6 @@ same-phase phases.InGroup = refl
 same-phase phases.BetweenAccounts = refl
 same-phase phases.InAccount = refl
 same-phase phases.Finished = refl
-
-abbrev summaryOf : totals.Summary → written-summary.Summary
-summaryOf s = record { sum = unitsOf (s .sum); groups = s .groups; accounts = s .accounts; details = s .details; lines = record { 0 = s .lines } }
 
 abbrev writerOf : writing.Writer → Writer
 writerOf w =

@@ -12,9 +12,9 @@ use Rattle.rules.specs.Answers.{readAnswer, read}
 use Rattle.laws.proofs.FileTheorems.{magnitudes-bounded}
 use Rattle.kinds.specs.Kinds.{sumMeant}
 use Rattle.kinds.specs.declared.Place.{Place}
-use Rattle.controls.specs.Controls.{summaryMeant}
+use Rattle.summaries.specs.Summaries.{summaryMeant}
 use Rattle.reader.specs.Meanings.{verdictMeant}
-use Rattle.controls.specs.declared.Summary.{Summary}
+use Rattle.summaries.specs.declared.Summary.{Summary}
 use Rattle.reader.specs.declared.Verdict.{Verdict}
 use Rattle.reader.specs.declared.Verdict.the-variants.{Accepted, Refused}
 use Rattle.bai2.proofs.Signs.{difference-kept}

@@ -14,15 +14,16 @@ use Rattle.rules.specs.Writer as rules
 use Rattle.rules.specs.Writer.{sound, phaseAfter}
 use Rattle.kinds.specs.Kinds.{sumMeant}
 use Rattle.readback.proofs.Sound.{Counted, Sound, sound-says, one-few}
-use Rattle.turns.specs.States.{summaryMeant, writerMeant, phaseNumber}
-use Rattle.turns.specs.declared.Summary.{Summary}
+use Rattle.summaries.specs.Summaries.{summaryMeant}
+use Rattle.summaries.specs.declared.Summary.{Summary}
+use Rattle.turns.specs.States.{writerMeant, phaseNumber}
 use Rattle.turns.specs.declared.Writer.{Writer}
 use Rattle.closing.specs.Answers.{Small}
 use Rattle.closing.specs.Closing.{stateAfter}
 
 -- ---- none passes a word
 
-small : (s : Summary) (n : ℕ) → magnitudes (sumMeant (s .sum)) ≤ most → n ≤ 16_777_216 → Counted n (summaryMeant s) → Small s
+small : (s : Summary) (n : ℕ) → magnitudes (sumMeant (s .total)) ≤ most → n ≤ 16_777_216 → Counted n (summaryMeant s) → Small s
 small s n m h c =
     record {
       sum = m;
@@ -80,8 +81,8 @@ account-open groupTrailer = refl
 account-open fileTrailer = refl
 account-open continuation = refl
 
-pub state-is : (w : rules.Writer) (c : Code) (sum : Sum) (items : Bool) (n : ℕ) {p : rules.Phase} {k : ℕ} {in-group : Bool} {this file group account : totals.Summary}
+pub state-is : (w : rules.Writer) (c : Code) (sum : Sum) (items : Bool) (n : ℕ) {p : rules.Phase} {k : ℕ} {in-group : Bool} {this file g a group account : totals.Summary}
     → p ≡ phaseAfter c → k ≡ phaseNumber p → this ≡ adding c sum 1 → in-group ≡ between 2 4 k → file ≡ w .file ⊞ this
-    → group ≡ cond in-group (w .group ⊞ this) noSummary → account ≡ cond (eqb k 4) (w .account ⊞ this) noSummary
+    → g ≡ w .group ⊞ this → a ≡ w .account ⊞ this → group ≡ cond in-group g noSummary → account ≡ cond (eqb k 4) a noSummary
     → record { phase = p; items = items; size = w .size + n; file = file; group = group; account = account } ≡ stateAfter w c sum items n
-state-is w c sum items n e1 e2 e3 e4 e5 e6 e7 = rw (e5, e6, e7, e4, e2, e1, e3, group-open c, account-open c)
+state-is w c sum items n e1 e2 e3 e4 e5 e6 e7 e8 e9 = rw (e5, e8, e9, e6, e7, e4, e2, e1, e3, group-open c, account-open c)

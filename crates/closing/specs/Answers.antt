@@ -5,7 +5,7 @@ use Rattle.rules.specs.Numbers.{magnitudes, most}
 use Rattle.kinds.specs.Kinds.{sumMeant}
 use Rattle.wants.specs.declared.Taken.{Taken}
 use Rattle.wants.specs.declared.Taken.the-variants.{Next, Refused}
-use Rattle.turns.specs.declared.Summary.{Summary}
+use Rattle.summaries.specs.declared.Summary.{Summary}
 use Rattle.turns.specs.declared.Writer.{Writer}
 use Rattle.turns.specs.declared.Written.{Written}
 
@@ -20,8 +20,8 @@ isNext (Refused n) = false
 
 -- no number is so large that two of them pass a word
 pub record Small (s : Summary) : Type 0 where
-  pub sum : magnitudes (sumMeant (s .sum)) ≤ most
+  pub sum : magnitudes (sumMeant (s .total)) ≤ most
   pub groups : s .groups ≤ most
   pub accounts : s .accounts ≤ most
   pub details : s .details ≤ most
-  pub lines : s .lines .0 ≤ most
+  pub lines : s .records .0 ≤ most

@@ -8,7 +8,7 @@ use Rattle.rules.specs.Bytes.{LF}
 use Rattle.rules.specs.Numbers.{Sum, _⊕_, magnitudes, most}
 use Rattle.rules.specs.Outcome.{Outcome, fine, _>>=_, _>>_, check}
 use Rattle.rules.specs.Lines.{Code}
-use Rattle.rules.specs.Totals.{Summary, _⊞_, adding}
+use Rattle.rules.specs.Totals.{_⊞_, adding}
 use Rattle.rules.specs.Order.{groupBehind, accountBehind}
 use Rattle.rules.specs.Verdict.{mostBytes}
 use Rattle.rules.specs.Writer.{Writer, phaseAfter, sound, inTurn, Entry}
@@ -37,10 +37,6 @@ unfoldable pub roomFor : Writer → Sum → ℕ → ℕ → Outcome (Unit {0})
 roomFor w sum n room = do
   check (leb (magnitudes (w .file .sum ⊕ sum)) most) 10 0
   sizeFor (w .size) n room
-
--- what one line adds
-abbrev pub oneLine : Sum → ℕ → ℕ → ℕ → Summary
-oneLine sum groups accounts details = record { sum = sum; groups = groups; accounts = accounts; details = details; lines = 1 }
 
 -- 19; then 20, where the draft is refused; then 10, 18, 15
 unfoldable pub closing : Writer → Code → Outcome Sofar → Sum → Bool → ℕ → Outcome Entry

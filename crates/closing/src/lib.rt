@@ -1,29 +1,30 @@
-// A line written: what it adds, the room that it needs, the state behind it, and the order of refusals.
+// A line written: the room that it needs, the state behind it, and the order of refusals.
 use codes::Code;
 use drafts::Draft;
 use kinds::Place;
 use kinds::Records;
 use kinds::Units;
 use kinds::UnitsSum;
-use turns::Summary;
+use summaries::Summary;
 use turns::Writer;
 use turns::Written;
 use wants::Taken;
 ghost use mathlib.Core.Path.{_≡_};
-ghost use mathlib.Core.Bool.{true, cond};
+ghost use mathlib.Core.Bool.{true};
 ghost use Prim.Native.Nat.{_+_, _≤_};
 ghost use lib.ListN.{length};
 ghost use Rattle.rules.specs.Numbers.{magnitudes, most, _⊕_};
 ghost use Rattle.rules.specs.Outcome.{numberOf};
-ghost use Rattle.rules.specs.Totals.{noSummary, adding, _⊞_};
+ghost use Rattle.rules.specs.Totals.{_⊞_};
 ghost use Rattle.rules.specs.Verdict.{mostBytes};
 ghost use Rattle.rules.specs.Writer.{sound, writtenBy};
 ghost use Rattle.codes.specs.Meanings.{codeMeant};
 ghost use Rattle.kinds.specs.Kinds.{sumMeant};
 ghost use Rattle.drafts.specs.Drafts.{draftOf};
-ghost use Rattle.turns.specs.States.{summaryMeant, writerMeant, writtenMeant};
+ghost use Rattle.summaries.specs.Summaries.{summaryMeant};
+ghost use Rattle.turns.specs.States.{writerMeant, writtenMeant};
 ghost use Rattle.closing.specs.Answers.{refusedBy, isNext, Small};
-ghost use Rattle.closing.specs.Closing.{stateAfter, sizeFor, roomFor, oneLine, closing};
+ghost use Rattle.closing.specs.Closing.{stateAfter, sizeFor, roomFor, closing};
 
 // 10, 18 or 15 where a line of n bytes that adds this sum has no room; 0 where it has.
 fn room_number(w: Writer, sum: Units, n: usize, room: usize) -> u64
@@ -31,7 +32,7 @@ fn room_number(w: Writer, sum: Units, n: usize, room: usize) -> u64
 {
     let size = w.size;
     let f = w.file;
-    let total = f.sum;
+    let total = f.total;
     match total.join(sum) {
         UnitsSum::Beyond => 10,
         UnitsSum::Within(_) => size_number(size.0, n, room),
@@ -54,35 +55,6 @@ fn size_number(size: usize, n: usize, room: usize) -> u64
     0
 }
 
-// Counts and a sum of one line.
-fn line_of(sum: Units, groups: u64, accounts: u64, details: u64) -> Summary
-    ensures { λ r. ⌜ summaryMeant r ≡ oneLine (sumMeant sum) groups accounts details ⌝ }
-{
-    Summary {
-        sum,
-        groups,
-        accounts,
-        details,
-        lines: Records(1),
-    }
-}
-
-// What a line of this code adds, with this sum.
-fn line_summary(code: Code, sum: Units) -> Summary
-    ensures { λ r. ⌜ summaryMeant r ≡ adding (codeMeant code) (sumMeant sum) 1 ⌝ }
-{
-    match code {
-        Code::FileHeader => line_of(sum, 0, 0, 0),
-        Code::GroupHeader => line_of(sum, 1, 0, 0),
-        Code::AccountHeader => line_of(sum, 0, 1, 0),
-        Code::Detail => line_of(sum, 0, 0, 1),
-        Code::AccountTrailer => line_of(sum, 0, 0, 0),
-        Code::GroupTrailer => line_of(sum, 0, 0, 0),
-        Code::FileTrailer => line_of(sum, 0, 0, 0),
-        Code::Continuation => line_of(sum, 0, 0, 0),
-    }
-}
-
 // Two sums in one.
 fn joined_sum(a: Units, b: Units) -> Units
     requires { ⌜ (magnitudes (sumMeant a) ≤ most) × (magnitudes (sumMeant b) ≤ most) ⌝ }
@@ -96,26 +68,15 @@ fn joined(a: Summary, b: Summary) -> Summary
     requires { ⌜ Small a × Small b ⌝ }
     ensures { λ r. ⌜ summaryMeant r ≡ summaryMeant a ⊞ summaryMeant b ⌝ }
 {
-    let m = a.lines;
-    let n = b.lines;
+    let m = a.records;
+    let n = b.records;
     Summary {
-        sum: joined_sum(a.sum, b.sum),
+        total: joined_sum(a.total, b.total),
         groups: a.groups + b.groups,
         accounts: a.accounts + b.accounts,
         details: a.details + b.details,
-        lines: Records(m.0 + n.0),
+        records: Records(m.0 + n.0),
     }
-}
-
-// Two summaries in one where something is open; else none.
-fn joined_if(is_open: bool, a: Summary, b: Summary) -> Summary
-    requires { ⌜ Small a × Small b ⌝ }
-    ensures { λ r. ⌜ summaryMeant r ≡ cond is_open (summaryMeant a ⊞ summaryMeant b) noSummary ⌝ }
-{
-    if is_open {
-        return joined(a, b);
-    }
-    turns::no_summary()
 }
 
 // The state behind a line of n bytes that has room.
@@ -126,14 +87,17 @@ fn after_line(w: Writer, code: Code, sum: Units, items: bool, n: usize) -> Write
     let size = w.size;
     let phase = turns::phase_after(code);
     let p = turns::phase_number(phase);
-    let this = line_summary(code, sum);
+    let this = summaries::adding(code, sum, Records(1));
+    let file = joined(w.file, this);
+    let group = joined(w.group, this);
+    let account = joined(w.account, this);
     Writer {
         phase,
         items,
         size: Place(size.0 + n),
-        file: joined(w.file, this),
-        group: joined_if(turns::is_between(p, 2, 4), w.group, this),
-        account: joined_if(p == 4, w.account, this),
+        file,
+        group: summaries::while_open(turns::is_between(p, 2, 4), group),
+        account: summaries::while_open(p == 4, account),
     }
 }
 

@@ -31,7 +31,7 @@ use Rattle.laws.proofs.CallTheorems.{combined-by-slices}
 use Rattle.groups.proofs.Records.{records-drop, records-take, records-fit, sizes-append, lines-are}
 use Rattle.groups.proofs.Opening.{Opened, opened}
 use Rattle.reader.specs.declared.GoodFile.{GoodFile}
-use Rattle.controls.specs.Controls.{summaryMeant}
+use Rattle.summaries.specs.Summaries.{summaryMeant}
 use Rattle.reader.specs.Answers.{IsGood}
 use Rattle.combining.specs.Answers.{combinedResult, combinedFitting, combinedAccepted}
 

@@ -22,7 +22,7 @@ ghost use Rattle.rules.specs.Combine as rules;
 ghost use Rattle.kinds.specs.Kinds.{sumMeant};
 ghost use Rattle.numerals.specs.Put.{Put};
 ghost use Rattle.lines.specs.Cut.{firstRecord};
-ghost use Rattle.controls.specs.Controls.{summaryMeant};
+ghost use Rattle.summaries.specs.Summaries.{summaryMeant};
 ghost use Rattle.reader.specs.Answers.{IsGood};
 ghost use Rattle.combining.specs.Answers.{combinedMeant, combinedAccepted, combinedFitting};
 

@@ -1,23 +1,11 @@
--- What a summary says, and what a trailer must say, with what the walk keeps in place of its fields. Assumes nothing.
+-- What a trailer must say (14, 11, 12, 13), with what the walk keeps in place of its fields. Assumes nothing.
 use Prim.Native.Nat.{ℕ}
 use lib.Dec.{eqb}
 use Rattle.rules.specs.Outcome.{Outcome, fine, _>>_, check}
 use Rattle.rules.specs.Numbers.{asSum, equals, withinMost}
 use Rattle.rules.specs.Lines.{Code, fileHeader, groupHeader, accountHeader, detail, accountTrailer, groupTrailer, fileTrailer, continuation}
 use Rattle.rules.specs.Totals as totals
-use Rattle.kinds.specs.Kinds.{sumMeant}
 use Rattle.kept.specs.declared.Kept.{Kept}
-use Rattle.controls.specs.declared.Summary.{Summary}
-
--- the summary of no records
-abbrev pub nothingYet : Summary
-nothingYet = record { total = record { 0 = 0; 1 = 0 }; groups = 0; accounts = 0; details = 0; records = record { 0 = 0 } }
-
-abbrev pub summaryMeant : Summary → totals.Summary
-summaryMeant s =
-    record { sum = sumMeant (s .total); groups = s .groups; accounts = s .accounts; details = s .details; lines = s .records .0 }
-
--- ---- 14, 11, 12, 13
 
 unfoldable pub withinK : totals.Summary → Kept → Outcome (Unit {0})
 withinK s k = check (withinMost (s .sum)) 14 (k .total .at .0)

@@ -1,2 +1,2 @@
--- What a summary says, and what a trailer must say.
+-- What a trailer must say.
 pub mod Controls

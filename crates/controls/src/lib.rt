@@ -1,77 +1,14 @@
-// What a trailer is held to: the summary of what it encloses, what each record adds to it, and refusals 14, 11, 12 and 13.
+// What a trailer is held to against the summary of what it encloses: refusals 14, 11, 12 and 13.
 use checks::Checked;
 use codes::Code;
 use kept::Kept;
 use kinds::MOST;
-use kinds::Records;
-use kinds::Units;
+use summaries::Summary;
 ghost use mathlib.Core.Path.{_≡_};
-ghost use mathlib.Core.Bool.{cond};
-ghost use Rattle.rules.specs.Totals.{noSummary};
-ghost use Rattle.rules.specs.Totals as totals;
 ghost use Rattle.codes.specs.Meanings.{codeMeant};
-ghost use Rattle.kinds.specs.Kinds.{sumMeant};
 ghost use Rattle.checks.specs.Answers.{checkedOf};
-ghost use Rattle.controls.specs.Controls.{nothingYet, summaryMeant, withinK, totalK, countK, recordsK, trailerK, accountK, balancedK};
-
-// A file's total and its numbers of groups, accounts, details and records; likewise a group's, an account's, a record's.
-pub struct Summary {
-    pub total: Units,
-    pub groups: u64,
-    pub accounts: u64,
-    pub details: u64,
-    pub records: Records,
-}
-
-// ---- summaries
-
-// The summary of no records.
-pub fn no_summary() -> Summary
-    ensures { λ r. ⌜ r ≡ nothingYet ⌝ }
-{
-    Summary {
-        total: Units(0, 0),
-        groups: 0,
-        accounts: 0,
-        details: 0,
-        records: Records(0),
-    }
-}
-
-// 1 where the codes are the same, else 0.
-fn one(code: Code, of: Code) -> u64
-    ensures { λ r. ⌜ r ≡ totals.one (codeMeant code) (codeMeant of) ⌝ }
-{
-    if order::same_code(code, of) {
-        return 1;
-    }
-    0
-}
-
-// What so many lines of a record of this code add, with this sum of amounts.
-pub fn adding(code: Code, total: Units, records: Records) -> Summary
-    ensures { λ r. ⌜ summaryMeant r ≡ totals.adding (codeMeant code) (sumMeant total) (records .0) ⌝ }
-{
-    Summary {
-        total,
-        groups: one(code, Code::GroupHeader),
-        accounts: one(code, Code::AccountHeader),
-        details: one(code, Code::Detail),
-        records,
-    }
-}
-
-// The summary of a group or account that is open; none where it is not.
-pub fn while_open(is_open: bool, summary: Summary) -> Summary
-    ensures { λ r. ⌜ summaryMeant r ≡ cond is_open (summaryMeant summary) noSummary ⌝ }
-{
-    if is_open {
-        return summary;
-    }
-    no_summary()
-}
-
-// ---- trailers
+ghost use Rattle.summaries.specs.Summaries.{summaryMeant};
+ghost use Rattle.controls.specs.Controls.{withinK, totalK, countK, recordsK, trailerK, accountK, balancedK};
 
 // 14: a group's or file's sum, at the total.
 fn sum_within(s: Summary, kept: Kept) -> Checked

@@ -5,15 +5,16 @@ use drafts::MaybeCount;
 use kinds::Place;
 use kinds::Records;
 use kinds::Units;
+use summaries::Summary;
 use turns::Phase;
-use turns::Summary;
 use turns::Writer;
 use turns::Written;
 ghost use mathlib.Core.Path.{_≡_};
 ghost use mathlib.Core.List.{[]};
 ghost use Rattle.digits.specs.Reading.{amountMeant};
 ghost use Rattle.drafts.specs.Drafts.{amountGiven, countGiven};
-ghost use Rattle.turns.specs.States.{summaryMeant, phaseMeant, writerMeant, writtenMeant};
+ghost use Rattle.summaries.specs.Summaries.{summaryMeant};
+ghost use Rattle.turns.specs.States.{phaseMeant, writerMeant, writtenMeant};
 ghost use Rattle.figures.specs.Figures.{summaryOf, figuresOf, phaseOf, phaseFigure, flag, sizeOf, stateOf, numbersOf, numbersBehind, answerOf, signedOf, amountAsked, countAsked};
 
 // A summary in figures.
@@ -54,11 +55,11 @@ fn summary_of(f: Figures) -> Summary
     ensures { λ r. ⌜ summaryMeant r ≡ summaryOf f ⌝ }
 {
     Summary {
-        sum: Units(f.pluses, f.minuses),
+        total: Units(f.pluses, f.minuses),
         groups: f.groups,
         accounts: f.accounts,
         details: f.details,
-        lines: Records(f.lines),
+        records: Records(f.lines),
     }
 }
 
@@ -66,15 +67,15 @@ fn summary_of(f: Figures) -> Summary
 fn figures_of(s: Summary) -> Figures
     ensures { λ r. ⌜ r ≡ figuresOf (summaryMeant s) ⌝ }
 {
-    let sum = s.sum;
-    let lines = s.lines;
+    let total = s.total;
+    let records = s.records;
     Figures {
-        pluses: sum.0,
-        minuses: sum.1,
+        pluses: total.0,
+        minuses: total.1,
         groups: s.groups,
         accounts: s.accounts,
         details: s.details,
-        lines: lines.0,
+        lines: records.0,
     }
 }
 

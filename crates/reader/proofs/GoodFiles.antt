@@ -12,7 +12,7 @@ use Rattle.rules.specs.Verdict.{start, judge, mostBytes}
 use Rattle.rules.specs.Parts.{headerIn, groupsIn}
 use Rattle.rules.specs.Combine.{joined}
 use Rattle.laws.proofs.Groups.{decomposed, limit-is}
-use Rattle.controls.specs.Controls.{summaryMeant}
+use Rattle.summaries.specs.Summaries.{summaryMeant}
 use Rattle.reader.specs.Meanings.{stateMeant, Held}
 use Rattle.reader.specs.Running.{runFrom, lastStart, lastFrom, last-of, judge-end}
 use Rattle.reader.specs.Answers.{EndIs, IsGood, JudgedIs}

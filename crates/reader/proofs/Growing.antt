@@ -8,9 +8,9 @@ use Rattle.rules.specs.Lines.{Code, sameCode, groupHeader, accountHeader, detai
 use Rattle.rules.specs.Totals.{_⊞_, adding, noSummary}
 use Rattle.rules.specs.Totals as totals
 use Rattle.rules.specs.Verdict.{mostBytes}
-use Rattle.controls.specs.Controls.{summaryMeant}
+use Rattle.summaries.specs.Summaries.{summaryMeant}
 use Rattle.reader.specs.Meanings.{Small, Below, Counted, Held}
-use Rattle.controls.specs.declared.Summary.{Summary}
+use Rattle.summaries.specs.declared.Summary.{Summary}
 use Rattle.reader.specs.declared.state.State.{State}
 
 -- ---- in range

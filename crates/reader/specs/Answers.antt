@@ -14,7 +14,7 @@ use Rattle.kinds.specs.Kinds.{sumMeant}
 use Rattle.lines.specs.Cut.{firstRecord}
 use Rattle.kept.specs.declared.Kept.{Kept}
 use Rattle.kept.specs.Keeping.{Within}
-use Rattle.controls.specs.Controls.{summaryMeant}
+use Rattle.summaries.specs.Summaries.{summaryMeant}
 use Rattle.reader.specs.Meanings.{stateMeant, Held}
 use Rattle.reader.specs.Stepping.{settledK}
 use Rattle.reader.specs.Running.{atEnd}

@@ -5,8 +5,8 @@ use Rattle.rules.specs.Numbers.{most}
 use Rattle.rules.specs.Totals as totals
 use Rattle.rules.specs.Verdict as verdict
 use Rattle.order.specs.Expecting.{expectedMeant}
-use Rattle.controls.specs.declared.Summary.{Summary}
-use Rattle.controls.specs.Controls.{summaryMeant}
+use Rattle.summaries.specs.declared.Summary.{Summary}
+use Rattle.summaries.specs.Summaries.{summaryMeant}
 use Rattle.reader.specs.declared.state.State.{State}
 use Rattle.reader.specs.declared.Verdict.{Verdict}
 use Rattle.reader.specs.declared.Verdict.the-variants.{Accepted, Refused}

@@ -1,8 +1,8 @@
 // A file's verdict: `record` holds one record's checks in their order, `state` what is known between two records, and this file 1, 2 and a missing 99.
 use crate::record::Stepped;
 use crate::state::State;
-use controls::Summary;
 use kinds::Place;
+use summaries::Summary;
 ghost use mathlib.Core.Path.{_≡_};
 ghost use Rattle.rules.specs.Verdict.{judge};
 ghost use Rattle.reader.specs.Meanings.{verdictMeant};

@@ -72,7 +72,7 @@ fn settle(st: State, rec: &[u8], code: Code, records: Records, kept: Kept) -> Se
         return Settled::Refused(10, past);
     }
     let sum = kept.sum;
-    let this = controls::adding(code, sum, records);
+    let this = summaries::adding(code, sum, records);
     let old_file = st.file;
     let old_group = st.group;
     let old_account = st.account;
@@ -87,8 +87,8 @@ fn settle(st: State, rec: &[u8], code: Code, records: Records, kept: Kept) -> Se
         expected: order::expected_after(code),
         limit,
         file,
-        group: controls::while_open(order::group_open(code), group),
-        account: controls::while_open(order::account_open(code), account),
+        group: summaries::while_open(order::group_open(code), group),
+        account: summaries::while_open(order::account_open(code), account),
     })
 }
 

@@ -1,13 +1,13 @@
 // What is known between two records: what may come next, the longest line, and the summaries of the file, the open group and the open account.
 use codes::Code;
-use controls::Summary;
 use kinds::Records;
 use kinds::Units;
 use order::Expected;
+use summaries::Summary;
 ghost use mathlib.Core.Path.{_≡_};
 ghost use Rattle.rules.specs.Totals.{_⊞_};
 ghost use Rattle.rules.specs.Verdict as verdict;
-ghost use Rattle.controls.specs.Controls.{summaryMeant};
+ghost use Rattle.summaries.specs.Summaries.{summaryMeant};
 ghost use Rattle.reader.specs.Meanings.{stateMeant, Small, Held};
 
 pub const LONGEST_LINE: usize = 4096;
@@ -24,7 +24,7 @@ pub struct State {
 pub fn start() -> State
     ensures { λ r. ⌜ (stateMeant r ≡ verdict.start) × Held r × (r .file .records .0 ≡ 0) ⌝ }
 {
-    let none = controls::no_summary();
+    let none = summaries::no_summary();
     State {
         expected: Expected::One(Code::FileHeader),
         limit: LONGEST_LINE,

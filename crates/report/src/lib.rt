@@ -1,9 +1,9 @@
 // Reads a file of up to 65,536 bytes and writes one line: its summary, its refusal, or that it is too long.
-use controls::Summary;
 use kinds::Place;
 use kinds::Units;
 use libc::STDOUT_FILENO;
 use reader::Verdict;
+use summaries::Summary;
 
 // The line for what can be read from fd.
 pub fn judge_input(fd: i32) {

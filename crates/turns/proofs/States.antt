@@ -1,4 +1,4 @@
--- States: the first one, their tests and turns, case by case. Assumes nothing.
+-- States: their tests and turns, case by case. Assumes nothing.
 use mathlib.Core.Path.{_≡_, refl}
 use mathlib.Core.Bool.{Bool, true, false, _&&_}
 use Prim.Native.Nat.{ℕ, _+_, _-_, _≤_, _<_}
@@ -7,17 +7,10 @@ use lib.Dec.{leb, eqb}
 use borrow.Author.Tests.{le-leb, lt-leb, leb-true, leb-false}
 use Rattle.rules.specs.Bytes.{between, sameBytes}
 use Rattle.rules.specs.Lines.{fileHeader, groupHeader, accountHeader, detail, accountTrailer, groupTrailer, fileTrailer}
-use Rattle.rules.specs.Totals.{Summary, noSummary}
 use Rattle.rules.specs.Order.{among}
-use Rattle.rules.specs.Writer.{freshWriter, Phase, fresh, betweenGroups, inGroup, inAccount, betweenAccounts, finished, expectedIn}
+use Rattle.rules.specs.Writer.{Phase, fresh, betweenGroups, inGroup, inAccount, betweenAccounts, finished, expectedIn}
 use Rattle.rules.proofs.Tests.{Known, holds, fails, known}
 use Rattle.turns.specs.States.{phaseNumber}
-
--- ---- the first state
-
-pub fresh-is : {file group account : Summary} → file ≡ noSummary → group ≡ noSummary → account ≡ noSummary
-    → record { phase = fresh; items = false; size = 0; file = file; group = group; account = account } ≡ freshWriter
-fresh-is f g a = rw (f, g, a)
 
 -- ---- a chain of tests
 

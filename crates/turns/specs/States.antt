@@ -1,17 +1,12 @@
 -- The states and answers of src/ as those of the rules, and numbers for phases. Assumes nothing.
 use Prim.Native.Nat.{ℕ}
 use Rattle.rules.specs.Bytes.{Bytes}
-use Rattle.rules.specs.Totals as totals
 use Rattle.rules.specs.Writer as rules
-use Rattle.kinds.specs.Kinds.{sumMeant}
-use Rattle.turns.specs.declared.Summary.{Summary}
+use Rattle.summaries.specs.Summaries.{summaryMeant}
 use Rattle.turns.specs.declared.Phase.{Phase}
 use Rattle.turns.specs.declared.Phase.the-variants as phases
 use Rattle.turns.specs.declared.Writer.{Writer}
 use Rattle.turns.specs.declared.Written.{Written}
-
-abbrev pub summaryMeant : Summary → totals.Summary
-summaryMeant s = record { sum = sumMeant (s .sum); groups = s .groups; accounts = s .accounts; details = s .details; lines = s .lines .0 }
 
 abbrev pub phaseMeant : Phase → rules.Phase
 phaseMeant phases.Fresh = rules.fresh

@@ -2,33 +2,24 @@
 // which line is in turn.
 use codes::Code;
 use kinds::Place;
-use kinds::Records;
 use kinds::Units;
+use summaries::Summary;
 ghost use mathlib.Core.Path.{_≡_};
 ghost use mathlib.Core.Bool.{_&&_};
 ghost use lib.Dec.{leb};
 ghost use Rattle.rules.specs.Bytes.{between};
 ghost use Rattle.rules.specs.Numbers.{magnitudes};
-ghost use Rattle.rules.specs.Totals.{noSummary};
 ghost use Rattle.rules.specs.Writer.{freshWriter, counted, sound, inTurn, phaseAfter};
 ghost use Rattle.codes.specs.Meanings.{codeMeant};
 ghost use Rattle.kinds.specs.Kinds.{sumMeant};
-ghost use Rattle.turns.specs.States.{summaryMeant, phaseMeant, writerMeant, phaseNumber};
+ghost use Rattle.summaries.specs.Summaries.{summaryMeant};
+ghost use Rattle.turns.specs.States.{phaseMeant, writerMeant, phaseNumber};
 
 // A file's most bytes.
 pub const MOST_BYTES: usize = 16_777_216;
 
 // The largest sum of magnitudes.
 const MOST: u64 = 999_999_999_999_999_999;
-
-// The sum of the amounts, and the counts, of the file, of the open group or of the open account.
-pub struct Summary {
-    pub sum: Units,
-    pub groups: u64,
-    pub accounts: u64,
-    pub details: u64,
-    pub lines: Records,
-}
 
 // What was written last: nothing; 01 or 98; 02; 49; 03, 88 or 16; 99.
 pub enum Phase {
@@ -58,31 +49,19 @@ pub struct Written {
     pub writer: Writer,
 }
 
-// A summary of nothing.
-pub fn no_summary() -> Summary
-    ensures { λ r. ⌜ summaryMeant r ≡ noSummary ⌝ }
-{
-    Summary {
-        sum: Units(0, 0),
-        groups: 0,
-        accounts: 0,
-        details: 0,
-        lines: Records(0),
-    }
-}
-
 impl Writer {
     // A writer that has written nothing.
     pub fn new() -> Writer
         ensures { λ r. ⌜ writerMeant r ≡ freshWriter ⌝ }
     {
+        let none = summaries::no_summary();
         Writer {
             phase: Phase::Fresh,
             items: false,
             size: Place(0),
-            file: no_summary(),
-            group: no_summary(),
-            account: no_summary(),
+            file: none,
+            group: none,
+            account: none,
         }
     }
 }
@@ -93,7 +72,7 @@ impl Writer {
 fn counts_within(s: Summary, n: u64) -> bool
     ensures { λ r. ⌜ r ≡ counted n (summaryMeant s) ⌝ }
 {
-    let lines = s.lines;
+    let records = s.records;
     if n < s.groups {
         return false;
     }
@@ -103,7 +82,7 @@ fn counts_within(s: Summary, n: u64) -> bool
     if n < s.details {
         return false;
     }
-    lines.0 <= n
+    records.0 <= n
 }
 
 // The magnitudes of a sum add up to at most n.
@@ -127,15 +106,15 @@ pub fn is_sound(w: Writer) -> bool
     if MOST_BYTES < size.0 {
         return false;
     }
-    if !sum_within(f.sum, MOST) {
+    if !sum_within(f.total, MOST) {
         return false;
     }
-    let sum = f.sum;
+    let sum = f.total;
     let m = sum.0 + sum.1;
-    if !sum_within(g.sum, m) {
+    if !sum_within(g.total, m) {
         return false;
     }
-    if !sum_within(a.sum, m) {
+    if !sum_within(a.total, m) {
         return false;
     }
     let n = size.0 as u64;

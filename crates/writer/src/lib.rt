@@ -152,9 +152,9 @@ pub fn end_account(w: Writer, out: &mut [u8]) -> Written
     ensures { λ r. ⌜ writtenMeant r (now (out .exit)) ≡ rules.write (writerMeant w) rules.accountEnd (now (out .entry)) ⌝ }
 {
     let account = w.account;
-    let records = account.lines.add(Records(1));
+    let records = account.records.add(Records(1));
     let mut space = drafts::line_space();
-    let d = entries::account_end(&mut space, account.sum, records.0);
+    let d = entries::account_end(&mut space, account.total, records.0);
     closing::finish(
         w,
         Code::AccountTrailer,
@@ -171,12 +171,12 @@ pub fn end_group(w: Writer, out: &mut [u8]) -> Written
     ensures { λ r. ⌜ writtenMeant r (now (out .exit)) ≡ rules.write (writerMeant w) rules.groupEnd (now (out .entry)) ⌝ }
 {
     let group = w.group;
-    let records = group.lines.add(Records(1));
+    let records = group.records.add(Records(1));
     let mut space = drafts::line_space();
     let d = entries::trailer(
         &mut space,
         Code::GroupTrailer,
-        group.sum,
+        group.total,
         group.accounts,
         records.0,
     );
@@ -188,12 +188,12 @@ pub fn end_file(w: Writer, out: &mut [u8]) -> Written
     ensures { λ r. ⌜ writtenMeant r (now (out .exit)) ≡ rules.write (writerMeant w) rules.fileEnd (now (out .entry)) ⌝ }
 {
     let file = w.file;
-    let records = file.lines.add(Records(1));
+    let records = file.records.add(Records(1));
     let mut space = drafts::line_space();
     let d = entries::trailer(
         &mut space,
         Code::FileTrailer,
-        file.sum,
+        file.total,
         file.groups,
         records.0,
     );

@@ -2,22 +2,31 @@
 use Rattle.codes.specs.Meanings.{codeMeant}
 use Rattle.kinds.specs.Kinds.{sumMeant}
 use Rattle.turns.specs.States.{writerMeant}
+use Rattle.closing.specs.Answers.{Small}
 use Rattle.closing.proofs.Sums.{small-file, small-group, small-account, small-line, state-is}
 use borrow.Author.Needs.{needs}
 use Rattle.closing.proofs.after_line.Statement.{statement}
 use Rattle.closing.proofs.after_line.Tie as tie
 
+-- what the line adds
+this-small : (c : tie.After-adding) → Small (c .adding .result)
+this-small c =
+    small-line (c .adding .result) (codeMeant (c .before .before .before .before .args .code)) (sumMeant (c .before .before .before .before .args .sum)) (c .adding .ensures) (c .before .before .before .before .pre .1)
+
 joined-requires : tie.Need-joined-requires
-joined-requires c κs = (small-file (c .before .before .before .before .before .args .w) (c .before .before .before .before .before .pre .0), small-line (c .before .line-summary .result) (codeMeant (c .before .before .before .before .before .args .code)) (sumMeant (c .before .before .before .before .before .args .sum)) (c .before .line-summary .ensures) (c .before .before .before .before .before .pre .1))
+joined-requires c κs = (small-file (c .before .before .before .before .args .w) (c .before .before .before .before .pre .0), this-small c)
 
-joined-if-requires : tie.Need-joined-if-requires
-joined-if-requires c κs = (small-group (c .before .before .before .before .before .before .before .args .w) (c .before .before .before .before .before .before .before .pre .0), small-line (c .before .before .before .line-summary .result) (codeMeant (c .before .before .before .before .before .before .before .args .code)) (sumMeant (c .before .before .before .before .before .before .before .args .sum)) (c .before .before .before .line-summary .ensures) (c .before .before .before .before .before .before .before .pre .1))
+joined-requires-2 : tie.Need-joined-requires-2
+joined-requires-2 c κs = (small-group (c .before .before .before .before .before .args .w) (c .before .before .before .before .before .pre .0), this-small (c .before))
 
-joined-if-requires-2 : tie.Need-joined-if-requires-2
-joined-if-requires-2 c κs = (small-account (c .before .before .before .before .before .before .before .before .args .w) (c .before .before .before .before .before .before .before .before .pre .0), small-line (c .before .before .before .before .line-summary .result) (codeMeant (c .before .before .before .before .before .before .before .before .args .code)) (sumMeant (c .before .before .before .before .before .before .before .before .args .sum)) (c .before .before .before .before .line-summary .ensures) (c .before .before .before .before .before .before .before .before .pre .1))
+joined-requires-3 : tie.Need-joined-requires-3
+joined-requires-3 c κs = (small-account (c .before .before .before .before .before .before .args .w) (c .before .before .before .before .before .before .pre .0), this-small (c .before .before))
 
 returns : tie.Need-returns
-returns c = state-is (writerMeant (c .before .before .before .before .before .before .before .before .before .args .w)) (codeMeant (c .before .before .before .before .before .before .before .before .before .args .code)) (sumMeant (c .before .before .before .before .before .before .before .before .before .args .sum)) (c .before .before .before .before .before .before .before .before .before .args .items) (c .before .before .before .before .before .before .before .before .before .args .n) (c .before .before .before .before .before .before .before .phase-after .ensures) (c .before .before .before .before .before .before .phase-number .ensures) (c .before .before .before .before .before .line-summary .ensures) (c .before .before .is-between .ensures) (c .before .before .before .joined .ensures) (c .before .joined-if .ensures) (c .joined-if2 .ensures)
+returns c =
+    state-is (writerMeant (c .before .before .before .before .before .before .before .before .before .before .before .args .w)) (codeMeant (c .before .before .before .before .before .before .before .before .before .before .before .args .code)) (sumMeant (c .before .before .before .before .before .before .before .before .before .before .before .args .sum)) (c .before .before .before .before .before .before .before .before .before .before .before .args .items) (c .before .before .before .before .before .before .before .before .before .before .before .args .n)
+    (c .before .before .before .before .before .before .before .before .before .phase-after .ensures) (c .before .before .before .before .before .before .before .before .phase-number .ensures) (c .before .before .before .before .before .before .before .adding .ensures) (c .before .before .is-between .ensures) (c .before .before .before .before .before .before .joined .ensures)
+    (c .before .before .before .before .before .joined2 .ensures) (c .before .before .before .before .joined3 .ensures) (c .before .while-open .ensures) (c .while-open2 .ensures)
 
 pub after-line-spec : {M : Type 1} → statement M
 after-line-spec =
@@ -26,9 +35,11 @@ after-line-spec =
     (λ c κs. search needs)
     (λ c κs. search needs)
     (λ c κs. search needs)
-    (λ c. search needs)
     joined-requires
+    joined-requires-2
+    joined-requires-3
+    (λ c. search needs)
     (λ c κs. search needs)
-    joined-if-requires
-    joined-if-requires-2
+    (λ c κs. search needs)
+    (λ c κs. search needs)
     returns)

@@ -9,7 +9,7 @@ use Rattle.rules.specs.Parts.{headerIn, groupsIn}
 use Rattle.rules.specs.Combine.{limitOf, linesWithin, joined}
 use Rattle.kinds.proofs.Sums.{within-is, within-most, beyond-most}
 use Rattle.lines.specs.Cut.{firstRecord}
-use Rattle.controls.specs.Controls.{summaryMeant}
+use Rattle.summaries.specs.Summaries.{summaryMeant}
 use Rattle.combining.proofs.Combining.{too-large, too-wide, to-fit, last-inside, header-first, groups-within, same-lines}
 use borrow.Author.Needs.{needs}
 use Rattle.combining.proofs.combine_accepted.Statement.{statement}

@@ -1,5 +1,5 @@
 -- `controls::right_records` meets its contract. Assumes nothing.
-use Rattle.controls.specs.Controls.{summaryMeant}
+use Rattle.summaries.specs.Summaries.{summaryMeant}
 use Rattle.controls.proofs.Balancing.{records-fine, records-wrong}
 use Rattle.controls.proofs.right_records.Statement.{statement}
 use Rattle.controls.proofs.right_records.Tie as tie

@@ -1,6 +1,6 @@
 -- `controls::right_total` meets its contract. Assumes nothing.
 use native.Mathlib.Omega.{arith}
-use Rattle.controls.specs.Controls.{summaryMeant}
+use Rattle.summaries.specs.Summaries.{summaryMeant}
 use Rattle.controls.proofs.Balancing.{minus-fine, minus-wrong, plus-fine, plus-wrong}
 use Rattle.controls.proofs.right_total.Statement.{statement}
 use Rattle.controls.proofs.right_total.Tie as tie

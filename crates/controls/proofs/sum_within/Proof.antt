@@ -1,7 +1,7 @@
 -- `controls::sum_within` meets its contract. Assumes nothing.
 use native.Mathlib.Omega.{arith}
 use borrow.Author.Needs.{needs}
-use Rattle.controls.specs.Controls.{summaryMeant}
+use Rattle.summaries.specs.Summaries.{summaryMeant}
 use Rattle.controls.proofs.Balancing.{within-fine, within-above, within-below}
 use Rattle.controls.proofs.sum_within.Statement.{statement}
 use Rattle.controls.proofs.sum_within.Tie as tie

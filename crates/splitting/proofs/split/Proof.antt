@@ -2,7 +2,7 @@
 use mathlib.Core.Path.{sym, ap, _∙_}
 use borrow.Author.Tests.{not-true, not-false}
 use Rattle.reader.specs.declared.Verdict.{Verdict}
-use Rattle.controls.specs.Controls.{summaryMeant}
+use Rattle.summaries.specs.Summaries.{summaryMeant}
 use Rattle.reader.specs.Meanings.{verdictMeant}
 use Rattle.splitting.proofs.Naming.{split-16, split-refused, split-accepted}
 use borrow.Author.Needs.{needs}

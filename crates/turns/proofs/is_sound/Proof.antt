@@ -19,7 +19,7 @@ unfolding sound
 returns-2 c = goes-on _ _ _ (le-leb _ _ (c .before .before .if1 .left)) (stops _ _ (sym (c .before .sum-within .ensures) ∙ not-true _ (c .if2 .taken)))
 
 add-m : tie.Need-add-m
-add-m c = omega (arith, leb-true (magnitudes (sumMeant (c .before .before .before .before .before .before .before .before .before .before .args .w .file .sum))) most (sym (c .before .before .before .sum-within .ensures) ∙ not-false _ (c .before .before .if2 .left)))
+add-m c = omega (arith, leb-true (magnitudes (sumMeant (c .before .before .before .before .before .before .before .before .before .before .args .w .file .total))) most (sym (c .before .before .before .sum-within .ensures) ∙ not-false _ (c .before .before .if2 .left)))
 
 returns-3 : tie.Need-returns-3
 unfolding sound

@@ -23,7 +23,7 @@ returns c =
     let d = c .before .before .before .before .before .before .before in
     let r = c .before .before .before .before .before .before .before .before .before .before .add in
     answers (writerMeant (s .args .w)) rules.accountEnd (s .args .out .now) (closing (writerMeant (s .args .w)) accountTrailer (draftOf (d .account-end .last .0) (d .account-end .result)) (sumMeant (c .before .before .before .before .none .result)) false (length (s .args .out .now))) (c .before .before .finish .ensures)
-    (account-end-closes (writerMeant (s .args .w)) (length (s .args .out .now)) (draftOf (d .account-end .last .0) (d .account-end .result)) (sumMeant (c .before .before .before .before .none .result)) (r .result .0) (c .before .before .before .before .none .ensures) (r .ensures) (in-space (length (l .line-space .result)) (sym (l .line-space .ensures)) accountTrailer (fieldsOf accountTrailer) (totalBytes (sumMeant (s .args .w .account .sum)) ∷ decimal (r .result .0) ∷ []) 47 (d .account-end .ensures)))
+    (account-end-closes (writerMeant (s .args .w)) (length (s .args .out .now)) (draftOf (d .account-end .last .0) (d .account-end .result)) (sumMeant (c .before .before .before .before .none .result)) (r .result .0) (c .before .before .before .before .none .ensures) (r .ensures) (in-space (length (l .line-space .result)) (sym (l .line-space .ensures)) accountTrailer (fieldsOf accountTrailer) (totalBytes (sumMeant (s .args .w .account .total)) ∷ decimal (r .result .0) ∷ []) 47 (d .account-end .ensures)))
 
 pub end-account-spec : {M : Type 1} → statement M
 end-account-spec =

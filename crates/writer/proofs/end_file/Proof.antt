@@ -23,7 +23,7 @@ returns c =
     let d = c .before .before .before .before .before .before .before in
     let r = c .before .before .before .before .before .before .before .before .before .before .add in
     answers (writerMeant (s .args .w)) rules.fileEnd (s .args .out .now) (closing (writerMeant (s .args .w)) fileTrailer (draftOf (d .trailer .last .0) (d .trailer .result)) (sumMeant (c .before .before .before .before .none .result)) false (length (s .args .out .now))) (c .before .before .finish .ensures)
-    (file-end-closes (writerMeant (s .args .w)) (length (s .args .out .now)) (draftOf (d .trailer .last .0) (d .trailer .result)) (sumMeant (c .before .before .before .before .none .result)) (r .result .0) (c .before .before .before .before .none .ensures) (r .ensures) (in-space (length (l .line-space .result)) (sym (l .line-space .ensures)) fileTrailer (fieldsOf fileTrailer) (totalBytes (sumMeant (s .args .w .file .sum)) ∷ decimal (s .args .w .file .groups) ∷ decimal (r .result .0) ∷ []) 47 (d .trailer .ensures)))
+    (file-end-closes (writerMeant (s .args .w)) (length (s .args .out .now)) (draftOf (d .trailer .last .0) (d .trailer .result)) (sumMeant (c .before .before .before .before .none .result)) (r .result .0) (c .before .before .before .before .none .ensures) (r .ensures) (in-space (length (l .line-space .result)) (sym (l .line-space .ensures)) fileTrailer (fieldsOf fileTrailer) (totalBytes (sumMeant (s .args .w .file .total)) ∷ decimal (s .args .w .file .groups) ∷ decimal (r .result .0) ∷ []) 47 (d .trailer .ensures)))
 
 pub end-file-spec : {M : Type 1} → statement M
 end-file-spec =

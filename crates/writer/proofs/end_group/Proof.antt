@@ -23,7 +23,7 @@ returns c =
     let d = c .before .before .before .before .before .before .before in
     let r = c .before .before .before .before .before .before .before .before .before .before .add in
     answers (writerMeant (s .args .w)) rules.groupEnd (s .args .out .now) (closing (writerMeant (s .args .w)) groupTrailer (draftOf (d .trailer .last .0) (d .trailer .result)) (sumMeant (c .before .before .before .before .none .result)) false (length (s .args .out .now))) (c .before .before .finish .ensures)
-    (group-end-closes (writerMeant (s .args .w)) (length (s .args .out .now)) (draftOf (d .trailer .last .0) (d .trailer .result)) (sumMeant (c .before .before .before .before .none .result)) (r .result .0) (c .before .before .before .before .none .ensures) (r .ensures) (in-space (length (l .line-space .result)) (sym (l .line-space .ensures)) groupTrailer (fieldsOf groupTrailer) (totalBytes (sumMeant (s .args .w .group .sum)) ∷ decimal (s .args .w .group .accounts) ∷ decimal (r .result .0) ∷ []) 47 (d .trailer .ensures)))
+    (group-end-closes (writerMeant (s .args .w)) (length (s .args .out .now)) (draftOf (d .trailer .last .0) (d .trailer .result)) (sumMeant (c .before .before .before .before .none .result)) (r .result .0) (c .before .before .before .before .none .ensures) (r .ensures) (in-space (length (l .line-space .result)) (sym (l .line-space .ensures)) groupTrailer (fieldsOf groupTrailer) (totalBytes (sumMeant (s .args .w .group .total)) ∷ decimal (s .args .w .group .accounts) ∷ decimal (r .result .0) ∷ []) 47 (d .trailer .ensures)))
 
 pub end-group-spec : {M : Type 1} → statement M
 end-group-spec =

@@ -13,7 +13,7 @@ use Rattle.rules.specs.Order.{groupOpen, accountOpen}
 use Rattle.codes.specs.Meanings.{codeMeant}
 use Rattle.kinds.specs.Kinds.{sumMeant}
 use Rattle.checks.specs.Answers.{checkedOf}
-use Rattle.controls.specs.Controls.{summaryMeant}
+use Rattle.summaries.specs.Summaries.{summaryMeant}
 use Rattle.reader.specs.Meanings.{stateMeant, Small}
 use Rattle.reader.specs.Stepping.{limitK, thisK}
 use Rattle.controls.proofs.Places.{balanced-most}

@@ -1,8 +1,8 @@
--- `controls::adding` meets its contract. Assumes nothing.
+-- `summaries::adding` meets its contract. Assumes nothing.
 use borrow.Author.Needs.{needs}
 use Rattle.rules.specs.Totals.{adding}
-use Rattle.controls.proofs.adding.Statement.{statement}
-use Rattle.controls.proofs.adding.Tie as tie
+use Rattle.summaries.proofs.adding.Statement.{statement}
+use Rattle.summaries.proofs.adding.Tie as tie
 
 returns : tie.Need-returns
 unfolding adding

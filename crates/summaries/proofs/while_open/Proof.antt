@@ -1,9 +1,9 @@
--- `controls::while_open` meets its contract. Assumes nothing.
+-- `summaries::while_open` meets its contract. Assumes nothing.
 use mathlib.Core.Path.{ap, sym, _∙_}
 use borrow.Author.Needs.{needs}
-use Rattle.controls.specs.Controls.{summaryMeant}
-use Rattle.controls.proofs.while_open.Statement.{statement}
-use Rattle.controls.proofs.while_open.Tie as tie
+use Rattle.summaries.specs.Summaries.{summaryMeant}
+use Rattle.summaries.proofs.while_open.Statement.{statement}
+use Rattle.summaries.proofs.while_open.Tie as tie
 
 returns : tie.Need-returns
 returns c = sym (rw (c .if1 .taken))

@@ -1,8 +1,8 @@
--- `controls::one` meets its contract. Assumes nothing.
+-- `summaries::one` meets its contract. Assumes nothing.
 use mathlib.Core.Path.{sym, _∙_}
 use borrow.Author.Needs.{needs}
-use Rattle.controls.proofs.one.Statement.{statement}
-use Rattle.controls.proofs.one.Tie as tie
+use Rattle.summaries.proofs.one.Statement.{statement}
+use Rattle.summaries.proofs.one.Tie as tie
 
 returns : tie.Need-returns
 returns c = sym (rw (sym (c .before .same-code .ensures) ∙ c .if1 .taken))

@@ -1,0 +1,2 @@
+-- What a summary says.
+pub mod Summaries
