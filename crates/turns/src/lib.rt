@@ -1,6 +1,7 @@
 // The writer's state: what was written last, how many bytes stand, and the sums and counts that the trailers need; which states are sound, and
 // which line is in turn.
 use codes::Code;
+use kinds::MOST;
 use kinds::Place;
 use kinds::Units;
 use summaries::Summary;
@@ -17,9 +18,6 @@ ghost use Rattle.turns.specs.States.{phaseMeant, writerMeant, phaseNumbe
 
 // A file's most bytes.
 pub const MOST_BYTES: usize = 16_777_216;
-
-// The largest sum of magnitudes.
-const MOST: u64 = 999_999_999_999_999_999;
 
 // What was written last: nothing; 01 or 98; 02; 49; 03, 88 or 16; 99.
 pub enum Phase {
