@@ -1,4 +1,4 @@
--- What the code reads of a group: whom its 02 names, and what its 98 states. Assumes nothing.
+-- What the code reads of a group's 02 and 98, whatever the bytes; and what that says of a record that is read as one. Assumes nothing.
 use Prim.Native.Nat.{ℕ}
 use mathlib.Core.Path.{_≡_}
 use mathlib.Core.Bool.{Bool}
@@ -6,9 +6,28 @@ use mathlib.Core.List.{List}
 use Rattle.rules.specs.Bytes.{Bytes, sameBytes}
 use Rattle.rules.specs.Numbers.{Sum, asSum, signed, number}
 use Rattle.rules.specs.Outcome.{fine}
-use Rattle.rules.specs.Lines.{groupHeader, groupTrailer, Record}
-use Rattle.rules.specs.Grammar.{ultimateReceiver, total, records}
+use Rattle.rules.specs.Lines.{Code, groupHeader, groupTrailer, Record, linesOf}
+use Rattle.rules.specs.Grammar.{Kind, ultimateReceiver, total, records, fieldsOf}
 use Rattle.rules.specs.Records.{Field, the, walkRecord}
+use Rattle.digits.specs.Reading.{valueOf, amountIn}
+use Rattle.seek.specs.Seeking.{seekLines}
+
+-- ---- read of any bytes
+
+-- the field of this kind that the search finds in a record of this code
+abbrev pub fieldFound : Kind → Code → Bytes → Bytes
+fieldFound k c rec = seekLines k 0 (fieldsOf c) (linesOf rec) .bytes
+
+abbrev pub named : Bytes → Bytes → Bool
+named name rec = sameBytes name (fieldFound ultimateReceiver groupHeader rec)
+
+abbrev pub statedTotal : Bytes → Sum
+statedTotal rec = asSum (amountIn (fieldFound total groupTrailer rec))
+
+abbrev pub statedRecords : Bytes → ℕ
+statedRecords rec = valueOf (fieldFound records groupTrailer rec)
+
+-- ---- of a record
 
 -- whether a record that is read as a 02 has this name as its receiver
 abbrev pub Names : Bytes → Record → Bool → Type 0

@@ -5,13 +5,12 @@ use kinds::Units;
 use seek::Sought;
 ghost use mathlib.Core.Path.{_≡_};
 ghost use Rattle.rules.specs.Numbers.{asSum};
-ghost use Rattle.rules.specs.Lines.{linesOf};
 ghost use Rattle.kinds.specs.Kinds.{sumMeant};
-ghost use Rattle.frames.specs.Frames.{Names, StatesTotal, StatesRecords};
+ghost use Rattle.frames.specs.Frames.{named, statedTotal, statedRecords};
 
 // The 02 in these bytes names this receiver.
 pub fn is_for(name: &[u8], rec: &[u8]) -> bool
-    ensures { λ r. ⌜ Names (now (name .entry)) (linesOf (now (rec .entry))) r ⌝ }
+    ensures { λ r. ⌜ r ≡ named (now (name .entry)) (now (rec .entry)) ⌝ }
 {
     slices::same_bytes(name, seek::field(rec, Code::GroupHeader, Sought::Receiver))
 }
@@ -28,7 +27,7 @@ fn signed_units(negative: bool, n: u64) -> Units
 
 // The total that the 98 in these bytes states.
 pub fn stated_total(rec: &[u8]) -> Units
-    ensures { λ r. ⌜ StatesTotal (linesOf (now (rec .entry))) (sumMeant r) ⌝ }
+    ensures { λ r. ⌜ sumMeant r ≡ statedTotal (now (rec .entry)) ⌝ }
 {
     let total = digits::amount_in(seek::field(rec, Code::GroupTrailer, Sought::Total));
     signed_units(total.negative, total.magnitude)
@@ -36,7 +35,7 @@ pub fn stated_total(rec: &[u8]) -> Units
 
 // The number of records that the 98 in these bytes states.
 pub fn stated_records(rec: &[u8]) -> Records
-    ensures { λ r. ⌜ StatesRecords (linesOf (now (rec .entry))) (r .0) ⌝ }
+    ensures { λ r. ⌜ r .0 ≡ statedRecords (now (rec .entry)) ⌝ }
 {
     Records(digits::value(seek::field(rec, Code::GroupTrailer, Sought::Records)))
 }

@@ -2,11 +2,9 @@
 use Rattle.frames.proofs.signed_units.Statement.{statement}
 use Rattle.frames.proofs.signed_units.Tie as tie
 
--- src/lib.rt:51:9
 returns : tie.Need-returns
 returns c = rw (c .if1 .taken)
 
--- src/lib.rt:47:1
 returns-2 : tie.Need-returns-2
 returns-2 c = rw (c .if1 .left)
 

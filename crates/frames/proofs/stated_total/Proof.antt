@@ -1,15 +1,13 @@
 -- `frames::stated_total` meets its contract. Assumes nothing.
 use mathlib.Core.Path.{ap, _∙_}
 use Rattle.rules.specs.Numbers.{asSum}
-use Rattle.rules.specs.Lines.{groupTrailer}
-use Rattle.seek.proofs.Reading.{total-in}
+use Rattle.digits.specs.Reading.{amountIn}
 use borrow.Author.Needs.{needs}
 use Rattle.frames.proofs.stated_total.Statement.{statement}
 use Rattle.frames.proofs.stated_total.Tie as tie
 
 returns : tie.Need-returns
-returns c = λ fs walked.
-    c .signed-units .ensures ∙ ap asSum (c .before .amount-in .ensures .0 ∙ total-in groupTrailer (c .before .before .before .before .args .rec .now) fs walked _ (c .before .before .field .ensures))
+returns c = c .signed-units .ensures ∙ ap asSum (c .before .amount-in .ensures .0 ∙ ap amountIn (c .before .before .field .ensures))
 
 pub stated-total-spec : {M : Type 1} → statement M
 stated-total-spec = tie.close (tie.spec (λ c κs. search needs) (λ c κs. search needs) (λ c κs. search needs) returns)

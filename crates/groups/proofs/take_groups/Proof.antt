@@ -21,6 +21,7 @@ use Rattle.groups.specs.Ahead.{Ahead, Tallied, matching}
 use Rattle.lines.specs.Cut.{firstRecord}
 use Rattle.lines.specs.OneRecord.{first-part}
 use Rattle.frames.specs.Frames.{Names, StatesTotal, StatesRecords}
+use Rattle.frames.proofs.Reading.{named-is, total-is, records-is}
 use Rattle.groups.proofs.Tallies.{Tallying, tally-start, tally-end}
 use Rattle.groups.proofs.Turns.{spans, turn-behind, turn-not, turn-bytes, turn-tally, few-lines, in-range, no-more, finished}
 use borrow.Author.Needs.{needs}
@@ -71,6 +72,10 @@ count-room c = let h = places c in (omega (arith, c .before .before .before .bef
 behind : (c : Turn) → Ahead (drop (at-of c) (file-of c)) → Ahead (drop (end-of c) (file-of c))
 behind c = turn-behind (file-of c) (at-of c) (last-of c) (end-of c) (begun c) (c .before .next-mark .ensures .0) (c .record-end .ensures .0)
 
+-- the group's 98
+abbrev trailer-of : Turn → Bytes
+trailer-of c = take (end-of c - last-of c) (drop (last-of c) (file-of c))
+
 -- all groups for the name
 abbrev all-of : Turn → List (List Record)
 all-of c = matching (name-of c) (drop (c .before .before .before .before .before .before .before .before .args .from) (file-of c))
@@ -88,7 +93,7 @@ names c = λ fs walked.
     let xs = drop (at-of t) (file-of t) in
     let e = c .before .before .record-end2 in
     let size : e .result - at-of t ≡ recordSize (firstRecord (linesOf xs)) = omega (arith, e .ensures .0) in
-    c .is-for .ensures fs (ap (walkRecord groupHeader) (first-part xs (e .result - at-of t) size (omega (arith, length-drop (at-of t) (file-of t), places t))) ∙ walked)
+    named-is (name-of t) (take (e .result - at-of t) xs) (c .is-for .result) (c .is-for .ensures) fs (ap (walkRecord groupHeader) (first-part xs (e .result - at-of t) size (omega (arith, length-drop (at-of t) (file-of t), places t))) ∙ walked)
 
 module _ (c : Asked) (a : Ahead (drop (at-of (turn-of c)) (file-of (turn-of c)))) where
   abbrev t : Turn
@@ -102,8 +107,8 @@ module _ (c : Asked) (a : Ahead (drop (at-of (turn-of c)) (file-of (turn-of c)))
 
   -- a group more
   module _ (h : c .is-for .result ≡ true) (groups bytes : ℕ) (sum : Sum) (lines : ℕ) (more : Sum) (m : ℕ) (tally : Tallying (all-of t) (matching (name-of t) (drop (at-of t) (file-of t))) groups bytes sum lines)
-      (said : StatesTotal (linesOf (take (end-of t - last-of t) (drop (last-of t) (file-of t)))) more)
-      (counts : StatesRecords (linesOf (take (end-of t - last-of t) (drop (last-of t) (file-of t)))) m) where
+      (said : StatesTotal (linesOf (trailer-of t)) more)
+      (counts : StatesRecords (linesOf (trailer-of t)) m) where
     one-more : (m ≤ end-of t - at-of t) × (magnitudes (sum ⊕ more) ≤ most) × Tallying (all-of t) (matching (name-of t) (drop (end-of t) (file-of t))) (groups + 1) (bytes + (end-of t - at-of t)) (sum ⊕ more) (lines + m)
     one-more =
         let p = t .before .next-mark .ensures .0 in
@@ -171,7 +176,7 @@ loop-again c =
           let (here, tally, wrote) = l .inv .5 ahead in
           let more = sumMeant (c .before .before .before .before .stated-total .result) in
           let m = c .before .stated-records .result .0 in
-          let (lines, range, next) = one-more asked here is-for (l .groups) (l .bytes) (sumMeant (l .total)) (l .records .0) more m tally (c .before .before .before .before .stated-total .ensures) (c .before .stated-records .ensures) in
+          let (lines, range, next) = one-more asked here is-for (l .groups) (l .bytes) (sumMeant (l .total)) (l .records .0) more m tally (total-is (trailer-of t) more (c .before .before .before .before .stated-total .ensures)) (records-is (trailer-of t) m (c .before .stated-records .ensures)) in
           let sum : sumMeant (c .before .before .before .added .result) ≡ sumMeant (l .total) ⊕ more = c .before .before .before .added .ensures range in
           let count : c .add .result .0 ≡ l .records .0 + m = c .add .ensures ∙ count-kept (l .records .0) m (l .bytes) (at-of t) (end-of t) (tally .few) lines (count-room t) in (
             behind t here,
