@@ -3,9 +3,9 @@ use Prim.Native.Nat.{ℕ}
 use mathlib.Core.Path.{_≡_, refl}
 use mathlib.Core.Bool.{Bool, true, false}
 use Rattle.rules.specs.Answers as rules
-use Rattle.details.specs.declared.DetailAnswer.{DetailAnswer}
-use Rattle.details.specs.Details.{oneIf, detailMeant}
-use Rattle.figures.specs.Figures.{flag}
+use Rattle.part_details.specs.declared.DetailAnswer.{DetailAnswer}
+use Rattle.part_details.specs.Details.{oneIf, detailMeant}
+use Rattle.c_writer.specs.Figures.{flag}
 
 same-flag : (b : Bool) → flag b ≡ oneIf b
 same-flag true = refl

@@ -16,38 +16,38 @@ use Rattle.rules.specs.Split.{split}
 use Rattle.rules.specs.Writer as writing
 use Rattle.laws.specs.Words.{Left}
 use Rattle.laws.proofs.OneAnswer.{one-answer}
-use Rattle.kinds.specs.Kinds.{unitsOf}
-use Rattle.summaries.specs.declared.Summary.{Summary}
-use Rattle.reader.specs.declared.Verdict.{Verdict}
-use Rattle.reader.specs.declared.Verdict.the-variants.{Accepted, Refused}
-use Rattle.reader.specs.declared.Judged.{Judged}
-use Rattle.reader.specs.declared.Judged.the-variants as judged
-use Rattle.summaries.specs.Summaries.{summaryMeant}
-use Rattle.reader.specs.Meanings.{verdictMeant}
-use Rattle.reader.specs.Answers.{JudgedIs}
-use Rattle.splitting.specs.declared.Answer.{Answer}
-use Rattle.splitting.specs.Answers.{answerMeant}
-use Rattle.combining.specs.declared.Combined.{Combined}
-use Rattle.combining.specs.Answers.{combinedMeant}
-use Rattle.parts.specs.declared.Part.{Part}
-use Rattle.parts.specs.declared.Refusal.{Refusal}
-use Rattle.details.specs.declared.DetailAnswer.{DetailAnswer}
-use Rattle.parts.specs.Meanings as parts
-use Rattle.details.specs.Details as details
-use Rattle.turns.specs.declared.Phase.{Phase}
-use Rattle.turns.specs.declared.Phase.the-variants as phases
-use Rattle.turns.specs.declared.Writer.{Writer}
-use Rattle.turns.specs.declared.Written.{Written}
-use Rattle.turns.specs.States.{phaseMeant, writerMeant, writtenMeant}
+use Rattle.base_quantities.specs.Kinds.{unitsOf}
+use Rattle.base_totals.specs.declared.Summary.{Summary}
+use Rattle.read_file.specs.declared.Verdict.{Verdict}
+use Rattle.read_file.specs.declared.Verdict.the-variants.{Accepted, Refused}
+use Rattle.read_file.specs.declared.Judged.{Judged}
+use Rattle.read_file.specs.declared.Judged.the-variants as judged
+use Rattle.base_totals.specs.Summaries.{summaryMeant}
+use Rattle.read_file.specs.Meanings.{verdictMeant}
+use Rattle.read_file.specs.Answers.{JudgedIs}
+use Rattle.join_split.specs.declared.Answer.{Answer}
+use Rattle.join_split.specs.Answers.{answerMeant}
+use Rattle.join_combine.specs.declared.Combined.{Combined}
+use Rattle.join_combine.specs.Answers.{combinedMeant}
+use Rattle.part_groups.specs.declared.Part.{Part}
+use Rattle.part_groups.specs.declared.Refusal.{Refusal}
+use Rattle.part_details.specs.declared.DetailAnswer.{DetailAnswer}
+use Rattle.part_groups.specs.Meanings as parts
+use Rattle.part_details.specs.Details as details
+use Rattle.write_state.specs.declared.Phase.{Phase}
+use Rattle.write_state.specs.declared.Phase.the-variants as phases
+use Rattle.write_state.specs.declared.Writer.{Writer}
+use Rattle.write_state.specs.declared.Written.{Written}
+use Rattle.write_state.specs.States.{phaseMeant, writerMeant, writtenMeant}
 use Rattle.bai2.specs.declared.ReadAnswer.{ReadAnswer}
 use Rattle.bai2.specs.declared.SplitAnswer.{SplitAnswer}
 use Rattle.bai2.specs.declared.CombineAnswer.{CombineAnswer}
 use Rattle.bai2.specs.declared.cutting.PartAnswer.{PartAnswer}
 use Rattle.bai2.specs.declared.cutting.DetailFigures.{DetailFigures}
-use Rattle.figures.specs.declared.WriterState.{WriterState}
-use Rattle.figures.specs.declared.WriteAnswer.{WriteAnswer}
+use Rattle.c_writer.specs.declared.WriterState.{WriterState}
+use Rattle.c_writer.specs.declared.WriteAnswer.{WriteAnswer}
 use Rattle.bai2.specs.Answers.{readMeant, splitMeant, combineMeant, partMeant, detailMeant}
-use Rattle.figures.specs.Figures.{numbersOf, Reply, replied, replyTo}
+use Rattle.c_writer.specs.Figures.{numbersOf, Reply, replied, replyTo}
 
 -- ---- reading
 
@@ -62,7 +62,7 @@ same-verdict : (v : Verdict) → verdictOf (verdictMeant v) ≡ v
 same-verdict (Accepted s) = refl
 same-verdict (Refused n p) = refl
 
--- reader::read
+-- read_file::read
 pub read-one : (file : Bytes) (v w : Verdict) → verdictMeant v ≡ judge file → verdictMeant w ≡ judge file → v ≡ w
 read-one file = one-answer verdictMeant verdictOf same-verdict (judge file)
 
@@ -93,7 +93,7 @@ judged-says : (file : Bytes) (v : Judged) → JudgedIs v file → judgedMeant v 
 judged-says file (judged.Accepted g) good = rw (good .accepts, good .limit, good .last)
 judged-says file (judged.Refused n p) e = rw e
 
--- reader::judge_file
+-- read_file::judge_file
 pub judged-one : (file : Bytes) (v w : Judged) → JudgedIs v file → JudgedIs w file → v ≡ w
 judged-one file v w x y = one-answer judgedMeant judgedOf same-judged (known file) v w (judged-says file v x) (judged-says file w y)
 
@@ -106,7 +106,7 @@ c-read-one file =
 
 -- ---- splitting
 
--- splitting::split
+-- join_split::split
 pub split-one : (name file before : Bytes) (x y : Left Answer)
     → answerMeant (x .answer) (x .slice) ≡ split name file before → answerMeant (y .answer) (y .slice) ≡ split name file before → x ≡ y
 split-one name file before =
@@ -124,7 +124,7 @@ c-split-one name file before =
 
 -- ---- combining
 
--- combining::combine
+-- join_combine::combine
 pub combine-one : (a b before : Bytes) (x y : Left Combined)
     → combinedMeant (x .answer) (x .slice) ≡ combine.combine a b before → combinedMeant (y .answer) (y .slice) ≡ combine.combine a b before → x ≡ y
 combine-one a b before =
@@ -142,11 +142,11 @@ c-combine-one a b before =
 
 -- ---- parts
 
--- parts::group, account, details::detail_text: the part's bytes are promised themselves
+-- part_groups::group, account, part_details::detail_text: the part's bytes are promised themselves
 pub slice-one : (promised x y : Bytes) → x ≡ promised → y ≡ promised → x ≡ y
 slice-one = one-answer (λ (x : Bytes). x) (λ (x : Bytes). x) (λ x. refl)
 
--- parts::find_group, find_account, find_detail
+-- part_groups::find_group, find_account, find_detail
 pub part-one : (promised : rules.PartAnswer) (x y : Part) → parts.partMeant x ≡ promised → parts.partMeant y ≡ promised → x ≡ y
 part-one =
     one-answer parts.partMeant (λ (m : rules.PartAnswer). record { number = m .number; place = record { 0 = m .place }; start = m .start; length = m .len })
@@ -158,7 +158,7 @@ c-part-one =
     one-answer partMeant (λ (m : rules.PartAnswer). record { number = m .number; place = m .place; start = m .start; length = m .len })
     (λ x. refl)
 
--- parts::group_refusal, account_refusal
+-- part_groups::group_refusal, account_refusal
 pub refusal-one : (number place : ℕ) (x y : Refusal) → (x .number ≡ number) × (x .place .0 ≡ place) → (y .number ≡ number) × (y .place .0 ≡ place) → x ≡ y
 refusal-one number place x y (n, p) (m, q) = ap₂ (λ (a b : ℕ). record { number = a; place = record { 0 = b } }) (n ∙ sym m) (p ∙ sym q)
 
@@ -191,7 +191,7 @@ same-detail d =
     })
     (same-given (d .«amount_given»))
 
--- details::detail
+-- part_details::detail
 pub detail-one : (promised : rules.DetailAnswer) (x y : DetailAnswer) → details.detailMeant x ≡ promised → details.detailMeant y ≡ promised → x ≡ y
 detail-one =
     one-answer details.detailMeant

@@ -10,13 +10,13 @@ use Rattle.rules.specs.Numbers.{asInteger, most}
 use Rattle.rules.specs.Verdict.{judge}
 use Rattle.rules.specs.Answers.{readAnswer, read}
 use Rattle.laws.proofs.FileTheorems.{magnitudes-bounded}
-use Rattle.kinds.specs.Kinds.{sumMeant}
-use Rattle.kinds.specs.declared.Place.{Place}
-use Rattle.summaries.specs.Summaries.{summaryMeant}
-use Rattle.reader.specs.Meanings.{verdictMeant}
-use Rattle.summaries.specs.declared.Summary.{Summary}
-use Rattle.reader.specs.declared.Verdict.{Verdict}
-use Rattle.reader.specs.declared.Verdict.the-variants.{Accepted, Refused}
+use Rattle.base_quantities.specs.Kinds.{sumMeant}
+use Rattle.base_quantities.specs.declared.Place.{Place}
+use Rattle.base_totals.specs.Summaries.{summaryMeant}
+use Rattle.read_file.specs.Meanings.{verdictMeant}
+use Rattle.base_totals.specs.declared.Summary.{Summary}
+use Rattle.read_file.specs.declared.Verdict.{Verdict}
+use Rattle.read_file.specs.declared.Verdict.the-variants.{Accepted, Refused}
 use Rattle.bai2.proofs.Signs.{difference-kept}
 
 module _ (file : Bytes) (v : Verdict) (promised : verdictMeant v ≡ judge file) where

@@ -13,16 +13,16 @@ use Rattle.rules.specs.Bytes.{Bytes}
 use Rattle.rules.specs.Writer as rules
 use Rattle.rules.specs.Writer.{Item, Call, write}
 use Rattle.rules.proofs.Tests.{Known, holds, fails, known}
-use Rattle.drafts.specs.Drafts.{amountGiven, countGiven}
-use Rattle.drafts.specs.declared.MaybeAmount.{MaybeAmount}
-use Rattle.drafts.specs.declared.MaybeCount.{MaybeCount}
-use Rattle.turns.specs.States.{writerMeant, writtenMeant}
-use Rattle.turns.specs.declared.Writer.{Writer}
-use Rattle.turns.specs.declared.Written.{Written}
-use Rattle.writer.specs.Items.{itemMeant, itemGiven}
-use Rattle.figures.specs.Figures.{stateOf, numbersBehind, answerOf, replied, replyTo, orNone, amountAsked, countAsked, itemOf, itemAsked}
-use Rattle.figures.specs.declared.WriterState.{WriterState}
-use Rattle.figures.specs.declared.WriteAnswer.{WriteAnswer}
+use Rattle.write_line.specs.Drafts.{amountGiven, countGiven}
+use Rattle.write_line.specs.declared.MaybeAmount.{MaybeAmount}
+use Rattle.write_line.specs.declared.MaybeCount.{MaybeCount}
+use Rattle.write_state.specs.States.{writerMeant, writtenMeant}
+use Rattle.write_state.specs.declared.Writer.{Writer}
+use Rattle.write_state.specs.declared.Written.{Written}
+use Rattle.write_calls.specs.Items.{itemMeant, itemGiven}
+use Rattle.c_writer.specs.Figures.{stateOf, numbersBehind, answerOf, replied, replyTo, orNone, amountAsked, countAsked, itemOf, itemAsked}
+use Rattle.c_writer.specs.declared.WriterState.{WriterState}
+use Rattle.c_writer.specs.declared.WriteAnswer.{WriteAnswer}
 
 -- the reply, from what the state, the writer's call and the answer promise
 pub replies : (w : WriterState) (s : Writer) (r : Written) (a : WriteAnswer) (call : Call) (before out : Bytes)

@@ -9,7 +9,7 @@ use mir.Syntax.{w64}
 use mir.Val.{SFits, toZ, ofZ}
 use mir.ValLaws.{toZ-pos, toZ-ofZ}
 use Rattle.rules.specs.Numbers.{most}
-use Rattle.digits.proofs.Tests.{below-or-from}
+use Rattle.base_digits.proofs.Tests.{below-or-from}
 
 -- a number other than 0 with its sign turned
 negated : (k : ℕ) → pos 0 -ℤ pos (suc k) ≡ negsuc k

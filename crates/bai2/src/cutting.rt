@@ -1,8 +1,8 @@
 // The calls for C that cut a part out of a file: where it stands, counted from the file's first byte.
-use parts::Part;
+use part_groups::Part;
 ghost use mathlib.Core.Path.{_≡_};
 ghost use Rattle.rules.specs.Answers.{groupPart, accountPart, detailOfFile};
-ghost use Rattle.parts.specs.Meanings as parts;
+ghost use Rattle.part_groups.specs.Meanings as parts;
 ghost use Rattle.bai2.specs.Answers.{partMeant, detailMeant};
 
 // A refusal's number and place, or where the part starts and its length.
@@ -32,7 +32,7 @@ fn figures_of(part: Part) -> PartAnswer
 pub extern "C" fn bai2_group(file: &[u8], group: u64) -> PartAnswer
     ensures { λ r. ⌜ partMeant r ≡ groupPart (now (file .entry)) group ⌝ }
 {
-    figures_of(parts::find_group(file, group))
+    figures_of(part_groups::find_group(file, group))
 }
 
 // The account of this number in that group.
@@ -40,7 +40,7 @@ pub extern "C" fn bai2_group(file: &[u8], group: u64) -> PartAnswer
 pub extern "C" fn bai2_account(file: &[u8], group: u64, account: u64) -> PartAnswer
     ensures { λ r. ⌜ partMeant r ≡ accountPart (now (file .entry)) group account ⌝ }
 {
-    figures_of(parts::find_account(file, group, account))
+    figures_of(part_groups::find_account(file, group, account))
 }
 
 // A refusal's number and place; or the type, the amount if it is given, and where the first text piece starts, and its length.
@@ -65,13 +65,13 @@ pub extern "C" fn bai2_detail_of(
 ) -> DetailFigures
     ensures { λ r. ⌜ detailMeant r ≡ detailOfFile (now (file .entry)) group account detail ⌝ }
 {
-    let d = details::detail(file, group, account, detail);
+    let d = part_details::detail(file, group, account, detail);
     let place = d.place;
     DetailFigures {
         number: d.number,
         place: place.0 as u64,
         type_code: d.type_code,
-        amount_given: figures::flag_of(d.amount_given),
+        amount_given: c_writer::flag_of(d.amount_given),
         amount: d.amount,
         text_start: d.text_start as u64,
         text_length: d.text_length as u64,

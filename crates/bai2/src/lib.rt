@@ -1,11 +1,11 @@
 // The calls for C: numbers and byte slices in, numbers out. include/bai2.h declares them.
-use kinds::Units;
-use reader::Verdict;
+use base_quantities::Units;
+use read_file::Verdict;
 ghost use mathlib.Core.Path.{_≡_};
 ghost use Prim.Native.Nat.{_+_, _≤_};
 ghost use Rattle.rules.specs.Numbers.{asInteger, most};
 ghost use Rattle.rules.specs.Answers.{read};
-ghost use Rattle.kinds.specs.Kinds.{sumMeant};
+ghost use Rattle.base_quantities.specs.Kinds.{sumMeant};
 ghost use Rattle.rules.specs.Split.{split};
 ghost use Rattle.rules.specs.Combine.{combine};
 ghost use Rattle.bai2.specs.Answers.{readMeant, splitMeant, combineMeant};
@@ -43,7 +43,7 @@ fn total_of(sum: Units) -> i64
 pub extern "C" fn bai2_read(file: &[u8]) -> ReadAnswer
     ensures { λ r. ⌜ readMeant r ≡ read (now (file .entry)) ⌝ }
 {
-    match reader::read(file) {
+    match read_file::read(file) {
         Verdict::Accepted(s) => {
             let total = s.total;
             let records = s.records;
@@ -84,7 +84,7 @@ pub struct SplitAnswer {
 pub extern "C" fn bai2_split(name: &[u8], file: &[u8], out: &mut [u8]) -> SplitAnswer
     ensures { λ r. ⌜ splitMeant r (now (out .exit)) ≡ split (now (name .entry)) (now (file .entry)) (now (out .entry)) ⌝ }
 {
-    let r = splitting::split(name, file, out);
+    let r = join_split::split(name, file, out);
     let place = r.place;
     SplitAnswer {
         number: r.number,
@@ -107,7 +107,7 @@ pub struct CombineAnswer {
 pub extern "C" fn bai2_combine(a: &[u8], b: &[u8], out: &mut [u8]) -> CombineAnswer
     ensures { λ r. ⌜ combineMeant r (now (out .exit)) ≡ combine (now (a .entry)) (now (b .entry)) (now (out .entry)) ⌝ }
 {
-    let r = combining::combine(a, b, out);
+    let r = join_combine::combine(a, b, out);
     let place = r.place;
     CombineAnswer {
         number: r.number,

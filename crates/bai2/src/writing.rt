@@ -1,17 +1,17 @@
 // The writer's calls for C: its state is plain numbers, which each call takes by value and hands back.
-use figures::WriteAnswer;
-use figures::WriterState;
-use turns::Writer;
+use c_writer::WriteAnswer;
+use c_writer::WriterState;
+use write_state::Writer;
 ghost use mathlib.Core.Path.{_≡_};
 ghost use Rattle.rules.specs.Writer as rules;
-ghost use Rattle.figures.specs.Figures.{numbersOf, replied, replyTo, amountAsked, itemOf, itemAsked};
+ghost use Rattle.c_writer.specs.Figures.{numbersOf, replied, replyTo, amountAsked, itemOf, itemAsked};
 
 // A writer that has written nothing.
 #[no_mangle]
 pub extern "C" fn bai2_writer_new() -> WriterState
     ensures { λ r. ⌜ r ≡ numbersOf rules.freshWriter ⌝ }
 {
-    figures::numbers_of(Writer::new())
+    c_writer::numbers_of(Writer::new())
 }
 
 // The line 01.
@@ -27,9 +27,9 @@ pub extern "C" fn bai2_write_header(
 ) -> WriteAnswer
     ensures { λ r. ⌜ replied r (now (out .exit)) ≡ replyTo writer (rules.header (now (sender .entry)) (now (receiver .entry)) (now (date .entry)) (now (time .entry)) (now («file_number» .entry))) (now (out .entry)) ⌝ }
 {
-    let w = figures::state_of(writer);
-    let r = writer::header(w, sender, receiver, date, time, file_number, out);
-    figures::answered(writer, r)
+    let w = c_writer::state_of(writer);
+    let r = write_calls::header(w, sender, receiver, date, time, file_number, out);
+    c_writer::answered(writer, r)
 }
 
 // The line 02.
@@ -47,8 +47,8 @@ pub extern "C" fn bai2_write_group(
 ) -> WriteAnswer
     ensures { λ r. ⌜ replied r (now (out .exit)) ≡ replyTo writer (rules.group (now (receiver .entry)) (now (originator .entry)) (now (status .entry)) (now (date .entry)) (now (time .entry)) (now (currency .entry)) (now (modifier .entry))) (now (out .entry)) ⌝ }
 {
-    let w = figures::state_of(writer);
-    let r = writer::group(
+    let w = c_writer::state_of(writer);
+    let r = write_calls::group(
         w,
         receiver,
         originator,
@@ -59,7 +59,7 @@ pub extern "C" fn bai2_write_group(
         modifier,
         out,
     );
-    figures::answered(writer, r)
+    c_writer::answered(writer, r)
 }
 
 // The line 03, with an item where item_given is not 0.
@@ -78,11 +78,11 @@ pub extern "C" fn bai2_write_account(
 ) -> WriteAnswer
     ensures { λ r. ⌜ replied r (now (out .exit)) ≡ replyTo writer (rules.account (now (account .entry)) (now (currency .entry)) (itemAsked «item_given» (itemOf (now («type_code» .entry)) «amount_given» amount «count_given» count))) (now (out .entry)) ⌝ }
 {
-    let w = figures::state_of(writer);
-    let a = figures::amount_asked(amount_given, amount);
-    let n = figures::count_asked(count_given, count);
-    let r = writer::account(w, account, currency, item_given != 0, type_code, a, n, out);
-    figures::answered(writer, r)
+    let w = c_writer::state_of(writer);
+    let a = c_writer::amount_asked(amount_given, amount);
+    let n = c_writer::count_asked(count_given, count);
+    let r = write_calls::account(w, account, currency, item_given != 0, type_code, a, n, out);
+    c_writer::answered(writer, r)
 }
 
 // A further item of the account: a line 88.
@@ -98,11 +98,11 @@ pub extern "C" fn bai2_write_item(
 ) -> WriteAnswer
     ensures { λ r. ⌜ replied r (now (out .exit)) ≡ replyTo writer (rules.further (itemOf (now («type_code» .entry)) «amount_given» amount «count_given» count)) (now (out .entry)) ⌝ }
 {
-    let w = figures::state_of(writer);
-    let a = figures::amount_asked(amount_given, amount);
-    let n = figures::count_asked(count_given, count);
-    let r = writer::item(w, type_code, a, n, out);
-    figures::answered(writer, r)
+    let w = c_writer::state_of(writer);
+    let a = c_writer::amount_asked(amount_given, amount);
+    let n = c_writer::count_asked(count_given, count);
+    let r = write_calls::item(w, type_code, a, n, out);
+    c_writer::answered(writer, r)
 }
 
 // The line 16.
@@ -119,9 +119,9 @@ pub extern "C" fn bai2_write_detail(
 ) -> WriteAnswer
     ensures { λ r. ⌜ replied r (now (out .exit)) ≡ replyTo writer (rules.transaction (now («type_code» .entry)) (amountAsked «amount_given» amount) (now («bank_reference» .entry)) (now («customer_reference» .entry)) (now (text .entry))) (now (out .entry)) ⌝ }
 {
-    let w = figures::state_of(writer);
-    let a = figures::amount_asked(amount_given, amount);
-    let r = writer::detail(
+    let w = c_writer::state_of(writer);
+    let a = c_writer::amount_asked(amount_given, amount);
+    let r = write_calls::detail(
         w,
         type_code,
         a,
@@ -130,7 +130,7 @@ pub extern "C" fn bai2_write_detail(
         text,
         out,
     );
-    figures::answered(writer, r)
+    c_writer::answered(writer, r)
 }
 
 // The line 49.
@@ -138,9 +138,9 @@ pub extern "C" fn bai2_write_detail(
 pub extern "C" fn bai2_write_end_account(writer: WriterState, out: &mut [u8]) -> WriteAnswer
     ensures { λ r. ⌜ replied r (now (out .exit)) ≡ replyTo writer rules.accountEnd (now (out .entry)) ⌝ }
 {
-    let w = figures::state_of(writer);
-    let r = writer::end_account(w, out);
-    figures::answered(writer, r)
+    let w = c_writer::state_of(writer);
+    let r = write_calls::end_account(w, out);
+    c_writer::answered(writer, r)
 }
 
 // The line 98.
@@ -148,9 +148,9 @@ pub extern "C" fn bai2_write_end_account(writer: WriterState, out: &mut [u8]) ->
 pub extern "C" fn bai2_write_end_group(writer: WriterState, out: &mut [u8]) -> WriteAnswer
     ensures { λ r. ⌜ replied r (now (out .exit)) ≡ replyTo writer rules.groupEnd (now (out .entry)) ⌝ }
 {
-    let w = figures::state_of(writer);
-    let r = writer::end_group(w, out);
-    figures::answered(writer, r)
+    let w = c_writer::state_of(writer);
+    let r = write_calls::end_group(w, out);
+    c_writer::answered(writer, r)
 }
 
 // The line 99.
@@ -158,7 +158,7 @@ pub extern "C" fn bai2_write_end_group(writer: WriterState, out: &mut [u8]) -> W
 pub extern "C" fn bai2_write_end_file(writer: WriterState, out: &mut [u8]) -> WriteAnswer
     ensures { λ r. ⌜ replied r (now (out .exit)) ≡ replyTo writer rules.fileEnd (now (out .entry)) ⌝ }
 {
-    let w = figures::state_of(writer);
-    let r = writer::end_file(w, out);
-    figures::answered(writer, r)
+    let w = c_writer::state_of(writer);
+    let r = write_calls::end_file(w, out);
+    c_writer::answered(writer, r)
 }

@@ -27,9 +27,9 @@ use Rattle.rules.proofs.LineLaws.{inLine, noCR, lines-lf, freshStart}
 use Rattle.rules.proofs.CellLaws.{plainByte, cells-comma, cells-slash}
 use Rattle.rules.proofs.RunLaws.{within}
 use Rattle.rules.proofs.Accepted.{step-again}
-use Rattle.digits.proofs.Tests.{below-or-from}
-use Rattle.digits.proofs.DigitStrings.{all-append, number-decimal, decimal-digits, decimal-at-most, decimal-fits}
-use Rattle.digits.proofs.Totals.{total-below-zero, total-from-zero, total-equals, total-signed}
+use Rattle.base_digits.proofs.Tests.{below-or-from}
+use Rattle.base_digits.proofs.DigitStrings.{all-append, number-decimal, decimal-digits, decimal-at-most, decimal-fits}
+use Rattle.base_digits.proofs.Totals.{total-below-zero, total-from-zero, total-equals, total-signed}
 use Rattle.laws.specs.Words.{between, onlyLines}
 use Rattle.laws.proofs.Steps.{bounded-room}
 

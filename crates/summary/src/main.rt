@@ -2,5 +2,5 @@
 use libc::STDIN_FILENO;
 
 fn main() {
-    report::judge_input(STDIN_FILENO);
+    run_report::judge_input(STDIN_FILENO);
 }

@@ -5,9 +5,9 @@ use mathlib.Core.Option.{Option}
 use borrow.Author.Needs.{needs}
 use lib.Dec.{eqb}
 use Rattle.rules.specs.Writer as rules
-use Rattle.turns.specs.States.{writerMeant, writtenMeant}
-use Rattle.writer.specs.Items.{itemGiven}
-use Rattle.figures.specs.Figures.{itemOf, itemAsked}
+use Rattle.write_state.specs.States.{writerMeant, writtenMeant}
+use Rattle.write_calls.specs.Items.{itemGiven}
+use Rattle.c_writer.specs.Figures.{itemOf, itemAsked}
 use Rattle.bai2.proofs.Replies.{replies, written-as, amount-is, item-or-none}
 use Rattle.bai2.proofs.writing.bai2_write_account.Statement.{statement}
 use Rattle.bai2.proofs.writing.bai2_write_account.Tie as tie

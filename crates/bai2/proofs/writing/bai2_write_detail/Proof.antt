@@ -4,9 +4,9 @@ use mathlib.Core.Option.{Option}
 use borrow.Author.Needs.{needs}
 use Rattle.rules.specs.Numbers.{Signed}
 use Rattle.rules.specs.Writer as rules
-use Rattle.drafts.specs.Drafts.{amountGiven}
-use Rattle.turns.specs.States.{writerMeant, writtenMeant}
-use Rattle.figures.specs.Figures.{amountAsked}
+use Rattle.write_line.specs.Drafts.{amountGiven}
+use Rattle.write_state.specs.States.{writerMeant, writtenMeant}
+use Rattle.c_writer.specs.Figures.{amountAsked}
 use Rattle.bai2.proofs.Replies.{replies, written-as, amount-is}
 use Rattle.bai2.proofs.writing.bai2_write_detail.Statement.{statement}
 use Rattle.bai2.proofs.writing.bai2_write_detail.Tie as tie

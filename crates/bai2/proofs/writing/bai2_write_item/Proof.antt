@@ -2,9 +2,9 @@
 use mathlib.Core.Path.{ap}
 use borrow.Author.Needs.{needs}
 use Rattle.rules.specs.Writer as rules
-use Rattle.turns.specs.States.{writerMeant, writtenMeant}
-use Rattle.writer.specs.Items.{itemMeant}
-use Rattle.figures.specs.Figures.{itemOf}
+use Rattle.write_state.specs.States.{writerMeant, writtenMeant}
+use Rattle.write_calls.specs.Items.{itemMeant}
+use Rattle.c_writer.specs.Figures.{itemOf}
 use Rattle.bai2.proofs.Replies.{replies, written-as, amount-is, item-is}
 use Rattle.bai2.proofs.writing.bai2_write_item.Statement.{statement}
 use Rattle.bai2.proofs.writing.bai2_write_item.Tie as tie

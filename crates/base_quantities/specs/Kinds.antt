@@ -1,0 +1,24 @@
+-- Sums of units as the rules' sums, and where they and counts end. Assumes nothing.
+use Prim.Native.Nat.{ℕ}
+use mathlib.Core.Bool.{cond}
+use lib.Dec.{leb}
+use Rattle.rules.specs.Numbers.{Sum, magnitudes, most}
+use Rattle.base_quantities.specs.declared.Units.{Units}
+use Rattle.base_quantities.specs.declared.UnitsSum.{UnitsSum}
+use Rattle.base_quantities.specs.declared.UnitsSum.the-variants.{Within, Beyond}
+
+-- units as a sum
+abbrev pub sumMeant : Units → Sum
+sumMeant u = record { pluses = u .0; minuses = u .1 }
+
+-- a sum as units
+abbrev pub unitsOf : Sum → Units
+unitsOf a = record { 0 = a .pluses; 1 = a .minuses }
+
+-- a sum as units, unless its magnitudes pass the largest
+unfoldable pub unitsWithin : Sum → UnitsSum
+unitsWithin a = cond (leb (magnitudes a) most) (Within (unitsOf a)) Beyond
+
+-- the largest count of records
+abbrev pub mostRecords : ℕ
+mostRecords = 18_446_744_073_709_551_615

@@ -1,0 +1,66 @@
+// What records add up to, for the reader and the writer: a file's summary, a group's, an account's, and what each record adds.
+use base_codes::Code;
+use base_quantities::Records;
+use base_quantities::Units;
+ghost use mathlib.Core.Path.{_≡_};
+ghost use mathlib.Core.Bool.{cond};
+ghost use Rattle.rules.specs.Totals.{noSummary};
+ghost use Rattle.rules.specs.Totals as totals;
+ghost use Rattle.base_codes.specs.Meanings.{codeMeant};
+ghost use Rattle.base_quantities.specs.Kinds.{sumMeant};
+ghost use Rattle.base_totals.specs.Summaries.{nothingYet, summaryMeant};
+
+// A file's total and its numbers of groups, accounts, details and records; likewise a group's, an account's, a record's.
+pub struct Summary {
+    pub total: Units,
+    pub groups: u64,
+    pub accounts: u64,
+    pub details: u64,
+    pub records: Records,
+}
+
+// The summary of no records.
+pub fn no_summary() -> Summary
+    ensures { λ r. ⌜ r ≡ nothingYet ⌝ }
+{
+    Summary {
+        total: Units(0, 0),
+        groups: 0,
+        accounts: 0,
+        details: 0,
+        records: Records(0),
+    }
+}
+
+// 1 where the codes are the same, else 0.
+fn one(code: Code, of: Code) -> u64
+    ensures { λ r. ⌜ r ≡ totals.one (codeMeant code) (codeMeant of) ⌝ }
+{
+    if read_order::same_code(code, of) {
+        return 1;
+    }
+    0
+}
+
+// What so many lines of a record of this code add, with this sum of amounts.
+pub fn adding(code: Code, total: Units, records: Records) -> Summary
+    ensures { λ r. ⌜ summaryMeant r ≡ totals.adding (codeMeant code) (sumMeant total) (records .0) ⌝ }
+{
+    Summary {
+        total,
+        groups: one(code, Code::GroupHeader),
+        accounts: one(code, Code::AccountHeader),
+        details: one(code, Code::Detail),
+        records,
+    }
+}
+
+// The summary of a group or account that is open; none where it is not.
+pub fn while_open(is_open: bool, summary: Summary) -> Summary
+    ensures { λ r. ⌜ summaryMeant r ≡ cond is_open (summaryMeant summary) noSummary ⌝ }
+{
+    if is_open {
+        return summary;
+    }
+    no_summary()
+}

@@ -1,0 +1,222 @@
+// The writer's state and its answers as plain numbers, which C hands from call to call; amounts and counts that C gives or leaves out.
+use base_digits::Amount;
+use base_quantities::Place;
+use base_quantities::Records;
+use base_quantities::Units;
+use base_totals::Summary;
+use write_line::MaybeAmount;
+use write_line::MaybeCount;
+use write_state::Phase;
+use write_state::Writer;
+use write_state::Written;
+ghost use mathlib.Core.Path.{_≡_};
+ghost use mathlib.Core.List.{[]};
+ghost use Rattle.base_digits.specs.Reading.{amountMeant};
+ghost use Rattle.write_line.specs.Drafts.{amountGiven, countGiven};
+ghost use Rattle.base_totals.specs.Summaries.{summaryMeant};
+ghost use Rattle.write_state.specs.States.{phaseMeant, writerMeant, writtenMeant};
+ghost use Rattle.c_writer.specs.Figures.{summaryOf, figuresOf, phaseOf, phaseFigure, flag, sizeOf, stateOf, numbersOf, numbersBehind, answerOf, signedOf, amountAsked, countAsked};
+
+// A summary in figures.
+#[repr(C)]
+pub struct Figures {
+    pub pluses: u64,
+    pub minuses: u64,
+    pub groups: u64,
+    pub accounts: u64,
+    pub details: u64,
+    pub lines: u64,
+}
+
+// Where the writer stands: the bytes so far, what was written last, whether a further item may come, and the summaries.
+#[repr(C)]
+pub struct WriterState {
+    pub size: u64,
+    pub phase: u64,
+    pub items: u64,
+    pub file: Figures,
+    pub group: Figures,
+    pub account: Figures,
+}
+
+// What a call of the writer answers.
+#[repr(C)]
+pub struct WriteAnswer {
+    pub number: u64,
+    pub place: u64,
+    pub length: u64,
+    pub writer: WriterState,
+}
+
+// ---- the state
+
+// The summary that the figures say.
+fn summary_of(f: Figures) -> Summary
+    ensures { λ r. ⌜ summaryMeant r ≡ summaryOf f ⌝ }
+{
+    Summary {
+        total: Units(f.pluses, f.minuses),
+        groups: f.groups,
+        accounts: f.accounts,
+        details: f.details,
+        records: Records(f.lines),
+    }
+}
+
+// A summary's figures.
+fn figures_of(s: Summary) -> Figures
+    ensures { λ r. ⌜ r ≡ figuresOf (summaryMeant s) ⌝ }
+{
+    let total = s.total;
+    let records = s.records;
+    Figures {
+        pluses: total.0,
+        minuses: total.1,
+        groups: s.groups,
+        accounts: s.accounts,
+        details: s.details,
+        lines: records.0,
+    }
+}
+
+// The phase of this number.
+fn phase_of(n: u64) -> Phase
+    ensures { λ r. ⌜ phaseMeant r ≡ phaseOf n ⌝ }
+{
+    match n {
+        0 => Phase::Fresh,
+        1 => Phase::BetweenGroups,
+        2 => Phase::InGroup,
+        3 => Phase::InAccount,
+        4 => Phase::BetweenAccounts,
+        _ => Phase::Finished,
+    }
+}
+
+// A phase's number in include/bai2.h.
+fn phase_figure(p: Phase) -> u64
+    ensures { λ r. ⌜ r ≡ phaseFigure (phaseMeant p) ⌝ }
+{
+    match p {
+        Phase::Fresh => 0,
+        Phase::BetweenGroups => 1,
+        Phase::InGroup => 2,
+        Phase::InAccount => 3,
+        Phase::BetweenAccounts => 4,
+        Phase::Finished => 5,
+    }
+}
+
+// 1 where it holds, else 0.
+pub fn flag_of(holds: bool) -> u64
+    ensures { λ r. ⌜ r ≡ flag holds ⌝ }
+{
+    if holds {
+        return 1;
+    }
+    0
+}
+
+// The bytes so far; more than any file has where phase or items have no meaning.
+fn size_of(w: WriterState) -> usize
+    ensures { λ r. ⌜ r ≡ sizeOf w ⌝ }
+{
+    if 5 < w.phase {
+        return write_state::MOST_BYTES + 1;
+    }
+    if 1 < w.items {
+        return write_state::MOST_BYTES + 1;
+    }
+    w.size as usize
+}
+
+// The state that the numbers say.
+pub fn state_of(w: WriterState) -> Writer
+    ensures { λ r. ⌜ writerMeant r ≡ stateOf w ⌝ }
+{
+    Writer {
+        phase: phase_of(w.phase),
+        items: w.items == 1,
+        size: Place(size_of(w)),
+        file: summary_of(w.file),
+        group: summary_of(w.group),
+        account: summary_of(w.account),
+    }
+}
+
+// A state's numbers.
+pub fn numbers_of(w: Writer) -> WriterState
+    ensures { λ r. ⌜ r ≡ numbersOf (writerMeant w) ⌝ }
+{
+    let size = w.size;
+    let phase = w.phase;
+    WriterState {
+        size: size.0 as u64,
+        phase: phase_figure(phase),
+        items: flag_of(w.items),
+        file: figures_of(w.file),
+        group: figures_of(w.group),
+        account: figures_of(w.account),
+    }
+}
+
+// The numbers behind a call: the new state's where it was accepted, those given where it was refused.
+fn numbers_behind(given: WriterState, r: Written) -> WriterState
+    ensures { λ n. ⌜ n ≡ numbersBehind given (writtenMeant r []) ⌝ }
+{
+    if r.number != 0 {
+        return given;
+    }
+    numbers_of(r.writer)
+}
+
+// The answer for C.
+pub fn answered(given: WriterState, r: Written) -> WriteAnswer
+    ensures { λ a. ⌜ a ≡ answerOf given (writtenMeant r []) ⌝ }
+{
+    let place = r.place;
+    WriteAnswer {
+        number: r.number,
+        place: place.0 as u64,
+        length: r.length as u64,
+        writer: numbers_behind(given, r),
+    }
+}
+
+// ---- amounts and counts
+
+// A number's sign and magnitude.
+fn amount_of(n: i64) -> Amount
+    ensures { λ r. ⌜ amountMeant r ≡ signedOf n ⌝ }
+{
+    if n < 0 {
+        return Amount {
+            negative: true,
+            magnitude: (-1 - n) as u64 + 1,
+        };
+    }
+    Amount {
+        negative: false,
+        magnitude: n as u64,
+    }
+}
+
+// The amount, or none where none is given.
+pub fn amount_asked(given: u64, n: i64) -> MaybeAmount
+    ensures { λ r. ⌜ amountGiven r ≡ amountAsked given n ⌝ }
+{
+    if given == 0 {
+        return MaybeAmount::NoAmount;
+    }
+    MaybeAmount::Given(amount_of(n))
+}
+
+// The number of items, or none where none is given.
+pub fn count_asked(given: u64, n: u64) -> MaybeCount
+    ensures { λ r. ⌜ countGiven r ≡ countAsked given n ⌝ }
+{
+    if given == 0 {
+        return MaybeCount::NoCount;
+    }
+    MaybeCount::Given(n)
+}

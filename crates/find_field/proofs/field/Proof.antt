@@ -1,0 +1,23 @@
+-- `find_field::field` meets its contract. Assumes nothing.
+use Rattle.find_field.specs.Meanings.{kindMeant}
+use Rattle.find_field.proofs.Reading.{lent-is}
+use borrow.Author.Needs.{needs}
+use Rattle.find_field.proofs.field.Statement.{statement}
+use Rattle.find_field.proofs.field.Tie as tie
+
+returns : tie.Need-returns
+returns c =
+    let a = c .before .before .before .before .before .args in
+    lent-is (kindMeant (a .sought)) (a .rec .now) _ _ _ _ (c .before .before .before .first-want .ensures) (c .before .before .seek .ensures .answer)
+
+pub field-spec : {M : Type 1} → statement M
+field-spec =
+    tie.close
+    (tie.spec
+    (λ c κs. search needs)
+    (λ c κs. search needs)
+    (λ c. search needs)
+    (λ c. search needs)
+    (λ c. search needs)
+    (λ c. search needs)
+    returns)

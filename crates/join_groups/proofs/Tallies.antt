@@ -1,0 +1,123 @@
+-- The numbers of the groups for a name, added up group by group as their 98s state them. Assumes nothing.
+use Prim.Native.Nat.{ℕ, _+_, _≤_}
+use native.Mathlib.Omega.{arith}
+use mathlib.Core.Path.{_≡_, refl, sym, ap, subst, _∙_}
+use mathlib.Core.Bool.{Bool, true, false}
+use mathlib.Core.List.{List, [], _∷_, _++_}
+use borrow.Author.Tests.{eq-eqb}
+use lib.Dec.{eqb→eq}
+use lib.ListN.{length, length-append}
+use Rattle.rules.specs.Bytes.{sameBytes}
+use Rattle.rules.specs.Numbers.{Signed, signed, Sum, zeroSum, _⊕_, asSum, magnitudes, most}
+use Rattle.rules.specs.Lines.{Code, groupHeader, Record, recordBytes}
+use Rattle.rules.specs.Grammar.{total}
+use Rattle.rules.specs.Records.{the}
+use Rattle.rules.specs.Totals.{Summary, _⊞_, one, adding, ofRecord}
+use Rattle.rules.specs.Combine.{summaryOf, summaryOfAll, joined}
+use Rattle.laws.specs.Words.{All}
+use Rattle.laws.proofs.Codes.{of-each, Of, Begins}
+use Rattle.laws.proofs.Pieces.{groupCodes}
+use Rattle.laws.proofs.Envelopes.{group-begins, group-codes}
+use Rattle.laws.proofs.Summaries.{summary-append, summary-as, lines-counted}
+use Rattle.laws.proofs.WholeLines.{no-more-lines}
+use Rattle.laws.proofs.Kept.{bytes-append, bytes-joined}
+use Rattle.join_groups.specs.Ahead.{Stands, Tallied}
+use Rattle.join_receivers.specs.Frames.{StatesTotal, StatesRecords}
+
+-- ---- what one group adds
+
+-- no 02 but the first
+no-groups : (cs : List Code) (rs : List Record) → All (λ c. one c groupHeader ≡ 0) cs → All (Of cs) rs → summaryOfAll rs .groups ≡ 0
+unfolding summaryOfAll _⊞_ ofRecord adding
+no-groups cs [] n a = refl
+no-groups cs (r ∷ rs) n a =
+    let o = a .0 in
+    let e : summaryOf r .groups ≡ 0 = ap (λ (u : Summary). u .groups) (summary-as (o .code) r (o .is-code)) ∙ of-each (λ c. one c groupHeader ≡ 0) cs n (o .code) (o .is-among) in
+    rw (e, no-groups cs rs n (a .1))
+
+one-group : (g : List Record) → Begins groupHeader groupCodes g → summaryOfAll g .groups ≡ 1
+unfolding summaryOfAll _⊞_ ofRecord adding sameBytes
+one-group [] b = absurd b
+one-group (r ∷ rs) b =
+    let e : summaryOf r .groups ≡ 1 = ap (λ (u : Summary). u .groups) (summary-as groupHeader r (b .0)) in
+    rw (e, no-groups groupCodes rs (refl, (refl, (refl, (refl, tt)))) (b .1))
+
+-- a group's numbers: the total and the lines that its 98 states
+pub record Adds (g : List Record) (sum : Sum) (lines : ℕ) : Type 0 where
+  pub group : summaryOfAll g .groups ≡ 1
+  pub total : summaryOfAll g .sum .pluses + sum .minuses ≡ sum .pluses + summaryOfAll g .sum .minuses
+  pub small : magnitudes sum ≤ magnitudes (summaryOfAll g .sum)
+  pub records : lines ≡ summaryOfAll g .lines
+  pub few : lines ≤ length (recordBytes g)
+
+-- a sum with one side is no larger than any that equals it
+one-sided : (a : Sum) (s : Signed) → a .pluses + asSum s .minuses ≡ asSum s .pluses + a .minuses → magnitudes (asSum s) ≤ magnitudes a
+one-sided a s e = go (s .negative) refl
+  where
+    go : (t : Bool) → s .negative ≡ t → magnitudes (asSum s) ≤ magnitudes a
+    go true n = let e′ = rw n at e in rw n (omega arith)
+    go false n = let e′ = rw n at e in rw n (omega arith)
+
+pub adds : (g : List Record) (s : Stands g) (sum : Sum) (lines : ℕ) → StatesTotal (s .controlled .trailer) sum → StatesRecords (s .controlled .trailer) lines → Adds g sum lines
+adds g s sum lines said counts =
+    let c = s .controlled in
+    let a = signed (the total (c .fields) .bytes) in
+    let is-total : sum ≡ asSum a = said (c .fields) (c .walked) in
+    let stated = eqb→eq _ _ (c .states-total) in
+    let counted = lines-counted _ g (group-codes g (s .is-group)) in
+    let lines-are : lines ≡ length (joined g) = counts (c .fields) (c .walked) ∙ c .states-lines in
+    let most-lines = no-more-lines (joined g) (s .kept .wholes) in
+    let bytes = ap length (bytes-joined g) in
+    record {
+      group = one-group g (group-begins g (s .is-group));
+      total = subst (λ (u : Sum). summaryOfAll g .sum .pluses + u .minuses ≡ u .pluses + summaryOfAll g .sum .minuses) (sym is-total) stated;
+      small = subst (λ (u : Sum). magnitudes u ≤ magnitudes (summaryOfAll g .sum)) (sym is-total) (one-sided (summaryOfAll g .sum) a stated);
+      records = lines-are ∙ sym counted;
+      few = omega arith;
+    }
+
+-- ---- so far and ahead
+
+-- the numbers so far, with those of the groups ahead, are those of all; and the sum leaves room for theirs
+pub record Tallying (all ahead : List (List Record)) (groups bytes : ℕ) (sum : Sum) (lines : ℕ) : Type 0 where
+  pub count : groups + summaryOfAll (joined ahead) .groups ≡ summaryOfAll (joined all) .groups
+  pub size : bytes + length (recordBytes (joined ahead)) ≡ length (recordBytes (joined all))
+  pub total : (sum .pluses + summaryOfAll (joined ahead) .sum .pluses) + summaryOfAll (joined all) .sum .minuses
+      ≡ summaryOfAll (joined all) .sum .pluses + (sum .minuses + summaryOfAll (joined ahead) .sum .minuses)
+  pub records : lines + summaryOfAll (joined ahead) .lines ≡ summaryOfAll (joined all) .lines
+  pub room : magnitudes sum + magnitudes (summaryOfAll (joined ahead) .sum) ≤ most
+  pub few : lines ≤ bytes
+
+pub tally-start : (gs : List (List Record)) → magnitudes (summaryOfAll (joined gs) .sum) ≤ most → Tallying gs gs 0 0 zeroSum 0
+tally-start gs h = record { count = omega arith; size = omega arith; total = omega arith; records = omega arith; room = omega arith; few = omega arith }
+
+pub tally-end : (gs : List (List Record)) (groups bytes : ℕ) (sum : Sum) (lines : ℕ) → Tallying gs [] groups bytes sum lines → Tallied gs groups bytes sum lines
+unfolding joined summaryOfAll recordBytes
+tally-end gs groups bytes sum lines t =
+    let all = summaryOfAll (joined gs) .sum in
+    record {
+      count = omega (arith, t .count);
+      size = omega (arith, t .size);
+      sum = eq-eqb (sum .pluses + all .minuses) (all .pluses + sum .minuses) (omega (arith, t .total));
+      lines = omega (arith, t .records);
+      few = t .few;
+    }
+
+pub tally-add : (all : List (List Record)) (g : List Record) (gs : List (List Record)) (groups bytes : ℕ) (sum : Sum) (lines : ℕ) (more : Sum) (n : ℕ)
+    → Tallying all (g ∷ gs) groups bytes sum lines → Adds g more n → Tallying all gs (groups + 1) (bytes + length (recordBytes g)) (sum ⊕ more) (lines + n)
+unfolding joined _⊞_
+tally-add all g gs groups bytes sum lines more n t a =
+    let e : summaryOfAll (g ++ joined gs) ≡ summaryOfAll g ⊞ summaryOfAll (joined gs) = summary-append g (joined gs) in
+    let b : length (recordBytes (g ++ joined gs)) ≡ length (recordBytes g) + length (recordBytes (joined gs)) = ap length (bytes-append g (joined gs)) ∙ length-append (recordBytes g) (recordBytes (joined gs)) in
+    let count = rw e at (t .count) in
+    let total = rw e at (t .total) in
+    let records = rw e at (t .records) in
+    let room = rw e at (t .room) in
+    record {
+      count = omega (arith, a .group);
+      size = omega (arith, t .size);
+      total = omega (arith, a .total);
+      records = omega (arith, a .records);
+      room = omega (arith, a .small);
+      few = omega (arith, a .few, t .few);
+    }

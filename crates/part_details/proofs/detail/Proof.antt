@@ -1,0 +1,53 @@
+-- `part_details::detail` meets its contract. Assumes nothing.
+use Prim.Native.Nat.{zero-le}
+use native.Mathlib.Omega.{arith}
+use Rattle.part_groups.specs.Meanings.{partMeant}
+use Rattle.part_details.proofs.Answering.{detail-refused, detail-found}
+use borrow.Author.Needs.{needs}
+use Rattle.part_details.proofs.detail.Statement.{statement}
+use Rattle.part_details.proofs.detail.Tie as tie
+use Rattle.part_groups.proofs.find_detail.Reads as find-detail-reads
+use Rattle.part_details.proofs.text_in.Reads as text-in-reads
+use Rattle.find_field.proofs.amount_of.Reads as amount-of-reads
+use Rattle.find_field.proofs.type_of.Reads as type-of-reads
+
+returns : tie.Need-returns
+returns c =
+    let a = c .before .before .before .before .before .args in
+    let f = c .before .before .before .find-detail in
+    let said = detail-refused (a .file .now) (a .g) (a .a) (a .n) (partMeant (f .result)) (f .ensures .0) (c .if1 .taken) in
+    (said .0, record { bytes = said .1; inside = zero-le })
+
+add-to : tie.Need-add-to
+add-to c = omega (arith, c .before .before .before .before .find-detail .ensures .1, c .before .before .before .before .before .before .good)
+
+part-rec-end : tie.Need-part-rec-end
+part-rec-end c = c .before .before .before .before .find-detail .ensures .1
+
+text-in-requires : tie.Need-text-in-requires
+text-in-requires c κs = (omega arith, c .before .before .before .before .before .before .find-detail .ensures .1)
+
+returns-2 : tie.Need-returns-2
+returns-2 c =
+    let a = c .before .before .before .before .before .before .before .before .before .before .args in
+    let f = c .before .before .before .before .before .before .before .before .find-detail in
+    let m = c .before .before .amount-of in
+    let t = c .before .text-in in
+    let said = detail-found (a .file .now) (partMeant (f .result)) _ _ _ _ _ (a .g) (a .a) (a .n) (f .ensures .0) (c .before .before .before .before .before .if1 .left)
+    (record { type-is = c .type-of .ensures; given-is = m .ensures .0; amount-is = m .ensures .1; text-is = t .ensures .answer; inside = t .ensures .inside }) in
+    (said .0, record { bytes = said .1; inside = t .ensures .inside })
+
+pub detail-spec : {M : Type 1} → statement M
+detail-spec =
+    tie.close
+    (tie.spec
+    (λ c κs. search needs)
+    returns
+    add-to
+    (λ c. search needs)
+    (λ c. search needs)
+    part-rec-end
+    (λ c κs. search needs)
+    text-in-requires
+    (λ c κs. search needs)
+    returns-2)

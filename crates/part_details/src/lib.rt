@@ -1,0 +1,89 @@
+// A detail by number: its type, its amount and its first text piece, which is a slice of the lent file itself.
+use base_codes::Code;
+use base_quantities::Place;
+use find_field::Sought;
+use find_field::Spot;
+use read_wanted::want;
+ghost use mathlib.Core.Path.{_≡_};
+ghost use Prim.Native.Nat.{_+_, _≤_};
+ghost use lib.ListN.{length};
+ghost use Rattle.rules.specs.Outcome.{orElse};
+ghost use Rattle.rules.specs.Parts as rules;
+ghost use Rattle.rules.specs.Answers.{detailOfFile, noDetail};
+ghost use Rattle.part_details.specs.Details.{detailMeant, TextStands};
+ghost use Rattle.part_details.specs.Texts.{TextIs};
+
+// A refusal's number and place, or 0 and 0; and a detail's type, whether its amount is given and which, and where its first text piece starts in the file, and its length: 0 where there is none.
+pub struct DetailAnswer {
+    pub number: u64,
+    pub place: Place,
+    pub type_code: u64,
+    pub amount_given: bool,
+    pub amount: u64,
+    pub text_start: usize,
+    pub text_length: usize,
+}
+
+// Where the first text piece of the detail from `from` to `to` starts in the file, and its length; 0 and 0 where there is none.
+fn text_in(file: &[u8], from: usize, to: usize) -> Spot
+    requires { ⌜ (from ≤ to) × (to ≤ length (now file)) ⌝ }
+    ensures { λ r. ⌜ TextIs (now (file .entry)) from to r ⌝ }
+{
+    let rec = &file[from..to];
+    let text = find_field::seek(rec, want::first_want(Code::Detail), Sought::Text);
+    let start = text.start;
+    let end = start + text.length;
+    if read_values::is_one_of(&rec[start..end], b'/', b'/') {
+        return Spot {
+            start: 0,
+            length: 0,
+        };
+    }
+    Spot {
+        start: from + start,
+        length: text.length,
+    }
+}
+
+// The detail of this number in that account: reader's refusal, 17.
+pub fn detail(file: &[u8], g: u64, a: u64, n: u64) -> DetailAnswer
+    ensures { λ r. ⌜ (detailMeant r ≡ detailOfFile (now (file .entry)) g a n) × TextStands (now (file .entry)) r (orElse (rules.detailAt (now (file .entry)) g a n) noDetail .textBytes) ⌝ }
+{
+    let part = part_groups::find_detail(file, g, a, n);
+    let place = part.place;
+    if part.number != 0 {
+        return DetailAnswer {
+            number: part.number,
+            place,
+            type_code: 0,
+            amount_given: false,
+            amount: 0,
+            text_start: 0,
+            text_length: 0,
+        };
+    }
+    let from = part.start;
+    let to = from + part.length;
+    let rec = &file[from..to];
+    let amount = find_field::amount_of(rec);
+    let text = text_in(file, from, to);
+    DetailAnswer {
+        number: 0,
+        place,
+        type_code: find_field::type_of(rec),
+        amount_given: amount.given,
+        amount: amount.amount,
+        text_start: text.start,
+        text_length: text.length,
+    }
+}
+
+// The detail's first text piece, in the file; empty if none, and when refused.
+pub fn detail_text(file: &[u8], g: u64, a: u64, n: u64) -> &[u8]
+    ensures { λ r. ⌜ now r ≡ orElse (rules.detailAt (now (file .entry)) g a n) noDetail .textBytes ⌝ }
+{
+    let found = detail(file, g, a, n);
+    let from = found.text_start;
+    let to = from + found.text_length;
+    &file[from..to]
+}

@@ -1,0 +1,29 @@
+-- `part_groups::account` meets its contract. Assumes nothing.
+use native.Mathlib.Omega.{arith}
+use Rattle.rules.specs.Parts.{accountAt}
+use Rattle.rules.specs.Answers.{accountPart}
+use Rattle.laws.proofs.FileTheorems.{account-is-slice}
+use Rattle.part_groups.specs.Meanings.{partMeant}
+use Rattle.part_groups.proofs.Moving.{named-slice}
+use borrow.Author.Needs.{needs}
+use Rattle.part_groups.proofs.account.Statement.{statement}
+use Rattle.part_groups.proofs.account.Tie as tie
+use Rattle.part_groups.proofs.find_account.Reads as find-account-reads
+
+add-to : tie.Need-add-to
+add-to c = omega (arith, c .before .find-account .ensures .1, c .before .before .before .good)
+
+part-result-end : tie.Need-part-result-end
+part-result-end c = c .before .find-account .ensures .1
+
+returns : tie.Need-returns
+unfolding accountPart
+returns c =
+    let a = c .before .before .before .before .args in
+    let f = c .before .before .find-account in
+    named-slice (a .file .now) (accountAt (a .file .now) (a .g) (a .n)) (partMeant (f .result)) (f .ensures .0) (account-is-slice (a .file .now) (a .g) (a .n))
+
+pub account-spec : {M : Type 1} → statement M
+account-spec =
+    tie.close
+    (tie.spec (λ c κs. search needs) add-to (λ c. search needs) (λ c. search needs) part-result-end returns)

@@ -1,0 +1,89 @@
+// A file's verdict: `record` holds one record's checks in their order, `state` what is known between two records, and this file 1, 2 and a missing 99.
+use crate::record::Stepped;
+use crate::state::State;
+use base_quantities::Place;
+use base_totals::Summary;
+ghost use mathlib.Core.Path.{_≡_};
+ghost use Rattle.rules.specs.Verdict.{judge};
+ghost use Rattle.read_file.specs.Meanings.{verdictMeant};
+ghost use Rattle.read_file.specs.Answers.{EndIs, JudgedIs};
+
+mod record;
+mod state;
+
+// The longest file, and the longest result.
+pub const MOST_BYTES: usize = 16_777_216;
+
+// The summary, or a refusal's number and its byte's place in the file.
+pub enum Verdict {
+    Accepted(Summary),
+    Refused(u64, Place),
+}
+
+// An accepted file: its summary, its longest line (L, or 4,096), and where its 99 starts.
+pub struct GoodFile {
+    pub summary: Summary,
+    pub limit: usize,
+    pub last: usize,
+}
+
+// What is known of an accepted file, or a refusal's number and its byte's place in the file.
+pub enum Judged {
+    Accepted(GoodFile),
+    Refused(u64, Place),
+}
+
+// Behind the last record, which starts at `last`, of a file of this length: 6, where the 99 was not there.
+fn at_end(st: State, last: usize, length: usize) -> Judged
+    ensures { λ r. ⌜ EndIs r st last length ⌝ }
+{
+    let expected = st.expected;
+    if read_order::has_ended(expected) {
+        let summary = st.file;
+        return Judged::Accepted(GoodFile {
+            summary,
+            limit: st.limit,
+            last,
+        });
+    }
+    Judged::Refused(6, Place(length))
+}
+
+// A file's verdict, with what is known of a file that is accepted.
+pub fn judge_file(file: &[u8]) -> Judged
+    ensures { λ r. ⌜ JudgedIs r (now (file .entry)) ⌝ }
+{
+    if file.len() == 0 {
+        return Judged::Refused(1, Place(0));
+    }
+    if MOST_BYTES < file.len() {
+        return Judged::Refused(2, Place(0));
+    }
+    let mut st = state::start();
+    let mut last: usize = 0;
+    let mut at: usize = 0;
+    loop {
+        match record::step(st, &file[at..]) {
+            Stepped::End => return at_end(st, last, file.len()),
+            Stepped::Refused(k, p) => return Judged::Refused(k, Place(at + p.0)),
+            Stepped::Next(next, size) => {
+                st = next;
+                last = at;
+                at += size;
+            }
+        }
+    }
+}
+
+// A file's verdict.
+pub fn read(file: &[u8]) -> Verdict
+    ensures { λ r. ⌜ verdictMeant r ≡ judge (now (file .entry)) ⌝ }
+{
+    match judge_file(file) {
+        Judged::Accepted(good) => {
+            let summary = good.summary;
+            Verdict::Accepted(summary)
+        }
+        Judged::Refused(n, p) => Verdict::Refused(n, p),
+    }
+}

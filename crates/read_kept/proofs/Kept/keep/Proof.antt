@@ -1,0 +1,54 @@
+-- `Kept::keep` meets its contract. Assumes nothing.
+use mathlib.Core.Path.{ap, sym, _∙_}
+use Rattle.read_wanted.specs.Wants.{keepMeant}
+use Rattle.read_kept.specs.Keeping.{keepWith, keepRead}
+use borrow.Author.Needs.{needs}
+use Rattle.read_kept.proofs.Kept.keep.Statement.{statement}
+use Rattle.read_kept.proofs.Kept.keep.Tie as tie
+
+returns : tie.Need-returns
+unfolding keepRead keepWith
+returns c = rw (sym (c .before .before .kept-for .ensures) ∙ ap keepMeant (c .enum-told .given .1))
+
+returns-2 : tie.Need-returns-2
+unfolding keepRead keepWith
+returns-2 c = rw (sym (c .before .before .before .kept-for .ensures) ∙ ap keepMeant (c .before .enum-told2 .given .1), c .add .ensures)
+
+returns-3 : tie.Need-returns-3
+unfolding keepRead keepWith
+returns-3 c = rw (sym (c .before .before .before .before .kept-for .ensures) ∙ ap keepMeant (c .before .before .enum-told3 .given .1), c .or-first .ensures)
+
+returns-4 : tie.Need-returns-4
+unfolding keepRead keepWith
+returns-4 c = rw (sym (c .before .before .before .before .kept-for .ensures) ∙ ap keepMeant (c .before .before .enum-told4 .given .1), c .or-first2 .ensures)
+
+returns-5 : tie.Need-returns-5
+unfolding keepRead keepWith
+returns-5 c = rw (sym (c .before .before .before .before .kept-for .ensures) ∙ ap keepMeant (c .before .before .enum-told5 .given .1), c .or-first3 .ensures)
+
+returns-6 : tie.Need-returns-6
+unfolding keepRead keepWith
+returns-6 c = rw (sym (c .before .before .before .before .kept-for .ensures) ∙ ap keepMeant (c .before .before .enum-told6 .given .1), c .or-first4 .ensures)
+
+pub keep-spec : {M : Type 1} → statement M
+keep-spec =
+    tie.close
+    (tie.spec
+    (λ c κs. search needs)
+    (λ c. search needs)
+    returns
+    (λ c. search needs)
+    (λ c κs. search needs)
+    returns-2
+    (λ c. search needs)
+    (λ c κs. search needs)
+    returns-3
+    (λ c. search needs)
+    (λ c κs. search needs)
+    returns-4
+    (λ c. search needs)
+    (λ c κs. search needs)
+    returns-5
+    (λ c. search needs)
+    (λ c κs. search needs)
+    returns-6)

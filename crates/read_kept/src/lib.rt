@@ -1,0 +1,184 @@
+// What a walk keeps of a record's fields for the checks that come behind it: 10, a trailer's 11 to 14, and L.
+use base_quantities::MOST;
+use base_quantities::Place;
+use base_quantities::Units;
+use read_wanted::want::Keep;
+use read_wanted::want::Want;
+ghost use mathlib.Core.Path.{_≡_};
+ghost use mathlib.Core.Bool.{not};
+ghost use Prim.Native.Nat.{_+_};
+ghost use lib.Dec.{ltb};
+ghost use Rattle.rules.specs.Bytes.{isEmpty};
+ghost use Rattle.rules.specs.Numbers.{magnitudes, most};
+ghost use Rattle.rules.specs.Grammar.{nextKind};
+ghost use Rattle.base_quantities.specs.Kinds.{sumMeant};
+ghost use Rattle.base_digits.specs.Reading.{amountIn};
+ghost use Rattle.read_wanted.specs.Wants.{wantedOf, forNothing, samePurpose, purpose};
+ghost use Rattle.read_kept.specs.Keeping.{noFigure, figureWith, fresh, addedTo, keepRead};
+
+// A trailer's figure, or L. seen: its field was there; given: it was not empty. Here and below the bools stand last, for speed: copies have no gaps.
+pub struct Figure {
+    pub at: Place,
+    pub value: u64,
+    pub seen: bool,
+    pub given: bool,
+    pub negative: bool,
+}
+
+// before: the magnitudes of the records before; sum: of this record's amounts; over: one of them passed the largest, the first at `past`.
+pub struct Kept {
+    pub before: u64,
+    pub sum: Units,
+    pub past: Place,
+    pub total: Figure,
+    pub count: Figure,
+    pub records: Figure,
+    pub length: Figure,
+    pub over: bool,
+}
+
+// The next field is kept for something.
+pub fn is_kept(want: Want) -> bool
+    ensures { λ r. ⌜ r ≡ not (samePurpose forNothing (purpose (nextKind (wantedOf want)))) ⌝ }
+{
+    match read_wanted::want::kept_for(want) {
+        Keep::Amount => true,
+        Keep::Total => true,
+        Keep::Count => true,
+        Keep::Records => true,
+        Keep::Length => true,
+        Keep::Nothing => false,
+    }
+}
+
+impl Figure {
+    // No field yet.
+    fn none() -> Figure
+        ensures { λ r. ⌜ r ≡ noFigure ⌝ }
+    {
+        Figure {
+            seen: false,
+            given: false,
+            at: Place(0),
+            negative: false,
+            value: 0,
+        }
+    }
+
+    // The figure that a field gives, unless one was there before it.
+    fn or_first(self, at: Place, f: &[u8]) -> Figure
+        ensures { λ r. ⌜ r ≡ figureWith self (at .0) (not (isEmpty (now (f .entry)))) (amountIn (now (f .entry))) ⌝ }
+    {
+        if self.seen {
+            return self;
+        }
+        let a = base_digits::amount_in(f);
+        Figure {
+            seen: true,
+            given: !read_values::is_empty(f),
+            at,
+            negative: a.negative,
+            value: a.magnitude,
+        }
+    }
+}
+
+impl Kept {
+    // Nothing is kept yet, behind records with these magnitudes.
+    pub fn none(before: u64) -> Kept
+        ensures { λ r. ⌜ r ≡ fresh before ⌝ }
+    {
+        Kept {
+            before,
+            sum: Units(0, 0),
+            over: false,
+            past: Place(0),
+            total: Figure::none(),
+            count: Figure::none(),
+            records: Figure::none(),
+            length: Figure::none(),
+        }
+    }
+
+    // The magnitudes with n more pass the largest.
+    fn passes(self, n: u64) -> bool
+        ensures { λ r. ⌜ r ≡ ltb most (self .before + magnitudes (sumMeant (self .sum)) + n) ⌝ }
+    {
+        let sum = self.sum;
+        if MOST < self.before {
+            return true;
+        }
+        let behind = MOST - self.before;
+        if behind < sum.0 {
+            return true;
+        }
+        if behind - sum.0 < sum.1 {
+            return true;
+        }
+        behind - sum.0 - sum.1 < n
+    }
+
+    // With an amount more, unless it or one before it passes the largest.
+    fn add(self, at: Place, f: &[u8]) -> Kept
+        ensures { λ r. ⌜ r ≡ addedTo self (at .0) (amountIn (now (f .entry))) ⌝ }
+    {
+        if self.over {
+            return self;
+        }
+        let mut kept = self;
+        let a = base_digits::amount_in(f);
+        if self.passes(a.magnitude) {
+            kept.over = true;
+            kept.past = at;
+            return kept;
+        }
+        let sum = self.sum;
+        if a.negative {
+            let more = Units(sum.0, sum.1 + a.magnitude);
+            kept.sum = more;
+            return kept;
+        }
+        let more = Units(sum.0 + a.magnitude, sum.1);
+        kept.sum = more;
+        kept
+    }
+
+    // With a field that is the first of what is wanted, kept for what it is needed for.
+    pub fn keep(self, want: Want, at: Place, f: &[u8]) -> Kept
+        ensures { λ r. ⌜ r ≡ keepRead (purpose (nextKind (wantedOf want))) self (at .0) (now (f .entry)) ⌝ }
+    {
+        let mut kept = self;
+        match read_wanted::want::kept_for(want) {
+            Keep::Nothing => {
+                return self;
+            }
+            Keep::Amount => {
+                return self.add(at, f);
+            }
+            Keep::Total => {
+                let old = self.total;
+                let figure = old.or_first(at, f);
+                kept.total = figure;
+                return kept;
+            }
+            Keep::Count => {
+                let old = self.count;
+                let figure = old.or_first(at, f);
+                kept.count = figure;
+                return kept;
+            }
+            Keep::Records => {
+                let old = self.records;
+                let figure = old.or_first(at, f);
+                kept.records = figure;
+                return kept;
+            }
+            Keep::Length => {
+                let old = self.length;
+                let figure = old.or_first(at, f);
+                kept.length = figure;
+                return kept;
+            }
+        }
+    }
+}

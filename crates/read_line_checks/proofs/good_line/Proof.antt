@@ -1,0 +1,71 @@
+-- `read_line_checks::good_line` meets its contract. Assumes nothing.
+use Prim.Native.Nat.{ℕ, _+_}
+use mathlib.Core.Path.{_≡_, ap, sym, _∙_}
+use native.Mathlib.Omega.{arith}
+use lib.ListN.{drop, length-drop}
+use borrow.Author.Needs.{needs}
+use Rattle.rules.specs.Outcome.{refused}
+use Rattle.base_codes.specs.Meanings.{codeMeant}
+use Rattle.read_lines.specs.Cut.{bodyLen}
+use Rattle.read_lines.specs.Answers.{codeFound}
+use Rattle.read_lines.proofs.Passing.{body-from, next-is, next-within}
+use Rattle.read_line_checks.proofs.Checking.{line-long, line-byte, line-code, line-fine}
+use Rattle.read_line_checks.proofs.good_line.Statement.{statement}
+use Rattle.read_line_checks.proofs.good_line.Tie as tie
+
+the-end : (c : tie.After-body-end) → c .body-end .result ≡ c .before .before .before .args .at + bodyLen (drop (c .before .before .before .args .at) (c .before .before .before .args .s .now))
+the-end c = c .body-end .ensures .0 ∙ sym (body-from (c .before .before .before .args .s .now) (c .before .before .before .args .at) (c .before .plain-end .result) 126 (c .before .plain-end .ensures .0))
+
+sub-if1 : tie.Need-sub-if1
+sub-if1 c = omega (arith, the-end c)
+
+add-t9 : tie.Need-add-t9
+add-t9 c = omega (arith, the-end (c .before))
+
+returns : tie.Need-returns
+returns c =
+    let a = c .before .before .before .before .args in let xs = drop (a .at) (a .s .now) in let l = length-drop (a .at) (a .s .now) in
+    (line-long xs (a .at) (a .limit) (omega (arith, the-end (c .before))), omega (arith, the-end (c .before)))
+
+returns-2 : tie.Need-returns-2
+returns-2 c =
+    let a = c .before .before .before .before .before .args in let xs = drop (a .at) (a .s .now) in let l = length-drop (a .at) (a .s .now) in let p = c .before .before .before .plain-end .ensures .0 in (
+      line-byte xs (a .at) (a .limit) (omega (arith, the-end (c .before .before))) (omega (arith, the-end (c .before .before))) ∙ ap (λ (n : ℕ). refused 4 n) (sym p),
+      omega (arith, the-end (c .before .before)),
+    )
+
+add-t16 : tie.Need-add-t16
+add-t16 c =
+    let a = c .before .before .before .before .before .before .before .before .before .before .args in let e = c .before .before .before .before .before .before .before .body-end .result in
+    let h = next-within (a .s .now) (a .at) e (e + c .end-len .result) (the-end (c .before .before .before .before .before .before .before)) (rw (c .end-len .ensures)) in
+    omega arith
+
+returns-3 : tie.Need-returns-3
+returns-3 c =
+    let a = c .before .before .before .before .before .before .before .before .args in let xs = drop (a .at) (a .s .now) in
+    (line-code xs (a .at) (a .limit) (omega (arith, the-end (c .before .before .before .before .before))) (omega (arith, the-end (c .before .before .before .before .before))) (ap codeFound (sym (c .enum-told .given .1)) ∙ c .before .before .code-at .ensures), omega arith)
+
+returns-4 : tie.Need-returns-4
+returns-4 c =
+    let a = c .before .before .before .before .before .before .before .before .before .before .args in let xs = drop (a .at) (a .s .now) in let e = c .before .before .before .before .before .before .before .body-end .result in (
+      line-fine xs (a .at) (a .limit) (omega (arith, the-end (c .before .before .before .before .before .before .before))) (omega (arith, the-end (c .before .before .before .before .before .before .before))) (codeMeant (c .before .before .code .given .0 .0)) (ap codeFound (sym (c .before .before .code .given .1)) ∙ c .before .before .before .before .code-at .ensures),
+      next-is (a .s .now) (a .at) e (e + c .end-len .result) (the-end (c .before .before .before .before .before .before .before)) (rw (c .end-len .ensures)),
+    )
+
+pub good-line-spec : {M : Type 1} → statement M
+good-line-spec =
+    tie.close
+    (tie.spec
+    (λ c κs. search needs)
+    (λ c κs. search needs)
+    sub-if1
+    add-t9
+    returns
+    returns-2
+    (λ c κs. search needs)
+    (λ c. search needs)
+    (λ c. search needs)
+    (λ c κs. search needs)
+    add-t16
+    returns-3
+    returns-4)

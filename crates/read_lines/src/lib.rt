@@ -1,0 +1,144 @@
+// Lines and records of a file: where they end, and a line's code. `scan` finds the first byte outside a range, block by block.
+use base_codes::Code;
+ghost use mathlib.Core.Path.{_≡_};
+ghost use mathlib.Core.List.{[], _∷_};
+ghost use Prim.Native.Nat.{_+_, _-_, _≤_};
+ghost use lib.ListN.{length, take, drop};
+ghost use Rattle.rules.specs.Bytes.{sameBytes};
+ghost use Rattle.rules.specs.Lines.{linesOf, codeOf, recordSize};
+ghost use Rattle.read_lines.specs.Cut.{bodyLen, endLen, lineLen, firstLine, firstRecord};
+ghost use Rattle.read_lines.specs.Answers.{codeFound};
+
+pub mod scan;
+
+// A line's code, if it has one.
+pub enum Coded {
+    None,
+    With(Code),
+}
+
+// How many bytes of a line's end stand at `at`: LF, or CR and LF, or none.
+pub fn end_len(s: &[u8], at: usize) -> usize
+    ensures { λ r. ⌜ r ≡ endLen (drop at (now (s .entry))) ⌝ }
+{
+    if s.len() <= at {
+        return 0;
+    }
+    if s[at] == b'\n' {
+        return 1;
+    }
+    if s[at] != b'\r' {
+        return 0;
+    }
+    if s.len() - at < 2 {
+        return 0;
+    }
+    if s[at + 1] != b'\n' {
+        return 0;
+    }
+    2
+}
+
+// Where the line that starts at `at` ends, without its end.
+pub fn body_end(s: &[u8], at: usize) -> usize
+    ensures { λ r. ⌜ (r ≡ at + bodyLen (drop at (now (s .entry)))) × (r ≤ length (now (s .entry)) + (at - length (now (s .entry)))) ⌝ }
+{
+    let mut i = at;
+    while i < s.len() {
+        if 0 < end_len(s, i) {
+            return i;
+        }
+        i = scan::plain_end(s, i + 1, 255);
+    }
+    i
+}
+
+// The first `size` bytes, or all.
+pub fn front(s: &[u8], size: usize) -> &[u8]
+    ensures { λ r. ⌜ now r ≡ take size (now (s .entry)) ⌝ }
+{
+    if s.len() <= size {
+        return s;
+    }
+    &s[0..size]
+}
+
+// Where the line that starts at `at` ends among the first `size` bytes; behind them more bytes help to search by blocks.
+pub fn body_end_in(s: &[u8], size: usize, at: usize) -> usize
+    ensures { λ r. ⌜ r ≡ at + bodyLen (drop at (take size (now (s .entry)))) ⌝ }
+{
+    let e = body_end(s, at);
+    if e + end_len(s, e) <= size {
+        return e;
+    }
+    body_end(front(s, size), at)
+}
+
+// Where the line behind the one at `at` starts.
+pub fn next_line(s: &[u8], at: usize) -> usize
+    ensures { λ r. ⌜ (r ≡ at + lineLen (drop at (now (s .entry)))) × (r ≤ length (now (s .entry)) + (at - length (now (s .entry)))) ⌝ }
+{
+    let e = body_end(s, at);
+    e + end_len(s, e)
+}
+
+// x, y and a comma stand at `at`.
+pub fn begins_with(s: &[u8], at: usize, x: u8, y: u8) -> bool
+    ensures { λ r. ⌜ r ≡ sameBytes (x ∷ y ∷ 44 ∷ []) (take 3 (drop at (now (s .entry)))) ⌝ }
+{
+    if s.len() < 3 {
+        return false;
+    }
+    if s.len() - 3 < at {
+        return false;
+    }
+    if s[at] != x {
+        return false;
+    }
+    if s[at + 1] != y {
+        return false;
+    }
+    s[at + 2] == b','
+}
+
+// The code of the line that starts at `at`.
+pub fn code_at(s: &[u8], at: usize) -> Coded
+    ensures { λ r. ⌜ codeFound r ≡ codeOf (firstLine (drop at (now (s .entry)))) ⌝ }
+{
+    if begins_with(s, at, b'0', b'1') {
+        return Coded::With(Code::FileHeader);
+    }
+    if begins_with(s, at, b'0', b'2') {
+        return Coded::With(Code::GroupHeader);
+    }
+    if begins_with(s, at, b'0', b'3') {
+        return Coded::With(Code::AccountHeader);
+    }
+    if begins_with(s, at, b'1', b'6') {
+        return Coded::With(Code::Detail);
+    }
+    if begins_with(s, at, b'4', b'9') {
+        return Coded::With(Code::AccountTrailer);
+    }
+    if begins_with(s, at, b'9', b'8') {
+        return Coded::With(Code::GroupTrailer);
+    }
+    if begins_with(s, at, b'9', b'9') {
+        return Coded::With(Code::FileTrailer);
+    }
+    if begins_with(s, at, b'8', b'8') {
+        return Coded::With(Code::Continuation);
+    }
+    Coded::None
+}
+
+// Where the record that starts at `at` ends: behind its first line and all 88 lines after it.
+pub fn record_end(s: &[u8], at: usize) -> usize
+    ensures { λ r. ⌜ (r ≡ at + recordSize (firstRecord (linesOf (drop at (now (s .entry)))))) × (r ≤ length (now (s .entry)) + (at - length (now (s .entry)))) ⌝ }
+{
+    let mut e = next_line(s, at);
+    while begins_with(s, e, b'8', b'8') {
+        e = next_line(s, e);
+    }
+    e
+}

@@ -1,0 +1,76 @@
+// The search for the first byte of a kind, by blocks of 64 bytes: no test leaves a block early, so it compiles to vector code.
+ghost use mathlib.Core.Path.{_≡_};
+ghost use mathlib.Core.Bool.{cond};
+ghost use Prim.Native.Nat.{_+_, _-_, _≤_, min};
+ghost use lib.ListN.{length, drop};
+ghost use Rattle.read_lines.specs.Cut.{run, outside, stopsAt};
+ghost use Rattle.read_lines.specs.Answers.{BlockIs};
+
+// i where b is below a blank or above `high`, else 255.
+fn place_of(b: u8, i: u8, high: u8) -> u8
+    ensures { λ r. ⌜ r ≡ cond (outside high b) i 255 ⌝ }
+{
+    if b < b' ' || high < b {
+        return i;
+    }
+    255
+}
+
+// The smaller of two.
+fn smaller(a: u8, b: u8) -> u8
+    ensures { λ r. ⌜ r ≡ min a b ⌝ }
+{
+    if a < b {
+        return a;
+    }
+    b
+}
+
+// How many of the 64 bytes at `at` stand before the first that is below a blank or above `high`; 255 where none is.
+fn block(s: &[u8], at: usize, high: u8) -> usize
+    requires { ⌜ at + 64 ≤ length (now s) ⌝ }
+    ensures { λ r. ⌜ BlockIs (now (s .entry)) at high r ⌝ }
+{
+    let mut first: u8 = 255;
+    let mut i: usize = 0;
+    while i < 64 {
+        first = smaller(place_of(s[at + i], i as u8, high), first);
+        i += 1;
+    }
+    first as usize
+}
+
+// The first byte from `at` on that is below a blank or above `high`, byte by byte.
+fn end_by_bytes(s: &[u8], at: usize, high: u8) -> usize
+    ensures { λ r. ⌜ (r ≡ at + run (stopsAt high) (drop at (now (s .entry)))) × (r ≤ length (now (s .entry)) + (at - length (now (s .entry)))) ⌝ }
+{
+    let mut i = at;
+    while i < s.len() {
+        if s[i] < b' ' {
+            return i;
+        }
+        if high < s[i] {
+            return i;
+        }
+        i += 1;
+    }
+    i
+}
+
+// The first byte from `at` on that is below a blank or above `high`.
+pub fn plain_end(s: &[u8], at: usize, high: u8) -> usize
+    ensures { λ r. ⌜ (r ≡ at + run (stopsAt high) (drop at (now (s .entry)))) × (r ≤ length (now (s .entry)) + (at - length (now (s .entry)))) ⌝ }
+{
+    let mut i = at;
+    while i < s.len() {
+        if s.len() - i < 64 {
+            return end_by_bytes(s, i, high);
+        }
+        let n = block(s, i, high);
+        if n < 64 {
+            return i + n;
+        }
+        i += 64;
+    }
+    i
+}

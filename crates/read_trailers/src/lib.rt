@@ -1,0 +1,126 @@
+// What a trailer is held to against the summary of what it encloses: refusals 14, 11, 12 and 13.
+use base_codes::Code;
+use base_quantities::MOST;
+use base_totals::Summary;
+use read_kept::Kept;
+use read_line_checks::Checked;
+ghost use mathlib.Core.Path.{_≡_};
+ghost use Rattle.base_codes.specs.Meanings.{codeMeant};
+ghost use Rattle.read_line_checks.specs.Answers.{checkedOf};
+ghost use Rattle.base_totals.specs.Summaries.{summaryMeant};
+ghost use Rattle.read_trailers.specs.Controls.{withinK, totalK, countK, recordsK, trailerK, accountK, balancedK};
+
+// 14: a group's or file's sum, at the total.
+fn sum_within(s: Summary, kept: Kept) -> Checked
+    ensures { λ r. ⌜ checkedOf r ≡ withinK (summaryMeant s) kept ⌝ }
+{
+    let sum = s.total;
+    let t = kept.total;
+    let at = t.at;
+    if sum.0 < sum.1 {
+        if MOST < sum.1 - sum.0 {
+            return Checked::Refused(14, at);
+        }
+        return Checked::Fine;
+    }
+    if MOST < sum.0 - sum.1 {
+        return Checked::Refused(14, at);
+    }
+    Checked::Fine
+}
+
+// 11: a trailer's total.
+fn right_total(s: Summary, kept: Kept) -> Checked
+    ensures { λ r. ⌜ checkedOf r ≡ totalK (summaryMeant s) kept ⌝ }
+{
+    let sum = s.total;
+    let t = kept.total;
+    let at = t.at;
+    if t.negative {
+        if sum.1 < sum.0 {
+            return Checked::Refused(11, at);
+        }
+        if sum.1 - sum.0 != t.value {
+            return Checked::Refused(11, at);
+        }
+        return Checked::Fine;
+    }
+    if sum.0 < sum.1 {
+        return Checked::Refused(11, at);
+    }
+    if sum.0 - sum.1 != t.value {
+        return Checked::Refused(11, at);
+    }
+    Checked::Fine
+}
+
+// 12: a trailer's count of accounts or groups.
+fn right_count(n: u64, kept: Kept) -> Checked
+    ensures { λ r. ⌜ checkedOf r ≡ countK n kept ⌝ }
+{
+    let t = kept.count;
+    let at = t.at;
+    if n != t.value {
+        return Checked::Refused(12, at);
+    }
+    Checked::Fine
+}
+
+// 13: a trailer's record count.
+fn right_records(s: Summary, kept: Kept) -> Checked
+    ensures { λ r. ⌜ checkedOf r ≡ recordsK (summaryMeant s) kept ⌝ }
+{
+    let n = s.records;
+    let t = kept.records;
+    let at = t.at;
+    if n.0 != t.value {
+        return Checked::Refused(13, at);
+    }
+    Checked::Fine
+}
+
+// The 98 of a group with n accounts, or the 99 of a file with n groups.
+fn right_trailer(s: Summary, n: u64, kept: Kept) -> Checked
+    ensures { λ r. ⌜ checkedOf r ≡ trailerK (summaryMeant s) n kept ⌝ }
+{
+    match sum_within(s, kept) {
+        Checked::Refused(k, p) => return Checked::Refused(k, p),
+        Checked::Fine => {}
+    }
+    match right_total(s, kept) {
+        Checked::Refused(k, p) => return Checked::Refused(k, p),
+        Checked::Fine => {}
+    }
+    match right_count(n, kept) {
+        Checked::Refused(k, p) => return Checked::Refused(k, p),
+        Checked::Fine => {}
+    }
+    right_records(s, kept)
+}
+
+// The 49 of an account.
+fn right_account(s: Summary, kept: Kept) -> Checked
+    ensures { λ r. ⌜ checkedOf r ≡ accountK (summaryMeant s) kept ⌝ }
+{
+    match right_total(s, kept) {
+        Checked::Refused(k, p) => return Checked::Refused(k, p),
+        Checked::Fine => {}
+    }
+    right_records(s, kept)
+}
+
+// A trailer against the summaries of its account, its group and the file, itself included.
+pub fn balance(code: Code, account: Summary, group: Summary, file: Summary, kept: Kept) -> Checked
+    ensures { λ r. ⌜ checkedOf r ≡ balancedK (codeMeant code) (summaryMeant account) (summaryMeant group) (summaryMeant file) kept ⌝ }
+{
+    match code {
+        Code::FileHeader => Checked::Fine,
+        Code::GroupHeader => Checked::Fine,
+        Code::AccountHeader => Checked::Fine,
+        Code::Detail => Checked::Fine,
+        Code::AccountTrailer => right_account(account, kept),
+        Code::GroupTrailer => right_trailer(group, group.accounts, kept),
+        Code::FileTrailer => right_trailer(file, file.groups, kept),
+        Code::Continuation => Checked::Fine,
+    }
+}

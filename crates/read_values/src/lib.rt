@@ -1,0 +1,160 @@
+// What a field's bytes may be: names, single bytes, currencies, lengths, times and types. Dates are in `date`; numbers are in `digits`.
+ghost use mathlib.Core.Path.{_≡_};
+ghost use lib.ListN.{length};
+ghost use lib.Dec.{leb};
+ghost use Rattle.rules.specs.Bytes.{between, isEmpty, oneOf};
+ghost use Rattle.rules.specs.Dates.{isTime};
+ghost use Rattle.rules.specs.TypeCodes.{classOf, typeClass};
+ghost use Rattle.rules.specs.Grammar.{isCurrency, isLength};
+ghost use Rattle.read_values.specs.Meanings.{classMeant};
+
+pub mod date;
+
+// The longest name or reference.
+const LONGEST_NAME: usize = 76;
+
+// The physical length's limits.
+const SHORTEST_LENGTH: u64 = 48;
+
+const LONGEST_LENGTH: u64 = 4096;
+
+// The times past 23 hours 59.
+const END_OF_DAY: u64 = 2400;
+
+const NO_TIME: u64 = 9999;
+
+// Sender, receiver, originator, account number: 1 to 76 bytes.
+pub fn is_name(f: &[u8]) -> bool
+    ensures { λ r. ⌜ r ≡ between 1 76 (length (now (f .entry))) ⌝ }
+{
+    if f.len() < 1 {
+        return false;
+    }
+    f.len() <= LONGEST_NAME
+}
+
+// Ultimate receiver and references: 0 to 76 bytes.
+pub fn is_reference(f: &[u8]) -> bool
+    ensures { λ r. ⌜ r ≡ leb (length (now (f .entry))) 76 ⌝ }
+{
+    f.len() <= LONGEST_NAME
+}
+
+// No byte.
+pub fn is_empty(f: &[u8]) -> bool
+    ensures { λ r. ⌜ r ≡ isEmpty (now (f .entry)) ⌝ }
+{
+    f.len() == 0
+}
+
+// One byte from lo to hi.
+pub fn is_one_of(f: &[u8], lo: u8, hi: u8) -> bool
+    ensures { λ r. ⌜ r ≡ oneOf lo hi (now (f .entry)) ⌝ }
+{
+    if f.len() != 1 {
+        return false;
+    }
+    if f[0] < lo {
+        return false;
+    }
+    f[0] <= hi
+}
+
+// Empty, or three of A to Z.
+pub fn is_currency(f: &[u8]) -> bool
+    ensures { λ r. ⌜ r ≡ isCurrency (now (f .entry)) ⌝ }
+{
+    if f.len() == 0 {
+        return true;
+    }
+    if f.len() != 3 {
+        return false;
+    }
+    base_digits::all_between(f, b'A', b'Z')
+}
+
+// The physical length: 1 to 4 digits, 48 to 4096.
+pub fn is_length(f: &[u8]) -> bool
+    ensures { λ r. ⌜ r ≡ isLength (now (f .entry)) ⌝ }
+{
+    if !base_digits::is_digits(f, 1, 4) {
+        return false;
+    }
+    let n = base_digits::value(f);
+    if n < SHORTEST_LENGTH {
+        return false;
+    }
+    n <= LONGEST_LENGTH
+}
+
+// Hours 00 to 23 with minutes 00 to 59, or 2400, or 9999.
+pub fn is_time(f: &[u8]) -> bool
+    ensures { λ r. ⌜ r ≡ isTime (now (f .entry)) ⌝ }
+{
+    if !base_digits::is_digits(f, 4, 4) {
+        return false;
+    }
+    let n = base_digits::value(f);
+    if n == END_OF_DAY {
+        return true;
+    }
+    if n == NO_TIME {
+        return true;
+    }
+    let hours = base_digits::value(&f[0..2]);
+    let minutes = base_digits::value(&f[2..4]);
+    if 23 < hours {
+        return false;
+    }
+    minutes <= 59
+}
+
+// The classes of type codes.
+pub enum Class {
+    Status,
+    SummaryOnly,
+    SummaryOrDetail,
+    NonMonetary,
+    Unknown,
+}
+
+// The class of a number.
+pub fn class_of(n: u64) -> Class
+    ensures { λ r. ⌜ classMeant r ≡ classOf n ⌝ }
+{
+    if n < 1 {
+        return Class::Unknown;
+    }
+    if n < 100 {
+        return Class::Status;
+    }
+    if n == 100 {
+        return Class::SummaryOnly;
+    }
+    if n == 400 {
+        return Class::SummaryOnly;
+    }
+    if n < 800 {
+        return Class::SummaryOrDetail;
+    }
+    if n == 890 {
+        return Class::NonMonetary;
+    }
+    if n < 900 {
+        return Class::Unknown;
+    }
+    if n < 1000 {
+        return Class::SummaryOrDetail;
+    }
+    Class::Unknown
+}
+
+// The class of a type field: three digits; anything else is of none.
+pub fn type_class(f: &[u8]) -> Class
+    ensures { λ r. ⌜ classMeant r ≡ typeClass (now (f .entry)) ⌝ }
+{
+    if !base_digits::is_digits(f, 3, 3) {
+        return Class::Unknown;
+    }
+    class_of(base_digits::value(f))
+}

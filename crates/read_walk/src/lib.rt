@@ -1,0 +1,84 @@
+// The walk over a record's lines and fields: refusals 7, 8 and 9, and what the later checks need.
+use base_quantities::Place;
+use read_field_ends::Cut;
+use read_kept::Kept;
+use read_wanted::Taken;
+use read_wanted::want;
+use read_wanted::want::Want;
+ghost use mathlib.Core.Path.{_≡_};
+ghost use lib.ListN.{length, take};
+ghost use Rattle.read_wanted.specs.Wants.{wantedOf};
+ghost use Rattle.read_walk.specs.Working.{point, endK};
+ghost use Rattle.read_walk.specs.Answers.{walkedOf, Walks};
+
+// The number of a refusal and its place in the record, or what was kept.
+pub enum Walked {
+    Refused(u64, Place),
+    Done(Kept),
+}
+
+// Behind the record's last line, with this wanted, this kept and the last slash that ended a line: what is missing.
+fn finish(want: Want, kept: Kept, slash: Place) -> Walked
+    ensures { λ r. ⌜ walkedOf r ≡ endK (point (wantedOf want) kept (slash .0)) ⌝ }
+{
+    if want::may_lack(want) {
+        return Walked::Done(kept);
+    }
+    Walked::Refused(8, slash)
+}
+
+// The walk over the record in front of rest stops at the first fault found; places are counted from the record's start. `before`: the magnitudes of the
+// records before.
+fn walk_lines(rest: &[u8], rec: &[u8], first: Want, before: u64) -> Walked
+    requires { ⌜ now rec ≡ take (length (now rec)) (now rest) ⌝ }
+    ensures { λ r. ⌜ Walks (now (rec .entry)) first before r ⌝ }
+{
+    let mut want = first;
+    let mut kept = Kept::none(before);
+    let mut slash = Place(0);
+    let mut at: usize = 0;
+    'walk: loop {
+        if rec.len() <= at {
+            break 'walk finish(want, kept, slash);
+        }
+        let e = read_lines::body_end_in(rest, rec.len(), at);
+        let mut a = at + 3;
+        at = e + read_lines::end_len(rec, e);
+        if e < a {
+            break 'walk Walked::Refused(7, Place(a));
+        }
+        loop {
+            let text = want::is_text(want);
+            let Cut::Field(n) = read_field_ends::cut_field(text, &rec[a..e]) else {
+                break 'walk Walked::Refused(7, Place(e));
+            };
+            let f = a + n;
+            if read_kept::is_kept(want) {
+                kept = kept.keep(want, Place(a), &rec[a..f]);
+            }
+            match read_fields::take_detail_first(want, &rec[a..f]) {
+                Taken::Refused(k) => break 'walk Walked::Refused(k, Place(a)),
+                Taken::Next(next) => want = next,
+            }
+            if text {
+                break;
+            }
+            a = f + 1;
+            if rec[f] == b'/' {
+                let t = a + read_field_ends::blanks_len(&rec[a..e]);
+                if t < e {
+                    break 'walk Walked::Refused(7, Place(t));
+                }
+                slash = Place(f);
+                break;
+            }
+        }
+    }
+}
+
+// The walk over a record, the first `size` bytes of what is left of the file; `before`: the magnitudes of the records before.
+pub fn walk_record(rest: &[u8], size: usize, first: Want, before: u64) -> Walked
+    ensures { λ r. ⌜ Walks (take size (now (rest .entry))) first before r ⌝ }
+{
+    walk_lines(rest, read_lines::front(rest, size), first, before)
+}

@@ -1,0 +1,17 @@
+-- `front` meets its contract. Assumes nothing.
+use Prim.Native.Nat.{_-_}
+use native.Mathlib.Omega.{arith}
+use mathlib.Core.Path.{_≡_, sym}
+use lib.Seq.{take-all}
+use borrow.Author.Needs.{needs}
+use Rattle.write_line.proofs.front.Statement.{statement}
+use Rattle.write_line.proofs.front.Tie as tie
+
+returns : tie.Need-returns
+returns c = sym (take-all (c .before .args .n) (c .before .args .s .now) (omega arith))
+
+returns-2 : tie.Need-returns-2
+returns-2 c = let n = c .before .before .args .n in let z : n - 0 ≡ n = omega arith in rw z
+
+pub front-spec : {M : Type 1} → statement M
+front-spec = tie.close (tie.spec returns (λ c. search needs) (λ c. search needs) (λ c. search needs) returns-2)
