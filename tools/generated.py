@@ -1,6 +1,6 @@
 """What a check generates of a function, read back: the places of its code and the needs that stand there.
 
-Used by tools/places, tools/fill and tools/mend. The generated files are kept in target/generated and
+Used by tools/places and tools/fill. The generated files are kept in target/generated and
 made anew where a source or a definition has changed since."""
 import re
 import subprocess
