@@ -1,11 +1,14 @@
 """What a check generates of a function, read back: the places of its code and the needs that stand there.
 
-Used by tools/places and tools/fill. The generated files are kept in target/generated and
-made anew where a source or a definition has changed since."""
+For tools/places, tools/fill, tools/mend and tools/skeletons. The generated files are kept in target/generated
+and made anew where a source or a definition has changed since."""
+import os
 import re
+import shutil
 import subprocess
 import sys
-from dataclasses import dataclass, field
+import tempfile
+from dataclasses import dataclass
 from pathlib import Path
 
 ROOT = Path(__file__).resolve().parent.parent
@@ -14,10 +17,11 @@ CALLED = ["result", "ensures", "last", "kept", "ok"]
 
 @dataclass
 class Place:
-    """A place of a function's code: the place before it and what it binds, each thing with its parts."""
+    """A place of a function's code: the place before it, what it binds, each thing with its parts, and what it says of them."""
     name: str
-    before: str | None = None
-    binds: dict = field(default_factory=dict)
+    before: str  # none for Start, where the function begins
+    binds: dict
+    says: str
 
 
 @dataclass
@@ -72,10 +76,10 @@ def proof_of(crate, function):
     return folder_of(crate) / "proofs" / function.replace("::", "/") / "Proof.antt"
 
 
-def check(crate, *words):
+def check(crate, *words, root=ROOT):
     """All that a check of the crate says: rt dev CRATE WORDS.."""
     try:
-        run = subprocess.run(["env", "RT_CUT=0", "rt", "dev", crate, *words], cwd=ROOT, text=True,
+        run = subprocess.run(["rt", "dev", crate, *words], cwd=root, text=True, env=os.environ | {"RT_CUT": "0"},
                              stdout=subprocess.PIPE, stderr=subprocess.STDOUT, check=False)
     except FileNotFoundError:
         stop("the prover's command 'rt' is not on this machine's PATH")
@@ -89,16 +93,18 @@ def newest_source():
                for file in crates.glob(pattern))
 
 
-def generated(crate, function):
-    """The generated file with the places of a function, made anew where it is missing or old."""
-    folder = ROOT / "target" / "generated" / crate
-    file = folder / f"Rattle.{crate}.proofs" / "proofs" / function.replace("::", "/") / "Lts.antt"
-    if not file.exists() or file.stat().st_mtime < newest_source():
-        said = check(crate, "--generated", str(folder))
-        if not file.exists():
-            stop(f"nothing is generated of {crate}::{function}: is it a function of this crate, is its form covered,\n"
-                 f"and are its callees proved? The check ends with: {last_line(said)}")
-    return file.read_text(encoding="utf-8")
+def file_of(folder, crate, function):
+    """Where the places of a function stand among the files that were generated into a folder."""
+    return folder / f"Rattle.{crate}.proofs" / "proofs" / function.replace("::", "/") / "Lts.antt"
+
+
+def generate(crate, function, folder, root=ROOT):
+    """Has the files of a crate generated into a folder; the program ends where the function is not among them."""
+    shutil.rmtree(folder, ignore_errors=True)
+    said = check(crate, "--generated", str(folder), root=root)
+    if not file_of(folder, crate, function).exists():
+        stop(f"nothing is generated of {crate}::{function}: is it a function of this crate, is its form covered,\n"
+             f"and are its callees proved? The check ends with: {last_line(said)}")
 
 
 def last_line(text):
@@ -107,9 +113,29 @@ def last_line(text):
 
 
 def read(crate, function):
-    """The places and needs of a function."""
+    """The places and needs of a function as it stands."""
     folder_of(crate)
-    return parse(generated(crate, function))
+    folder = ROOT / "target" / "generated" / crate
+    file = file_of(folder, crate, function)
+    if not file.exists() or file.stat().st_mtime < newest_source():
+        generate(crate, function, folder)
+    return parse(file.read_text(encoding="utf-8"))
+
+
+def read_committed(crate, function, revision):
+    """The places and needs of a function as it stands in a revision, from a copy of the crates with what is proved already."""
+    (ROOT / "target").mkdir(exist_ok=True)
+    with tempfile.TemporaryDirectory(dir=ROOT / "target") as name:
+        copy = Path(name)
+        files = subprocess.run(["git", "archive", revision, "crates", "crates.txt"], cwd=ROOT, capture_output=True, check=False)
+        if files.returncode:
+            stop(files.stderr.decode().strip())
+        subprocess.run(["tar", "-x", "-C", name], input=files.stdout, check=True)
+        for kept in ("rlib", "stamp"):
+            if (ROOT / "target" / kept).is_dir():
+                shutil.copytree(ROOT / "target" / kept, copy / "target" / kept)
+        generate(crate, function, copy / "generated", root=copy)
+        return parse(file_of(copy / "generated", crate, function).read_text(encoding="utf-8"))
 
 
 def records_of(text):
@@ -128,14 +154,25 @@ def records_of(text):
     return records
 
 
+def sayings_of(text):
+    """What each place says of the things that it binds, without the numbers and paths that shift with the code above."""
+    sayings = {}
+    for paragraph in text.split("\n\n"):
+        found = re.search(r"pub (?:record )?(\S+)·own : Type 0(.*)", " ".join(paragraph.split()))
+        if found:
+            says = re.sub(r" \.[^\s()]+|\b[a-zA-Z]\d+\b|·\d+|\b(?:get|\w*At|pos =) \d+|\S+·own|before·|[()]", "", found[2])
+            sayings[found[1]] = " ".join(says.split())
+    return sayings
+
+
 def parse(text):
     """The places and needs that a generated file tells."""
-    records = records_of(text)
+    records, sayings = records_of(text), sayings_of(text)
     calls = re.findall(r"^ +(\S+) =\s+Called\.Called\b", text, re.M)
     places = {}
     for name, fields in records.items():
-        if name == "Start" or "before" in fields:
+        if name == "Start" or fields.get("before") in records:
             binds = {thing: CALLED if kind in calls else list(records.get(kind, {}))
                      for thing, kind in fields.items() if thing != "before"}
-            places[name] = Place(name, fields.get("before"), binds)
+            places[name] = Place(name, fields.get("before"), binds, sayings.get(name, ""))
     return Function(places, dict(re.findall(r"^ +Need-(\S+) =\s+\(c : ([^\s)]+)", text, re.M)))
