@@ -21,7 +21,7 @@ typedef struct {
 /* Whether a refusal of this number has a place in the file that is worth showing. */
 bool stands_in_file(uint64_t number)
 {
-    return number >= 3 && number <= 14;
+    return number >= BAI2_LINE_TOO_LONG && number <= BAI2_SUM_TOO_LARGE;
 }
 
 /* Writes a text in lines of at most so many columns, each behind an indent. */
@@ -99,7 +99,7 @@ static size_t opening_of(slice file, line l)
    wrong trailer closes, the last line where the file ends too early; else the refused line. */
 static size_t context_of(slice file, uint64_t number, line l)
 {
-    if (number >= 11 && number <= 14)
+    if (number >= BAI2_WRONG_TOTAL && number <= BAI2_SUM_TOO_LARGE)
         return opening_of(file, l);
     if (l.start > 0 && l.start == file.length)
         return line_of(file, l.start - 1).start;

@@ -5,7 +5,14 @@
 
 #include "bai2.h"
 
-enum { ROOM = 1024, HALF = 128, FIELDS = 7, RARE = 240, ANY = 255, LONG = 80 };
+enum {
+    ROOM = 1024,
+    HALF = 128,
+    FIELDS = 7,
+    RARE = 240,
+    ANY = 255,
+    FIELD_LENGTHS = BAI2_LONGEST_NAME + 4 /* some of them too long */
+};
 
 /* What is left of the fuzzer's bytes. */
 typedef struct {
@@ -39,7 +46,7 @@ static slice next_field(source *s, const char *word)
         word = good[which % END_ACCOUNT][next_byte(s) % FIELDS];
     if (which != ANY)
         return (slice){(const uint8_t *)word, strlen(word)};
-    slice field = part_of(s->left, 0, next_byte(s) % LONG);
+    slice field = part_of(s->left, 0, next_byte(s) % FIELD_LENGTHS);
     s->left = part_of(s->left, field.length, s->left.length);
     return field;
 }
