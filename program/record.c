@@ -3,14 +3,16 @@
 
 #include <string.h>
 
-enum { BEHIND_CODE = 3, DIGITS = 18 };
+#include "codes.h"
+
+enum { DIGITS = 18 };
 
 /* Sets the walk on the line that starts here, behind its code; no more where there is none. */
 static void enter_line(fields *walk, size_t start)
 {
     line l = line_at(walk->record, start);
     size_t left = l.end - l.start;
-    walk->at = l.start + (left < BEHIND_CODE ? left : BEHIND_CODE);
+    walk->at = l.start + (left < AFTER_CODE ? left : AFTER_CODE);
     walk->line_end = l.end;
     walk->next = l.next;
     walk->more = start < walk->record.length;
@@ -139,7 +141,7 @@ trailer read_trailer(slice record)
 {
     fields walk = walk_of(record);
     trailer t = {.total = next_field(&walk), .count = part_of(record, 0, 0)};
-    if (!same_text(part_of(record, 0, BEHIND_CODE), "49,"))
+    if (code_at(record, 0) != ACCOUNT_TRAILER)
         t.count = next_field(&walk);
     t.records = next_field(&walk);
     return t;

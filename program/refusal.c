@@ -4,6 +4,7 @@
 #include <inttypes.h>
 #include <string.h>
 
+#include "codes.h"
 #include "message.h"
 
 enum {
@@ -76,20 +77,19 @@ static void put_line_and_caret(FILE *to, slice file, size_t place)
     put_caret(to, file, e, place);
 }
 
-/* Whether the line at this place begins with that code and its comma. */
-static bool has_code(slice file, size_t start, const char *code)
+/* The code of the record that a trailer of this code closes; NO_CODE for any other record. */
+static record_code opening_code(record_code trailer)
 {
-    return same_text(part_of(file, start, 3), code);
+    return trailer == ACCOUNT_TRAILER ? ACCOUNT_HEADER : trailer == GROUP_TRAILER ? GROUP_HEADER : NO_CODE;
 }
 
 /* Where the record starts that this line's trailer closes; the line itself where it is none. */
 static size_t opening_of(slice file, line l)
 {
-    const char *opening = has_code(file, l.start, "49,") ? "03,"
-                        : has_code(file, l.start, "98,") ? "02," : NULL;
-    for (line before = l; opening != NULL && before.start > 0;) {
+    record_code opening = opening_code(code_at(file, l.start));
+    for (line before = l; opening != NO_CODE && before.start > 0;) {
         before = line_of(file, before.start - 1);
-        if (has_code(file, before.start, opening))
+        if (code_at(file, before.start) == opening)
             return before.start;
     }
     return l.start;

@@ -78,23 +78,42 @@ static void widen(layout *l, const row *r)
     }
 }
 
+/* Widens the columns for an account's items. */
+static void measure_items(layout *l, slice bytes)
+{
+    account_header h = read_account_header(bytes);
+    row r;
+    for (item i; next_item(&h.items, &i);) {
+        item_row(&r, &i);
+        widen(l, &r);
+    }
+}
+
+/* Widens the columns for a detail. */
+static void measure_detail(layout *l, slice bytes)
+{
+    detail d = read_detail(bytes);
+    row r;
+    detail_row(&r, &d);
+    widen(l, &r);
+}
+
+/* Widens the columns for a trailer's total. */
+static void measure_trailer(layout *l, slice bytes)
+{
+    row r = {0};
+    set_amount(&r, read_trailer(bytes).total);
+    widen(l, &r);
+}
+
 /* Widens the columns for all rows of one record. */
 static void measure_record(layout *l, record_code code, slice bytes)
 {
-    row r = {0};
-    if (code == ACCOUNT_HEADER) {
-        account_header h = read_account_header(bytes);
-        for (item i; next_item(&h.items, &i);) {
-            item_row(&r, &i);
-            widen(l, &r);
-        }
-    } else if (code == DETAIL) {
-        detail d = read_detail(bytes);
-        detail_row(&r, &d);
-        widen(l, &r);
-    } else if (code >= ACCOUNT_TRAILER) {
-        set_amount(&r, read_trailer(bytes).total);
-        widen(l, &r);
+    switch (code) {
+    case ACCOUNT_HEADER: measure_items(l, bytes); break;
+    case DETAIL: measure_detail(l, bytes); break;
+    case ACCOUNT_TRAILER: case GROUP_TRAILER: case FILE_TRAILER: measure_trailer(l, bytes); break;
+    default: break;
     }
 }
 
@@ -285,6 +304,7 @@ void put_report(FILE *to, const outline *o)
         case ACCOUNT_TRAILER: put_account_total(&l, bytes, details); break;
         case GROUP_TRAILER: put_group_total(&l, bytes, group); break;
         case FILE_TRAILER: put_file_total(&l, o->summary); break;
+        default: break;
         }
     }
 }
