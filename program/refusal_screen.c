@@ -3,10 +3,9 @@
 #include <stdlib.h>
 #include <string.h>
 
+#include "escapes.h"
 #include "refusal.h"
 #include "screen.h"
-
-#define ESCAPE "\033"
 
 enum {
     GUTTER = 10,     /* a line's number and a bar */
@@ -86,11 +85,11 @@ static void draw_line_bytes(const refusal_screen *s, const canvas *c, line l)
         if (cells > room)
             break;
         bool marked = i == s->place && stands_in_file(s->number);
-        fputs(marked ? ESCAPE "[7m" : "", c->to);
+        fputs(marked ? REVERSE_LOOK : "", c->to);
         put_byte(c->to, s->file.bytes[i]);
-        fputs(marked ? ESCAPE "[0m" : "", c->to);
+        fputs(marked ? PLAIN_LOOK : "", c->to);
     }
-    fputs(ESCAPE "[K", c->to);
+    fputs(WIPE_REST_OF_ROW, c->to);
 }
 
 /* Draws the caret under the refused byte, where the byte is on the canvas. */
@@ -100,7 +99,7 @@ static void draw_caret(const refusal_screen *s, const canvas *c, size_t row, lin
     for (size_t i = from; i < s->place && i < l.end; i++)
         cells += cells_of(s->file.bytes[i]);
     bool seen = s->place >= from && cells < body_columns(c);
-    fprintf(c->to, ESCAPE "[%zu;1H" ESCAPE "[0m%7s | %*s%s" ESCAPE "[K", row + 1, "",
+    fprintf(c->to, GO_TO_ROW PLAIN_LOOK "%7s | %*s%s" WIPE_REST_OF_ROW, row + 1, "",
             seen ? (int)cells : 0, "", seen ? "^" : "");
 }
 
@@ -111,9 +110,9 @@ static void draw_lines(const refusal_screen *s, const canvas *c)
     bool marked = stands_in_file(s->number);
     size_t refused = line_of(s->file, s->place).start;
     for (size_t row = 1; row <= body_rows(c); row++) {
-        fprintf(c->to, ESCAPE "[%zu;1H" ESCAPE "[0m", row + 1);
+        fprintf(c->to, GO_TO_ROW PLAIN_LOOK, row + 1);
         if (at == s->file.length && !(marked && at == refused)) {
-            fputs(ESCAPE "[K", c->to);
+            fputs(WIPE_REST_OF_ROW, c->to);
             continue;
         }
         line l = line_at(s->file, at);
