@@ -61,7 +61,8 @@ static void put_usage(FILE *to)
         fprintf(to, "  bai2 %-7s %-18s  %s\n", commands[i].name, commands[i].operands,
                 commands[i].purpose);
     fputs("A FILE of - is standard input. A COMMAND with --help tells its options. Status: 0 accepted,\n"
-          "1 refused or not readable, 2 wrong usage, 3 the answer can't be written or shown. See bai2(1).\n", to);
+          "1 refused or not readable, 2 wrong usage, 3 the answer can't be written or shown. See bai2(1).\n",
+          to);
 }
 
 /* Prints how one command is used. */

@@ -5,7 +5,7 @@ static const explanation explanations[REFUSALS + 1] = {
     [0] = {"no refusal of this number", "'bai2 explain' lists all refusals.", "Look it up by another."},
     [BAI2_EMPTY_FILE] = {
         "the file is empty", "The file has no byte at all.",
-        "Fetch the file again: a transfer that broke off often leaves an empty file behind."},
+        "Fetch the file again: a transfer that broke off often leaves an empty file."},
     [BAI2_FILE_TOO_LONG] = {
         "the file is too long",
         "The file has more than 16,777,216 bytes, the most that is read.",
@@ -31,13 +31,13 @@ static const explanation explanations[REFUSALS + 1] = {
     [BAI2_RECORD_OUT_OF_ORDER] = {
         "a record out of order, or no 99 at the end",
         "The order is 01; then for each group 02, its accounts (03, any number of 16, then 49) and "
-        "98; then 99 and nothing behind it. The place is the start of the record that may not stand "
+        "98; then 99 and nothing after it. The place is the start of the record that may not stand "
         "there, or the file's end where the 99 is missing.",
         "If the place is the file's end, the transfer was cut short: fetch the file again. Two files "
         "pasted together are joined rightly by 'bai2 combine'. Otherwise the sender must mend it."},
     [BAI2_LINE_BADLY_ENDED] = {
         "a line or a text that is not ended rightly",
-        "A line ends inside a field, with no comma or slash behind it; or something follows the "
+        "A line ends inside a field, with no comma or slash after it; or something follows the "
         "slash that ends the line; or a piece of text is empty or begins with a slash.",
         "Look at the end of the line for a lost or a misplaced slash, and show the line to the "
         "sender."},
@@ -45,7 +45,7 @@ static const explanation explanations[REFUSALS + 1] = {
         "a wrong field",
         "A field has a value that may not stand there, is missing (the place is then the record's "
         "last slash), or is one too many.",
-        "Count the fields behind the code. 01: sender, receiver, date, time, file number, record "
+        "Count the fields after the code. 01: sender, receiver, date, time, file number, record "
         "length, block size, version. 02: receiver, originator, status, date, time, currency, "
         "modifier. 03: account, currency, then type, amount, item count, funds for each item. "
         "16: type, amount, funds, bank reference, customer reference, text. 49: total, records. "
@@ -64,13 +64,13 @@ static const explanation explanations[REFUSALS + 1] = {
         "The total that a 49, 98 or 99 record states is not the sum of the amounts that it closes. "
         "Every amount of the 03 and 16 records counts with its sign, debits are added too, and the "
         "amounts inside a funds field are left out.",
-        "Do not use the figures: an amount or a record was lost or changed. Fetch the file again, "
+        "Do not use the file: an amount or a record was lost or changed. Fetch the file again, "
         "and if it stays wrong ask the sender for a corrected one."},
     [BAI2_WRONG_COUNT] = {
         "a number of accounts or groups is wrong",
         "The 98 record states how many accounts its group has, the 99 record how many groups the "
         "file has. What it states is not what is there.",
-        "Do not use the figures: an account or a group was lost or added. Fetch the file again, and "
+        "Do not use the file: an account or a group was lost or added. Fetch the file again, and "
         "if it stays wrong ask the sender for a corrected one."},
     [BAI2_WRONG_RECORD_COUNT] = {
         "a number of records is wrong",

@@ -13,10 +13,10 @@ enum {
     LONGEST_CONTEXT = 60
 };
 
-/* A line's bytes that are shown, and whether some are left out before or behind them. */
+/* A line's bytes that are shown, and whether some are left out before or after them. */
 typedef struct {
     size_t from, to;
-    bool cut_before, cut_behind;
+    bool cut_before, cut_after;
 } excerpt;
 
 /* Whether a refusal of this number has a place in the file that is worth showing. */
@@ -25,7 +25,7 @@ bool stands_in_file(uint64_t number)
     return number >= BAI2_LINE_TOO_LONG && number <= BAI2_SUM_TOO_LARGE;
 }
 
-/* Writes a text in lines of at most so many columns, each behind an indent. */
+/* Writes a text in lines of at most so many columns, each after an indent. */
 void put_wrapped(FILE *to, const char *text, size_t indent, size_t columns)
 {
     size_t used = 0;
@@ -73,14 +73,16 @@ static void put_line_and_caret(FILE *to, slice file, size_t place)
     excerpt e = excerpt_around(file, l, place);
     fprintf(to, "%8zu | %s", line_number(file, place), e.cut_before ? "..." : "");
     put_bytes(to, part_of(file, e.from, e.to - e.from));
-    fprintf(to, "%s\n", e.cut_behind ? "..." : "");
+    fprintf(to, "%s\n", e.cut_after ? "..." : "");
     put_caret(to, file, e, place);
 }
 
 /* The code of the record that a trailer of this code closes; NO_CODE for any other record. */
 static record_code opening_code(record_code trailer)
 {
-    return trailer == ACCOUNT_TRAILER ? ACCOUNT_HEADER : trailer == GROUP_TRAILER ? GROUP_HEADER : NO_CODE;
+    if (trailer == ACCOUNT_TRAILER)
+        return ACCOUNT_HEADER;
+    return trailer == GROUP_TRAILER ? GROUP_HEADER : NO_CODE;
 }
 
 /* Where the record starts that this line's trailer closes; the line itself where it is none. */
@@ -121,7 +123,7 @@ static void put_context(FILE *to, slice file, uint64_t number, size_t place)
         fprintf(to, "%8s :\n", "");
 }
 
-/* Tells a refusal in one line, behind whatever the caller wrote before. */
+/* Tells a refusal in one line, after whatever the caller wrote before. */
 void tell_refusal_briefly(FILE *to, slice file, uint64_t number, uint64_t place)
 {
     fprintf(to, "refused %" PRIu64, number);

@@ -100,7 +100,7 @@ static bai2_written call_once(source *s, bai2_writer w, uint8_t out[ROOM], size_
     }
 }
 
-/* Whether a refused call changed nothing, an accepted one wrote behind what was there, and an ended file is read. */
+/* Whether a refused call changed nothing, an accepted one wrote after what was there, and an ended file is read. */
 static bool is_kept(bai2_writer before, const uint8_t *was, bai2_written now, const uint8_t *out, bool last)
 {
     if (now.number != 0)
