@@ -81,12 +81,6 @@ static void put_command_help(const command *c)
     puts("  -h, --help            says how the command is used");
 }
 
-/* How the program ends after an answer that was printed. */
-static int printed(void)
-{
-    return flush_standard_output() ? GOOD : TROUBLE;
-}
-
 /* Takes what stands after -- as operands; whether the command takes so many as there are now. */
 static request take_rest(const command *c, int argc, char **argv, arguments *a)
 {
