@@ -83,6 +83,21 @@ gave() {
     [ "$status" -eq "$wanted" ] || { echo "status $status instead of $wanted"; echo "$said" | head -n 40; return 1; }
 }
 
+# Whether the last run had that status and each of these was one of its lines.
+gave_lines() {
+    local wanted=$1 line
+    shift
+    for line; do
+        grep -qxF -e "$line" <<<"$said" || { echo "no such line: $line"; echo "$said" | head -n 40; return 1; }
+    done
+    gave "$wanted"
+}
+
+# Whether the last run had that status and said this and no more.
+gave_exactly() {
+    gave "$1" && { [ "$said" = "$2" ] || { diff <(echo "$2") <(echo "$said"); false; }; }
+}
+
 # Bytes of a file with one group, so many accounts and so many details in each.
 large_file() {
     awk -v accounts="$1" -v details="$2" 'BEGIN {
