@@ -15,21 +15,21 @@ use Rattle.rules.specs.Numbers.{Signed}
 use Rattle.rules.specs.TypeCodes.{Class, status, summaryOnly, summaryOrDetail, nonMonetary, unknown, typeClass}
 use Rattle.rules.specs.Cells.{Cell, atComma, atSlash, atLineEnd, lengthened, cellsFrom}
 use Rattle.rules.specs.Grammar.{Kind, reference, amount, funds, detailType, text, furtherText, nothing, good, fundsOf, judged, andThen, takeNext, mayLack, detailOf, pieceOf}
-use Rattle.rules.specs.Records.{Field, behind, taken, walkCells}
+use Rattle.rules.specs.Records.{Field, walkAfter, taken, walkCells}
 use Rattle.rules.specs.Totals.{amountOf, sumOf}
-use Rattle.rules.specs.Writer.{transaction, Writer, given, amountBytes, sumGiven, wantsItem, behindFields, withCommas, goodText}
+use Rattle.rules.specs.Writer.{writeDetail, Writer, given, amountBytes, sumGiven, wantsItem, kindsAfter, withCommas, goodText}
 use Rattle.rules.proofs.Tests.{Known, holds, fails, known, same-eq}
-use Rattle.base_digits.proofs.Tests.{and-left, and-right, at-least, at-most}
-use Rattle.laws_writer.specs.Words.{Value, bytes, filled, said, allSaid, word, amountGiven, gives}
-use Rattle.laws_writer.specs.Words as words
-use Rattle.laws_writer.proofs.Numbers.{amount-reads, amount-said, no-amount}
-use Rattle.laws_writer.proofs.Fields.{bad-good, from-field, Takes, one, in-front, takes-all}
-use Rattle.laws_writer.proofs.Lines.{all-both}
-use Rattle.laws_writer.proofs.Walks.{zipped, endOf, walkAt, walk-comma, fields-allowed, fields-short}
+use Rattle.base_digits.proofs.DigitTests.{and-left, and-right, at-least, at-most}
+use Rattle.laws_writer.specs.SessionWords.{Value, bytes, filled, said, allSaid, word, amountGiven, gives}
+use Rattle.laws_writer.specs.SessionWords as words
+use Rattle.laws_writer.proofs.NumberFields.{amount-reads, amount-said, no-amount}
+use Rattle.laws_writer.proofs.FieldsWritten.{bad-good, from-field, Takes, one, in-front, takes-all}
+use Rattle.laws_writer.proofs.LinesWritten.{all-both}
+use Rattle.laws_writer.proofs.WalkWritten.{zipped, endOf, walkAt, walk-comma, fields-allowed, fields-short}
 use Rattle.laws_writer.proofs.Found.{Found, sum-append, said-append}
-use Rattle.laws_writer.proofs.Items.{nothing-empty, funds-empty, type-short, sum-front}
+use Rattle.laws_writer.proofs.ItemsWritten.{nothing-empty, funds-empty, type-short, sum-front}
 
--- ---- the fields behind its type
+-- ---- the fields after its type
 
 abbrev pub detailRest : Option Signed → Bytes → Bytes → List Bytes
 detailRest a b c = amountBytes a ∷ [] ∷ b ∷ c ∷ []
@@ -37,7 +37,7 @@ detailRest a b c = amountBytes a ∷ [] ∷ b ∷ c ∷ []
 abbrev detailGiven : Option Signed → Bytes → Bytes → List Value
 detailGiven a b c = amountGiven a ∷ words.nothing ∷ word b ∷ word c ∷ []
 
--- the fields behind its type
+-- the fields after its type
 record DetailFound (new : List Kind) (a : Option Signed) (b c : Bytes) (left : List Kind) : Type 0 where
   pub used : List Kind
   pub takes : Takes (new ++ (reference ∷ reference ∷ [])) (detailRest a b c) used []
@@ -46,7 +46,7 @@ record DetailFound (new : List Kind) (a : Option Signed) (b c : Bytes) (left : L
   pub sum : (p : ℕ) → sumOf (zipped p used (detailRest a b c)) ≡ sumGiven a
 
 module _ (a : Option Signed) (b c : Bytes) (left : List Kind) where
-  paid-detail : behindFields (amount ∷ funds ∷ reference ∷ reference ∷ []) (detailRest a b c) ≡ fine left → DetailFound (amount ∷ funds ∷ []) a b c left
+  paid-detail : kindsAfter (amount ∷ funds ∷ reference ∷ reference ∷ []) (detailRest a b c) ≡ fine left → DetailFound (amount ∷ funds ∷ []) a b c left
   unfolding zipped sumOf amountOf allSaid said filled all judged fundsOf isEmpty
   paid-detail h =
       let t = in-front (amount ∷ []) (funds ∷ reference ∷ reference ∷ []) (amountBytes a ∷ []) ([] ∷ b ∷ c ∷ []) left refl refl h in
@@ -60,7 +60,7 @@ module _ (a : Option Signed) (b c : Bytes) (left : List Kind) where
         sum = λ p. rw (amount-reads a) (simp add-zero);
       }
 
-  other-detail : behindFields (nothing ∷ nothing ∷ reference ∷ reference ∷ []) (detailRest a b c) ≡ fine left → DetailFound (nothing ∷ nothing ∷ []) a b c left
+  other-detail : kindsAfter (nothing ∷ nothing ∷ reference ∷ reference ∷ []) (detailRest a b c) ≡ fine left → DetailFound (nothing ∷ nothing ∷ []) a b c left
   unfolding zipped sumOf amountOf allSaid said filled isEmpty
   other-detail h =
       let u = takes-all (nothing ∷ nothing ∷ reference ∷ reference ∷ []) (detailRest a b c) left refl refl h in
@@ -73,7 +73,7 @@ module _ (a : Option Signed) (b c : Bytes) (left : List Kind) where
         sum = λ p. rw x;
       }
 
-  detail-rest : (x : Class) (new : List Kind) → detailOf x ≡ good new → behindFields (new ++ (reference ∷ reference ∷ [])) (detailRest a b c) ≡ fine left → DetailFound new a b c left
+  detail-rest : (x : Class) (new : List Kind) → detailOf x ≡ good new → kindsAfter (new ++ (reference ∷ reference ∷ [])) (detailRest a b c) ≡ fine left → DetailFound new a b c left
   detail-rest summaryOrDetail new j h = let z : (amount ∷ funds ∷ []) ≡ new = cc in rw (← z) (paid-detail (rw (← z) at h))
   detail-rest nonMonetary new j h = let z : (nothing ∷ nothing ∷ []) ≡ new = cc in rw (← z) (other-detail (rw (← z) at h))
   detail-rest status new j h = bad-good 8 new j
@@ -81,12 +81,12 @@ module _ (a : Option Signed) (b c : Bytes) (left : List Kind) where
   detail-rest unknown new j h = bad-good 8 new j
 
 -- all kinds but the text are used up
-pub detail-left : (y : Bytes) (a : Option Signed) (b c : Bytes) (left : List Kind) → behindFields (detailType ∷ reference ∷ reference ∷ []) (y ∷ detailRest a b c) ≡ fine left → [] ≡ left
+pub detail-left : (y : Bytes) (a : Option Signed) (b c : Bytes) (left : List Kind) → kindsAfter (detailType ∷ reference ∷ reference ∷ []) (y ∷ detailRest a b c) ≡ fine left → [] ≡ left
 unfolding judged
 detail-left y a b c left h =
     from-field detailType y (reference ∷ reference ∷ []) (detailRest a b c) left h (λ new z j q. detail-rest a b c left (typeClass y) new j q .none-left-over)
 
--- ---- the text at its place, and what may come behind it
+-- ---- the text at its place, and what may come after it
 
 abbrev textBytes : Bytes → Bytes
 textBytes t = cond (isEmpty t) (slash ∷ []) t
@@ -157,7 +157,7 @@ text-good (b ∷ bs) h =
 module _ (t : Bytes) (x : TextGood t) where
   walk-text : (p : ℕ) (acc : List Field) (q : ℕ)
       → walkCells (walkAt (text ∷ []) acc q) (cellsFrom p (textBytes t)) ≡ fine (walkAt (textLeft t) (acc ++ (record { kind = text; place = p; bytes = textBytes t } ∷ [])) q)
-  unfolding walkCells taken takeNext andThen behind
+  unfolding walkCells taken takeNext andThen walkAfter
   walk-text p acc q =
       let f = first-cell p (textBytes t) in
       rw (f .is, f .place, f .rest, x .trims, x .judged, append-nil (textLeft t))
@@ -183,7 +183,7 @@ module _ (w : Writer) (y : Bytes) (a : Option Signed) (b c t : Bytes) (left : Li
   -- the fields, a comma, and the text
   text-line : TextGood t → (used : List Kind) → Takes (detailType ∷ reference ∷ reference ∷ []) parts used [] → [] ≡ left
       → ((p : ℕ) → allSaid (zipped p used parts) ≡ word y ∷ detailGiven a b c) → ((p : ℕ) → sumOf (zipped p used parts) ≡ sumGiven a)
-      → Found (given w (transaction y a b c t)) (gives w (transaction y a b c t)) left
+      → Found (given w (writeDetail y a b c t)) (gives w (writeDetail y a b c t)) left
   unfolding all given gives allSaid
   text-line x used takes e back sum =
       let at : ℕ → ℕ = λ p. suc (endOf p parts) in
@@ -204,8 +204,8 @@ module _ (w : Writer) (y : Bytes) (a : Option Signed) (b c t : Bytes) (left : Li
         item = λ z. absurd (false≢true (text-none t ∙ z));
       }
 
-  pub detail-found : goodText t ≡ true → behindFields (detailType ∷ reference ∷ reference ∷ []) parts ≡ fine left
-      → Found (given w (transaction y a b c t)) (gives w (transaction y a b c t)) left
+  pub detail-found : goodText t ≡ true → kindsAfter (detailType ∷ reference ∷ reference ∷ []) parts ≡ fine left
+      → Found (given w (writeDetail y a b c t)) (gives w (writeDetail y a b c t)) left
   unfolding judged zipped sumOf amountOf allSaid said filled
   detail-found x h =
       from-field detailType y (reference ∷ reference ∷ []) (detailRest a b c) left h (λ new z j q.

@@ -10,12 +10,12 @@ use Rattle.rules.specs.Bytes.{Bytes, all, slash, comma, allowed, inField, clean
 use Rattle.rules.specs.Outcome.{fine}
 use Rattle.rules.specs.Cells.{cellsFrom, leadingBlanks}
 use Rattle.rules.specs.Grammar.{Kind, good, judged, isText, andThen, takeNext}
-use Rattle.rules.specs.Records.{Field, Walk, behind, taken, pastSlash, takenTo, walkCells}
+use Rattle.rules.specs.Records.{Field, Walk, walkAfter, taken, pastSlash, takenTo, walkCells}
 use Rattle.rules.specs.Writer.{withCommas}
 use Rattle.rules.proofs.CellLaws.{plainByte, cells-comma, cells-slash}
-use Rattle.base_digits.proofs.Tests.{and-left, and-right}
-use Rattle.laws_writer.proofs.Fields.{Takes, done, one}
-use Rattle.laws_writer.proofs.Lines.{all-of, all-both}
+use Rattle.base_digits.proofs.DigitTests.{and-left, and-right}
+use Rattle.laws_writer.proofs.FieldsWritten.{Takes, done, one}
+use Rattle.laws_writer.proofs.LinesWritten.{all-of, all-both}
 
 -- the fields, with their kinds and places, from place p on
 unfoldable pub zipped : ℕ → List Kind → List Bytes → List Field
@@ -23,7 +23,7 @@ zipped p [] fs = []
 zipped p (k ∷ ks) [] = []
 zipped p (k ∷ ks) (f ∷ fs) = record { kind = k; place = p; bytes = f } ∷ zipped (suc (p + length f)) ks fs
 
--- the place of what stands behind fields
+-- the place of what stands after fields
 unfoldable pub endOf : ℕ → List Bytes → ℕ
 endOf p [] = p
 endOf p (f ∷ []) = p + length f
@@ -43,7 +43,7 @@ module _ (k : Kind) (ks new next : List Kind) (p : ℕ) (f : Bytes) (acc : List 
   taken-field = record { kind = k; place = p; bytes = f }
 
   judge-field : taken p f (walkAt (k ∷ ks) acc q) ≡ fine (walkAt next (acc ++ (taken-field ∷ [])) q)
-  unfolding taken takeNext andThen behind
+  unfolding taken takeNext andThen walkAfter
   judge-field = rw (j, e)
 
   -- up to its comma
@@ -70,7 +70,7 @@ walk-slash {ks = k ∷ ks} {f = f} {fs = g ∷ fs} p acc q (one {new = new} {nex
     ∙ walk-slash (suc (p + length f)) (acc ++ (record { kind = k; place = p; bytes = f } ∷ [])) q r
     ∙ rw (append-assoc acc (record { kind = k; place = p; bytes = f } ∷ []) (zipped (suc (p + length f)) used (g ∷ fs))))
 
--- that a comma and more end: what is wanted behind them is still wanted
+-- that a comma and more end: what is wanted after them is still wanted
 pub walk-comma : {ks used left : List Kind} {f : Bytes} {fs : List Bytes} (tail : List Kind) (rest : Bytes) (p : ℕ) (acc : List Field) (q : ℕ)
     → Takes ks (f ∷ fs) used left
     → walkCells (walkAt (ks ++ tail) acc q) (cellsFrom p (withCommas (f ∷ fs) ++ (comma ∷ rest)))

@@ -13,16 +13,17 @@ use Rattle.rules.specs.Lines.{Line, sizeOf, Code, fileHeader, groupHeader, acco
 use Rattle.rules.specs.Cells.{Mark, atComma, atSlash, atLineEnd, Cell, markPlace, cellsOf, leadingBlanks}
 use Rattle.rules.specs.Numbers.{zeroSum, number, digits}
 use Rattle.rules.specs.Grammar.{Kind, physicalLength, kindNumber, sameKind, Judged, bad, good, andThen, takeNext, nextKind, isText, judged, fieldsOf, mayLack, isLength}
-use Rattle.rules.specs.Records.{Field, Walk, behind, taken, pastSlash, takenTo, walkCells, walkLines, walkRecord, the}
+use Rattle.rules.specs.Records.{Field, Walk, walkAfter, taken, pastSlash, takenTo, walkCells, walkLines, walkRecord, the}
 use Rattle.rules.specs.Totals.{amountOf, sumOf}
 use Rattle.rules.specs.Order.{among}
-use Rattle.rules.specs.Verdict.{longestLine, limitGiven}
+use Rattle.rules.specs.Verdict.{limitGiven}
+use Rattle.rules.specs.Limits.{longestLine}
 use Rattle.rules.specs.Parts.{fieldsIn}
 use Rattle.rules.proofs.Tests.{Known, holds, fails, known, and-left, and-right}
 use Rattle.rules.proofs.Binds.{refused-fine, from-bind, then-fine, fine-same}
-use Rattle.laws.specs.Words.{All}
+use Rattle.laws.specs.LawWords.{All}
 use Rattle.laws.proofs.Codes.{of-each}
-use Rattle.laws.proofs.Fields.{simple, Says, judged-says}
+use Rattle.laws.proofs.FieldValues.{simple, Says, judged-says}
 
 -- ---- an invariant of the walk
 
@@ -36,17 +37,17 @@ module _ (I : List Kind → List Field → Type 0)
   abbrev Holds : Walk → Type 0
   Holds w = I (w .wanted) (w .fields)
 
-  behind-keeps : (j : Judged) (k : Kind) (ks : List Kind) (p : ℕ) (bs : Bytes) (w v : Walk) → judged k bs ≡ j → I (k ∷ ks) (w .fields)
-      → behind (andThen j ks) (field k p bs) w ≡ fine v → Holds v
-  unfolding behind andThen
-  behind-keeps (bad n) k ks p bs w v e i h = absurd (refused-fine n p v h)
-  behind-keeps (good new) k ks p bs w v e i h =
+  after-keeps : (j : Judged) (k : Kind) (ks : List Kind) (p : ℕ) (bs : Bytes) (w v : Walk) → judged k bs ≡ j → I (k ∷ ks) (w .fields)
+      → walkAfter (andThen j ks) (field k p bs) w ≡ fine v → Holds v
+  unfolding walkAfter andThen
+  after-keeps (bad n) k ks p bs w v e i h = absurd (refused-fine _ v h)
+  after-keeps (good new) k ks p bs w v e i h =
       subst Holds (fine-same (record { wanted = new ++ ks; fields = w .fields ++ (field k p bs ∷ []); lastSlash = w .lastSlash }) v h) (keeps k ks new (w .fields) p bs i e)
 
-  next-keeps : (ks : List Kind) (p : ℕ) (bs : Bytes) (w v : Walk) → I ks (w .fields) → behind (takeNext ks bs) (field (nextKind ks) p bs) w ≡ fine v → Holds v
-  unfolding behind takeNext
-  next-keeps [] p bs w v i h = absurd (refused-fine 8 p v h)
-  next-keeps (k ∷ ks) p bs w v i h = behind-keeps (judged k bs) k ks p bs w v refl i h
+  next-keeps : (ks : List Kind) (p : ℕ) (bs : Bytes) (w v : Walk) → I ks (w .fields) → walkAfter (takeNext ks bs) (field (nextKind ks) p bs) w ≡ fine v → Holds v
+  unfolding walkAfter takeNext
+  next-keeps [] p bs w v i h = absurd (refused-fine _ v h)
+  next-keeps (k ∷ ks) p bs w v i h = after-keeps (judged k bs) k ks p bs w v refl i h
 
   taken-keeps : (p : ℕ) (bs : Bytes) (w v : Walk) → Holds w → taken p bs w ≡ fine v → Holds v
   unfolding taken
@@ -54,7 +55,7 @@ module _ (I : List Kind → List Field → Type 0)
 
   to-keeps : (m : Mark) (c : Cell) (w v : Walk) → Holds w → takenTo m c w ≡ fine v → Holds v
   unfolding takenTo pastSlash
-  to-keeps atLineEnd c w v i h = absurd (refused-fine 7 (markPlace c) v h)
+  to-keeps atLineEnd c w v i h = absurd (refused-fine _ v h)
   to-keeps atComma c w v i h = taken-keeps (c .place) (c .bytes) w v i h
   to-keeps (atSlash after) c w v i h =
       from-bind (taken (c .place) (c .bytes) w) _ v h (λ u first rest.
@@ -168,7 +169,7 @@ unfolding fieldsIn sumOf
 no-amounts c r h = go (walkRecord c r) refl
   where
     go : (o : Outcome (List Field)) → walkRecord c r ≡ o → sumOf (orElse o []) ≡ zeroSum
-    go (refused n p) e = refl
+    go (refused why) e = refl
     go (fine fs) e = plain-read c r fs (simple-fields c h) e .nothing
 
 -- and L, where a 01 gives it, is at least 48

@@ -10,12 +10,12 @@ use borrow.Author.Tests.{ne-eqb}
 use Rattle.rules.specs.Bytes.{Bytes}
 use Rattle.rules.specs.Outcome.{Outcome, refused, fine}
 use Rattle.rules.specs.Verdict.{judge}
-use Rattle.rules.specs.Writer.{Call, fileEnd, sound, given, Entry, writeLine, Written, writtenBy, write}
+use Rattle.rules.specs.Writer.{Call, endFile, sound, given, Entry, writeLine, Written, writtenBy, write}
 use Rattle.rules.proofs.Accepted.{accepted-again}
-use Rattle.laws_writer.specs.Words.{fileSaid, gathered, gives, Session, freshSession, called, calledAll}
-use Rattle.laws_writer.proofs.Numbers.{not-empty}
-use Rattle.laws_writer.proofs.Records.{stateOf, Ready}
-use Rattle.laws_writer.proofs.Kept.{ready}
+use Rattle.laws_writer.specs.SessionWords.{fileSaid, gathered, gives, Session, freshSession, called, calledAll}
+use Rattle.laws_writer.proofs.NumberFields.{not-empty}
+use Rattle.laws_writer.proofs.RecordsWritten.{stateOf, Ready}
+use Rattle.laws_writer.proofs.CallsKept.{ready}
 use Rattle.laws_writer.proofs.Sessions.{runOf, always-keeps, called-keeps, end-ends}
 
 -- Any calls on a fresh writer, each with the state and the slice that the one before left, refused ones among them; and then the end of the file.
@@ -24,20 +24,20 @@ module _ (calls : List Call) (out : Bytes) where
   before = calledAll (freshSession out) calls
 
   abbrev end : Written
-  end = write (before .writer) fileEnd (before .output)
+  end = write (before .writer) endFile (before .output)
 
   abbrev file : Bytes
   file = take (end .len) (end .output)
 
-  end-ready : Ready (runOf (called before fileEnd))
-  end-ready = ready (called-keeps before fileEnd (always-keeps calls out) .stands)
+  end-ready : Ready (runOf (called before endFile))
+  end-ready = ready (called-keeps before endFile (always-keeps calls out) .stands)
 
-  written-size : end .number ≡ 0 → length file ≡ end .writer .size
+  written-size : end .refusal .number ≡ 0 → length file ≡ end .writer .size
   unfolding called
   written-size h = rw (end-ends (before .writer) (before .output) h .len) (sym (end-ready .size))
 
   -- Where that end is accepted, the bytes written are accepted, with the writer's own summary:
-  pub reader-accepts : end .number ≡ 0 → judge file ≡ fine (end .writer .file)
+  pub reader-accepts : end .refusal .number ≡ 0 → judge file ≡ fine (end .writer .file)
   unfolding called
   reader-accepts h =
       let x = end-ends (before .writer) (before .output) h in
@@ -53,7 +53,7 @@ module _ (calls : List Call) (out : Bytes) where
       })
 
   -- and the fields of each record say what the calls gave: each amount and count the number given, each text the bytes given.
-  pub reads-back : end .number ≡ 0 → fileSaid file ≡ called before fileEnd .told
+  pub reads-back : end .refusal .number ≡ 0 → fileSaid file ≡ called before endFile .told
   unfolding called
   reads-back h = rw (end-ends (before .writer) (before .output) h .len) (end-ready .told)
 
@@ -62,15 +62,15 @@ module _ (calls : List Call) (out : Bytes) where
   always-sound = always-keeps calls out .sound
 
 -- A refused call changes nothing: neither the state nor the slice, nor what was told.
-pub refused-stays : (s : Session) (call : Call) → (write (s .writer) call (s .output) .number ≡ 0 → ⊥) → called s call ≡ s
+pub refused-stays : (s : Session) (call : Call) → (write (s .writer) call (s .output) .refusal .number ≡ 0 → ⊥) → called s call ≡ s
 unfolding called write writtenBy
 refused-stays s call h = by-outcome (writeLine (s .writer) (given (s .writer) call) (length (s .output))) h
   where
-    by-outcome : (o : Outcome Entry) → (writtenBy (s .writer) o (s .output) .number ≡ 0 → ⊥)
+    by-outcome : (o : Outcome Entry) → (writtenBy (s .writer) o (s .output) .refusal .number ≡ 0 → ⊥)
         → record {
           writer = writtenBy (s .writer) o (s .output) .writer;
           output = writtenBy (s .writer) o (s .output) .output;
-          told = cond (eqb (writtenBy (s .writer) o (s .output) .number) 0) (gathered (given (s .writer) call .code) (s .told) (gives (s .writer) call)) (s .told);
+          told = cond (eqb (writtenBy (s .writer) o (s .output) .refusal .number) 0) (gathered (given (s .writer) call .code) (s .told) (gives (s .writer) call)) (s .told);
         } ≡ s
-    by-outcome (refused n p) k = rw (ne-eqb n 0 k)
+    by-outcome (refused why) k = rw (ne-eqb (why .number) 0 k)
     by-outcome (fine e) k = absurd (k refl)

@@ -9,12 +9,13 @@ use lib.ListN.{length, drop}
 use borrow.Author.Tests.{ne-eqb, le-leb}
 use Rattle.rules.specs.Bytes.{Bytes, LF, CR, all, allowed, sameBytes}
 use Rattle.rules.specs.Outcome.{Outcome, refused, fine, _>>=_}
-use Rattle.rules.specs.Lines.{lf, Line, linesOf, Code, fileHeader, groupHeader, accountHeader, detail, accountTrailer, groupTrailer, fileTrailer, continuation, codeBytes, begins, codeIn, codeOf, Record, lineBefore, recordsOf, sizeOf}
+use Rattle.rules.specs.Lines.{lf, Line, linesOf, Code, fileHeader, groupHeader, accountHeader, detail, accountTrailer, groupTrailer, fileTrailer, continuation, codeBytes, begins, codeIn}
+use Rattle.rules.specs.Lines.{codeOf, Record, lineBefore, recordsOf, sizeOf}
 use Rattle.rules.specs.Order.{among}
 use Rattle.rules.specs.Verdict.{notLonger, allAllowed, coded, goodLine, goodLines, noneLonger, inOrder}
 use Rattle.rules.proofs.Binds.{from-bind, first-fine, refused-fine}
 use Rattle.rules.proofs.LineLaws.{inLine, noCR, lines-lf}
-use Rattle.base_digits.proofs.Tests.{and-left, and-right, at-least}
+use Rattle.base_digits.proofs.DigitTests.{and-left, and-right, at-least}
 
 -- ---- tests of all bytes
 
@@ -43,7 +44,7 @@ last-no-cr (b ∷ c ∷ bs) h = last-no-cr (c ∷ bs) (and-right (allowed b) (al
 first-line : (body bs : Bytes) → all allowed body ≡ true → linesOf (body ++ (LF ∷ bs)) ≡ record { body = body; lineEnd = lf } ∷ linesOf bs
 first-line body bs h = lines-lf body bs (rw (all-of allowed inLine allowed-in-line body h) tt) (rw (last-no-cr body h) tt)
 
--- lines of the bytes so far are cut the same whatever comes behind them
+-- lines of the bytes so far are cut the same whatever comes after them
 abbrev pub Cut : Bytes → Type 0
 Cut bytes = (more : Bytes) → linesOf (bytes ++ more) ≡ linesOf bytes ++ linesOf more
 
@@ -66,7 +67,7 @@ module _ (bytes body : Bytes) (cut : Cut bytes) (h : all allowed body ≡ true) 
       )
       (cut (body ++ (LF ∷ more)) ∙ rw (first-line body more h))
 
--- ---- the records so far, with an 88 behind them
+-- ---- the records so far, with an 88 after them
 
 -- the line goes to the last record
 unfoldable withLast : List Record → Line → List Record
@@ -165,7 +166,7 @@ module _ (c : Code) (rest : Bytes) where
 good-step : (o : Outcome Code) (q limit : ℕ) (r : Record) (l : Line)
     → (goodLines q limit r ≡ fine tt → goodLines q limit (r ++ (l ∷ [])) ≡ fine tt)
     → (o >>= λ _. goodLines q limit r) ≡ fine tt → (o >>= λ _. goodLines q limit (r ++ (l ∷ []))) ≡ fine tt
-good-step (refused n k) q limit r l ih h = absurd (refused-fine n k tt h)
+good-step (refused why) q limit r l ih h = absurd (refused-fine why tt h)
 good-step (fine a) q limit r l ih h = ih h
 
 pub good-more : (p limit : ℕ) (r : Record) (l : Line) → ((q : ℕ) → goodLines q limit (l ∷ []) ≡ fine tt) → goodLines p limit r ≡ fine tt

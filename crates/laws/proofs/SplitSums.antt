@@ -8,23 +8,23 @@ use Rattle.rules.specs.Lines.{Code, fileHeader, groupHeader, accountHeader, acc
 use Rattle.rules.specs.Numbers.{Sum, zeroSum, _⊕_}
 use Rattle.rules.specs.Totals.{Summary, _⊞_, adding, ofRecord}
 use Rattle.rules.specs.Order.{among}
-use Rattle.rules.specs.Parts.{heads, Pieces, detailPieces, groupsIn}
-use Rattle.rules.specs.Combine.{summaryOf, summaryOfAll, joined}
-use Rattle.laws.specs.Words.{All, sumUp, accountsIn, detailsIn, Enclosed, IsAccount, IsGroup, IsFile, totalOf, TotalsNest}
+use Rattle.rules.specs.Parts.{heads, Parts, inDetails, groupsIn}
+use Rattle.rules.specs.Combine.{summaryOf, summaryOfAll, concat}
+use Rattle.laws.specs.LawWords.{All, sumUp, accountsIn, detailsIn, Enclosed, IsAccount, IsGroup, IsFile, totalOf, TotalsNest}
 use Rattle.laws.proofs.Lists.{all-from}
 use Rattle.laws.proofs.Envelopes.{account-cut}
-use Rattle.laws.proofs.Summaries.{same-sum, add-none, summary-append, summary-as, summary-envelope}
-use Rattle.laws.proofs.Walks.{amountless, no-amounts}
+use Rattle.laws.proofs.SummarySums.{same-sum, add-none, summary-append, summary-as, summary-envelope}
+use Rattle.laws.proofs.WalkedFields.{amountless, no-amounts}
 
 -- a record that is no 03 or 16 adds nothing
 zero-record : (c : Code) (r : Record) → T (among c amountless) → T (heads c r) → summaryOf r .sum ≡ zeroSum
 unfolding ofRecord adding
 zero-record c r m h = ap (λ (s : Summary). s .sum) (summary-as c r h) ∙ no-amounts c r m
 
-sum-of-parts : (ps : List (List Record)) → totalOf (joined ps) ≡ sumUp totalOf ps
-unfolding joined sumUp summaryOfAll _⊞_
+sum-of-parts : (ps : List (List Record)) → totalOf (concat ps) ≡ sumUp totalOf ps
+unfolding concat sumUp summaryOfAll _⊞_
 sum-of-parts [] = refl
-sum-of-parts (p ∷ ps) = ap (λ (s : Summary). s .sum) (summary-append p (joined ps)) ∙ rw (sum-of-parts ps)
+sum-of-parts (p ∷ ps) = ap (λ (s : Summary). s .sum) (summary-append p (concat ps)) ∙ rw (sum-of-parts ps)
 
 three-sums : (h g t : Summary) → ((h ⊞ g) ⊞ t) .sum ≡ (h .sum ⊕ g .sum) ⊕ t .sum
 unfolding _⊞_
@@ -41,20 +41,20 @@ module _ (c d : Code) (ps : List (List Record)) (rs : List Record) (e : Enclosed
   first-and-parts : totalOf rs ≡ summaryOf (e .header) .sum ⊕ sumUp totalOf ps
   first-and-parts =
       ap totalOf (e .whole)
-      ∙ ap (λ (s : Summary). s .sum) (summary-envelope (e .header) (joined ps) (e .trailer))
-      ∙ three-sums (summaryOf (e .header)) (summaryOfAll (joined ps)) (summaryOf (e .trailer))
-      ∙ no-end (summaryOf (e .header) .sum ⊕ totalOf (joined ps)) (summaryOf (e .trailer) .sum) (zero-record d (e .trailer) m (e .is-trailer))
+      ∙ ap (λ (s : Summary). s .sum) (summary-envelope (e .header) (concat ps) (e .trailer))
+      ∙ three-sums (summaryOf (e .header)) (summaryOfAll (concat ps)) (summaryOf (e .trailer))
+      ∙ no-end (summaryOf (e .header) .sum ⊕ totalOf (concat ps)) (summaryOf (e .trailer) .sum) (zero-record d (e .trailer) m (e .is-trailer))
       ∙ rw (sum-of-parts ps)
 
   only-parts : T (among c amountless) → totalOf rs ≡ sumUp totalOf ps
   only-parts n = first-and-parts ∙ no-start (summaryOf (e .header) .sum) (sumUp totalOf ps) (zero-record c (e .header) n (e .is-header))
 
-account-total : (a : List Record) → IsAccount a → totalOf a ≡ totalOf (detailPieces a .waiting) ⊕ sumUp totalOf (detailsIn a)
+account-total : (a : List Record) → IsAccount a → totalOf a ≡ totalOf (inDetails a .waiting) ⊕ sumUp totalOf (detailsIn a)
 unfolding among sameBytes summaryOfAll
 account-total a i =
     let e = i .enclosed in
-    let first : totalOf (detailPieces a .waiting) ≡ summaryOf (e .header) .sum =
-    ap (λ (p : Pieces). totalOf (p .waiting)) (account-cut a i) ∙ ap (λ (s : Summary). s .sum) (add-none (summaryOf (e .header))) in
+    let first : totalOf (inDetails a .waiting) ≡ summaryOf (e .header) .sum =
+    ap (λ (p : Parts). totalOf (p .waiting)) (account-cut a i) ∙ ap (λ (s : Summary). s .sum) (add-none (summaryOf (e .header))) in
     first-and-parts accountHeader accountTrailer (detailsIn a) a e tt ∙ rw first
 
 group-total : (g : List Record) → IsGroup g → totalOf g ≡ sumUp totalOf (accountsIn g)
@@ -68,6 +68,6 @@ totals-of file i =
       of-file = only-parts fileHeader fileTrailer (groupsIn file) (fileRecords file) (i .enclosed) tt tt;
       of-groups = all-from (λ g. totalOf g ≡ sumUp totalOf (accountsIn g)) IsGroup group-total (groupsIn file) (i .groups);
       of-accounts =
-          all-from (λ g. All (λ a. totalOf a ≡ totalOf (detailPieces a .waiting) ⊕ sumUp totalOf (detailsIn a)) (accountsIn g)) IsGroup
-          (λ g j. all-from (λ a. totalOf a ≡ totalOf (detailPieces a .waiting) ⊕ sumUp totalOf (detailsIn a)) IsAccount account-total (accountsIn g) (j .accounts)) (groupsIn file) (i .groups);
+          all-from (λ g. All (λ a. totalOf a ≡ totalOf (inDetails a .waiting) ⊕ sumUp totalOf (detailsIn a)) (accountsIn g)) IsGroup
+          (λ g j. all-from (λ a. totalOf a ≡ totalOf (inDetails a .waiting) ⊕ sumUp totalOf (detailsIn a)) IsAccount account-total (accountsIn g) (j .accounts)) (groupsIn file) (i .groups);
     }

@@ -12,16 +12,17 @@ use Rattle.rules.specs.Outcome.{fine}
 use Rattle.rules.specs.Numbers.{Signed, Sum, zeroSum, _⊕_, asSum, signed, digits}
 use Rattle.rules.specs.TypeCodes.{Class, status, summaryOnly, summaryOrDetail, nonMonetary, unknown, typeClass}
 use Rattle.rules.specs.Lines.{accountHeader, continuation}
-use Rattle.rules.specs.Grammar.{Kind, name, currency, firstType, furtherType, statusAmount, amount, itemCount, funds, count, nothing, Judged, bad, good, fits, fundsOf, judged, mayLack, fieldsOf, itemOf}
+use Rattle.rules.specs.Grammar.{Kind, name, currency, firstType, furtherType, statusAmount, amount, itemCount, funds, count, nothing, Judged, bad, good, fits, fundsOf, judged, mayLack}
+use Rattle.rules.specs.Grammar.{fieldsOf, itemOf}
 use Rattle.rules.specs.Totals.{amountOf, sumOf}
-use Rattle.rules.specs.Writer.{Item, account, further, Writer, given, amountBytes, countBytes, sumGiven, itemFields, wantsItem, behindFields}
+use Rattle.rules.specs.Writer.{Item, writeAccount, writeItem, Writer, given, amountBytes, countBytes, sumGiven, itemFields, wantsItem, kindsAfter}
 use Rattle.rules.proofs.Tests.{Known, holds, fails, known}
-use Rattle.base_digits.proofs.Reading.{digits-at-most}
-use Rattle.laws_writer.specs.Words.{Value, filled, said, allSaid, word, amountGiven, countGiven, itemGiven, gives}
-use Rattle.laws_writer.specs.Words as words
-use Rattle.laws_writer.proofs.Numbers.{amount-reads, amount-said, count-said, no-amount, no-count}
-use Rattle.laws_writer.proofs.Fields.{bad-good, from-field, none-left, Takes, one, all-taken, in-front}
-use Rattle.laws_writer.proofs.Walks.{zipped}
+use Rattle.base_digits.proofs.ReadingLaws.{digits-at-most}
+use Rattle.laws_writer.specs.SessionWords.{Value, filled, said, allSaid, word, amountGiven, countGiven, itemGiven, gives}
+use Rattle.laws_writer.specs.SessionWords as words
+use Rattle.laws_writer.proofs.NumberFields.{amount-reads, amount-said, count-said, no-amount, no-count}
+use Rattle.laws_writer.proofs.FieldsWritten.{bad-good, from-field, none-left, Takes, one, all-taken, in-front}
+use Rattle.laws_writer.proofs.WalkWritten.{zipped}
 use Rattle.laws_writer.proofs.Found.{Found, slashLine, found-slash}
 
 abbrev itemRest : Option Signed → Option ℕ → List Bytes
@@ -44,7 +45,7 @@ sum-zeros : (a : Option Signed) → asSum (signed (amountBytes a)) ⊕ (zeroSum 
 sum-zeros a = rw (amount-reads a) (simp add-zero)
 
 -- where `nothing` is wanted, the field is empty
-pub nothing-empty : (f : Bytes) (ks : List Kind) (fs : List Bytes) (left : List Kind) → behindFields (nothing ∷ ks) (f ∷ fs) ≡ fine left → isEmpty f ≡ true
+pub nothing-empty : (f : Bytes) (ks : List Kind) (fs : List Bytes) (left : List Kind) → kindsAfter (nothing ∷ ks) (f ∷ fs) ≡ fine left → isEmpty f ≡ true
 unfolding judged
 nothing-empty f ks fs left h = from-field nothing f ks fs left h (λ new c j q. by-test (isEmpty f) new j)
   where
@@ -53,12 +54,12 @@ nothing-empty f ks fs left h = from-field nothing f ks fs left h (λ new c j q. 
     by-test false new j = bad-good 8 new j
 
 -- funds stay empty
-pub funds-empty : (ks : List Kind) (fs : List Bytes) (left : List Kind) → behindFields (funds ∷ ks) ([] ∷ fs) ≡ fine left → behindFields ks fs ≡ fine left
+pub funds-empty : (ks : List Kind) (fs : List Bytes) (left : List Kind) → kindsAfter (funds ∷ ks) ([] ∷ fs) ≡ fine left → kindsAfter ks fs ≡ fine left
 unfolding judged fundsOf isEmpty
 funds-empty ks fs left h = from-field funds [] ks fs left h (λ new c j q. let z : [] ≡ new = cc in rw (← z) at q)
 
 module _ (a : Option Signed) (n : Option ℕ) (left : List Kind) where
-  status-item : behindFields (statusAmount ∷ nothing ∷ nothing ∷ furtherType ∷ []) (itemRest a n) ≡ fine left → ItemFound (statusAmount ∷ nothing ∷ nothing ∷ furtherType ∷ []) a n left
+  status-item : kindsAfter (statusAmount ∷ nothing ∷ nothing ∷ furtherType ∷ []) (itemRest a n) ≡ fine left → ItemFound (statusAmount ∷ nothing ∷ nothing ∷ furtherType ∷ []) a n left
   unfolding zipped sumOf amountOf allSaid said isEmpty
   status-item h =
       let s = in-front (statusAmount ∷ []) (nothing ∷ nothing ∷ furtherType ∷ []) (amountBytes a ∷ []) (countBytes n ∷ [] ∷ []) left refl refl h in
@@ -75,7 +76,7 @@ module _ (a : Option Signed) (n : Option ℕ) (left : List Kind) where
         sum = λ p. sum-zeros a;
       }
 
-  summary-item : behindFields (amount ∷ itemCount ∷ funds ∷ furtherType ∷ []) (itemRest a n) ≡ fine left → ItemFound (amount ∷ itemCount ∷ funds ∷ furtherType ∷ []) a n left
+  summary-item : kindsAfter (amount ∷ itemCount ∷ funds ∷ furtherType ∷ []) (itemRest a n) ≡ fine left → ItemFound (amount ∷ itemCount ∷ funds ∷ furtherType ∷ []) a n left
   unfolding zipped sumOf amountOf allSaid said all judged fundsOf isEmpty
   summary-item h =
       let t = in-front (amount ∷ itemCount ∷ []) (funds ∷ furtherType ∷ []) (amountBytes a ∷ countBytes n ∷ []) ([] ∷ []) left refl refl h in
@@ -92,7 +93,7 @@ module _ (a : Option Signed) (n : Option ℕ) (left : List Kind) where
       }
 
   -- no item: all its fields are empty
-  no-item : behindFields (nothing ∷ nothing ∷ nothing ∷ []) (itemRest a n) ≡ fine left → ItemFound (nothing ∷ nothing ∷ nothing ∷ []) a n left
+  no-item : kindsAfter (nothing ∷ nothing ∷ nothing ∷ []) (itemRest a n) ≡ fine left → ItemFound (nothing ∷ nothing ∷ nothing ∷ []) a n left
   unfolding zipped sumOf amountOf allSaid said isEmpty
   no-item h =
       let s = in-front (nothing ∷ []) (nothing ∷ nothing ∷ []) (amountBytes a ∷ []) (countBytes n ∷ [] ∷ []) left refl refl h in
@@ -111,7 +112,7 @@ module _ (a : Option Signed) (n : Option ℕ) (left : List Kind) where
       }
 
   -- by the class of its type
-  item-found : (c : Class) (new : List Kind) → itemOf c ≡ good new → behindFields (new ++ []) (itemRest a n) ≡ fine left → ItemFound new a n left
+  item-found : (c : Class) (new : List Kind) → itemOf c ≡ good new → kindsAfter (new ++ []) (itemRest a n) ≡ fine left → ItemFound new a n left
   item-found status new j h = let z : (statusAmount ∷ nothing ∷ nothing ∷ furtherType ∷ []) ≡ new = cc in rw (← z) (status-item (rw (← z) at h))
   item-found summaryOnly new j h = let z : (amount ∷ itemCount ∷ funds ∷ furtherType ∷ []) ≡ new = cc in rw (← z) (summary-item (rw (← z) at h))
   item-found summaryOrDetail new j h = let z : (amount ∷ itemCount ∷ funds ∷ furtherType ∷ []) ≡ new = cc in rw (← z) (summary-item (rw (← z) at h))
@@ -130,7 +131,7 @@ type-short y P u new h = by-test (known (digits 3 3 y))
 pub sum-front : (s t : Sum) → s ≡ t → zeroSum ⊕ s ≡ t
 sum-front s t e = rw (e, zero-add (t .pluses), zero-add (t .minuses))
 
--- a further item may come behind an item
+-- a further item may come after an item
 item-wants : (c : Class) (new : List Kind) → itemOf c ≡ good new → wantsItem (drop 3 new) ≡ true
 item-wants status new j = let z : (statusAmount ∷ nothing ∷ nothing ∷ furtherType ∷ []) ≡ new = cc in rw (← z)
 item-wants summaryOnly new j = let z : (amount ∷ itemCount ∷ funds ∷ furtherType ∷ []) ≡ new = cc in rw (← z)
@@ -138,14 +139,14 @@ item-wants summaryOrDetail new j = let z : (amount ∷ itemCount ∷ funds ∷ f
 item-wants nonMonetary new j = bad-good 8 new j
 item-wants unknown new j = bad-good 8 new j
 
-pub further-wants : (i : Item) (left : List Kind) → behindFields (furtherType ∷ []) (itemFields i) ≡ fine left → wantsItem left ≡ true
+pub further-wants : (i : Item) (left : List Kind) → kindsAfter (furtherType ∷ []) (itemFields i) ≡ fine left → wantsItem left ≡ true
 unfolding judged
 further-wants i left h =
     from-field furtherType (i .type) [] (itemRest (i .amount) (i .count)) left h (λ new c j q.
     rw (← item-found (i .amount) (i .count) left (typeClass (i .type)) new j q .rest) (item-wants (typeClass (i .type)) new j))
 
 -- a further item
-pub further-found : (w : Writer) (i : Item) (left : List Kind) → behindFields (furtherType ∷ []) (itemFields i) ≡ fine left → Found (given w (further i)) (gives w (further i)) left
+pub further-found : (w : Writer) (i : Item) (left : List Kind) → kindsAfter (furtherType ∷ []) (itemFields i) ≡ fine left → Found (given w (writeItem i)) (gives w (writeItem i)) left
 unfolding given gives judged zipped sumOf amountOf allSaid said filled
 further-found w i left h =
     from-field furtherType (i .type) [] (itemRest (i .amount) (i .count)) left h (λ new c j q.
@@ -159,12 +160,12 @@ further-found w i left h =
 
 -- an account's first type: none, or an item's
 first-item : (y : Bytes) (a : Option Signed) (n : Option ℕ) (left new : List Kind) → judged firstType y ≡ good new
-    → behindFields (new ++ []) (itemRest a n) ≡ fine left → ItemFound new a n left × (length y ≤ 76)
+    → kindsAfter (new ++ []) (itemRest a n) ≡ fine left → ItemFound new a n left × (length y ≤ 76)
 unfolding judged isEmpty
 first-item [] a n left new j h = let z : (nothing ∷ nothing ∷ nothing ∷ []) ≡ new = cc in (rw (← z) (no-item a n left (rw (← z) at h)), omega arith)
 first-item (b ∷ bs) a n left new j h = (item-found a n left (typeClass (b ∷ bs)) new j h, type-short (b ∷ bs) itemOf refl new j)
 
-account-line : (m u : Bytes) (i : Item) (left : List Kind) → behindFields (fieldsOf accountHeader) (m ∷ u ∷ itemFields i) ≡ fine left
+account-line : (m u : Bytes) (i : Item) (left : List Kind) → kindsAfter (fieldsOf accountHeader) (m ∷ u ∷ itemFields i) ≡ fine left
     → Found (slashLine accountHeader (fieldsOf accountHeader) (m ∷ u ∷ itemFields i) (i .amount)) (word m ∷ word u ∷ itemGiven i) left
 unfolding fieldsOf zipped sumOf amountOf allSaid said filled
 account-line m u i left h =
@@ -182,19 +183,19 @@ account-line m u i left h =
     sum-front (zeroSum ⊕ (zeroSum ⊕ s)) (sumGiven (i .amount)) (sum-front (zeroSum ⊕ s) (sumGiven (i .amount)) (sum-front s (sumGiven (i .amount)) (x .sum (at p)))))
     refl (λ e. (x .only e, refl)))
 
-pub account-found : (w : Writer) (m u : Bytes) (i : Option Item) (left : List Kind) → behindFields (fieldsOf accountHeader) (given w (account m u i) .fields) ≡ fine left
-    → Found (given w (account m u i)) (gives w (account m u i)) left
+pub account-found : (w : Writer) (m u : Bytes) (i : Option Item) (left : List Kind) → kindsAfter (fieldsOf accountHeader) (given w (writeAccount m u i) .fields) ≡ fine left
+    → Found (given w (writeAccount m u i)) (gives w (writeAccount m u i)) left
 unfolding given gives isEmpty
 account-found w m u none left h = account-line m u (record { type = []; amount = none; count = none }) left h
 account-found w m u (some i) left h = account-line m u i left h
 
--- a further item may come behind an account with an item
+-- a further item may come after an account with an item
 first-wants : (y : Bytes) (new : List Kind) → judged firstType y ≡ good new → wantsItem (drop 3 new) ≡ not (isEmpty y)
 unfolding judged isEmpty
 first-wants [] new j = let z : (nothing ∷ nothing ∷ nothing ∷ []) ≡ new = cc in rw (← z)
 first-wants (b ∷ bs) new j = item-wants (typeClass (b ∷ bs)) new j
 
-pub account-wants : (m u : Bytes) (i : Item) (left : List Kind) → behindFields (fieldsOf accountHeader) (m ∷ u ∷ itemFields i) ≡ fine left → wantsItem left ≡ not (isEmpty (i .type))
+pub account-wants : (m u : Bytes) (i : Item) (left : List Kind) → kindsAfter (fieldsOf accountHeader) (m ∷ u ∷ itemFields i) ≡ fine left → wantsItem left ≡ not (isEmpty (i .type))
 unfolding fieldsOf
 account-wants m u i left h =
     let t = in-front (name ∷ currency ∷ []) (firstType ∷ []) (m ∷ u ∷ []) (itemFields i) left refl refl h in

@@ -5,7 +5,7 @@ use mathlib.Core.List.{List, [], _∷_, _++_}
 use mathlib.Core.Option.{Option, none, some}
 use lib.Dec.{eqb}
 use lib.IntN.{ℤ}
-use Rattle.rules.specs.Bytes.{Bytes, slash, isEmpty, just}
+use Rattle.rules.specs.Bytes.{Bytes, letter, slash, isEmpty, just}
 use Rattle.rules.specs.Numbers.{Signed, asSum, signed, asInteger}
 use Rattle.rules.specs.Numbers as numbers
 use Rattle.rules.specs.Lines.{Code, continuation, sameCode, codeOf, Record, fileRecords}
@@ -13,7 +13,7 @@ use Rattle.rules.specs.Grammar.{Kind, sameKind, amount, statusAmount, total, it
 use Rattle.rules.specs.Records.{Field}
 use Rattle.rules.specs.Parts.{fieldsIn}
 use Rattle.rules.specs.Totals.{Summary}
-use Rattle.rules.specs.Writer.{Item, Call, header, group, account, further, transaction, accountEnd, groupEnd, fileEnd, Writer, freshWriter, given, write}
+use Rattle.rules.specs.Writer.{Item, Call, writeHeader, writeGroup, writeAccount, writeItem, writeDetail, endAccount, endGroup, endFile, Writer, freshWriter, given, write}
 
 -- ---- what a field says
 
@@ -76,19 +76,19 @@ itemGiven i = word (i .type) ∷ amountGiven (i .amount) ∷ countGiven (i .coun
 
 -- a trailer's total, count and record count, itself included
 abbrev pub trailerGiven : Summary → ℕ → List Value
-trailerGiven s n = units (asInteger (s .sum)) ∷ number n ∷ number (s .lines + 1) ∷ []
+trailerGiven s n = units (asInteger (s .sum)) ∷ number n ∷ number (s .records + 1) ∷ []
 
 -- field by field; the trailers give the writer's own sums and counts
 unfoldable pub gives : Writer → Call → List Value
-gives w (header s r d t n) = word s ∷ word r ∷ word d ∷ word t ∷ word n ∷ nothing ∷ nothing ∷ bytes (50 ∷ []) ∷ []
-gives w (group u o s d t c m) = word u ∷ word o ∷ word s ∷ word d ∷ word t ∷ word c ∷ word m ∷ []
-gives w (account n c none) = word n ∷ word c ∷ nothing ∷ nothing ∷ nothing ∷ nothing ∷ []
-gives w (account n c (some i)) = word n ∷ word c ∷ itemGiven i
-gives w (further i) = itemGiven i
-gives w (transaction y a b c t) = word y ∷ amountGiven a ∷ nothing ∷ word b ∷ word c ∷ word t ∷ []
-gives w accountEnd = units (asInteger (w .account .sum)) ∷ number (w .account .lines + 1) ∷ []
-gives w groupEnd = trailerGiven (w .group) (w .group .accounts)
-gives w fileEnd = trailerGiven (w .file) (w .file .groups)
+gives w (writeHeader s r d t n) = word s ∷ word r ∷ word d ∷ word t ∷ word n ∷ nothing ∷ nothing ∷ bytes (letter "2" ∷ []) ∷ []
+gives w (writeGroup u o s d t c m) = word u ∷ word o ∷ word s ∷ word d ∷ word t ∷ word c ∷ word m ∷ []
+gives w (writeAccount n c none) = word n ∷ word c ∷ nothing ∷ nothing ∷ nothing ∷ nothing ∷ []
+gives w (writeAccount n c (some i)) = word n ∷ word c ∷ itemGiven i
+gives w (writeItem i) = itemGiven i
+gives w (writeDetail y a b c t) = word y ∷ amountGiven a ∷ nothing ∷ word b ∷ word c ∷ word t ∷ []
+gives w endAccount = units (asInteger (w .account .sum)) ∷ number (w .account .records + 1) ∷ []
+gives w endGroup = trailerGiven (w .group) (w .group .accounts)
+gives w endFile = trailerGiven (w .file) (w .file .groups)
 
 -- ---- calls one after the other
 
@@ -118,7 +118,7 @@ called s call =
     record {
       writer = answer .writer;
       output = answer .output;
-      told = cond (eqb (answer .number) 0) (gathered (given (s .writer) call .code) (s .told) (gives (s .writer) call)) (s .told);
+      told = cond (eqb (answer .refusal .number) 0) (gathered (given (s .writer) call .code) (s .told) (gives (s .writer) call)) (s .told);
     }
 
 unfoldable pub calledAll : Session → List Call → Session

@@ -1,4 +1,4 @@
--- The bytes so far, as the reader reads them: a call's line is a new record, or an 88 behind the last one. Assumes nothing.
+-- The bytes so far, as the reader reads them: a call's line is a new record, or an 88 after the last one. Assumes nothing.
 use mathlib.Core.Path.{_≡_, refl, sym, _∙_}
 use mathlib.Core.Bool.{Bool, true, false, cond}
 use mathlib.Core.List.{List, [], _∷_, _++_}
@@ -9,23 +9,24 @@ use lib.ListN.{length, length-append}
 use borrow.Author.Tests.{le-leb}
 use Rattle.rules.specs.Bytes.{Bytes, all, allowed}
 use Rattle.rules.specs.Outcome.{Outcome, fine, check, moved}
-use Rattle.rules.specs.Numbers.{_⊕_, magnitudes, most}
+use Rattle.rules.specs.Numbers.{_⊕_, magnitudes}
+use Rattle.rules.specs.Limits.{most, longestLine}
 use Rattle.rules.specs.Lines.{Line, lf, linesOf, Code, fileHeader, accountHeader, continuation, sameCode, codeBytes, begins, codeOf, Record, recordsOf, fileRecords}
 use Rattle.rules.specs.Cells.{cellsFrom, cellsOf}
 use Rattle.rules.specs.Grammar.{Kind, mayLack, fieldsOf, furtherType}
 use Rattle.rules.specs.Records.{Field, walkLines, walkRecord}
 use Rattle.rules.specs.Totals.{_⊞_, amountOf, sumOf, ofRecord, boundedFrom, balanced}
-use Rattle.rules.specs.Order.{after, among}
-use Rattle.rules.specs.Verdict.{longestLine, State, start, goodLines, noneLonger, inOrder, coded, limitBehind, ownLines, Reading, stateBehind, step, run}
+use Rattle.rules.specs.Order.{mayFollow, among}
+use Rattle.rules.specs.Verdict.{State, start, goodLines, noneLonger, inOrder, coded, limitAfter, ownLines, Reading, stateAfter, step, run}
 use Rattle.rules.specs.Parts.{sizeOfAll, fieldsIn}
 use Rattle.rules.specs.Writer.{expectedIn, phaseAfter, Writer, Given, sumGiven, ofGiven, bodyOf, lineOf, entryOf, wantsItem}
 use Rattle.rules.proofs.Binds.{from-bind, then-fine, or-fine, fine-same, refused-fine}
 use Rattle.rules.proofs.LineLaws.{records-append}
 use Rattle.rules.proofs.RunLaws.{run-append}
 use Rattle.rules.proofs.Accepted.{step-again}
-use Rattle.laws_writer.specs.Words.{Value, allSaid, codedSaid, recordSaid, recordsSaid, fileSaid, gathered}
-use Rattle.laws_writer.proofs.Walks.{walkAt}
-use Rattle.laws_writer.proofs.Lines.{all-both, Cut, lines-more, cut-more, code-bytes, good-line, in-order, none-longer}
+use Rattle.laws_writer.specs.SessionWords.{Value, allSaid, codedSaid, recordSaid, recordsSaid, fileSaid, gathered}
+use Rattle.laws_writer.proofs.WalkWritten.{walkAt}
+use Rattle.laws_writer.proofs.LinesWritten.{all-both, Cut, lines-more, cut-more, code-bytes, good-line, in-order, none-longer}
 use Rattle.laws_writer.proofs.Found.{restOf, textKinds, holdsItems, Found}
 
 -- ---- a record that the reader takes
@@ -37,14 +38,14 @@ stateOf w = record { expected = expectedIn (w .phase); limit = longestLine; file
 abbrev pub reading : Code → List Field → Reading
 reading c fs = record { code = c; fields = fs }
 
--- behind what this writer has written; wanted: the kinds that may still come
+-- after what this writer has written; wanted: the kinds that may still come
 pub record Taken (w : Writer) (r : Record) (c : Code) (fs : List Field) (wanted : List Kind) : Type 0 where
   pub lines : goodLines 0 longestLine r ≡ fine tt
   pub order : inOrder (expectedIn (w .phase)) r ≡ fine c
   pub slash : ℕ
   pub walked : walkLines 0 (walkAt (fieldsOf c) [] 0) r ≡ fine (walkAt wanted fs slash)
   pub may : mayLack wanted ≡ true
-  pub limit : limitBehind c longestLine fs ≡ longestLine
+  pub limit : limitAfter c longestLine fs ≡ longestLine
   pub bound : magnitudes (w .file .sum) + magnitudes (sumOf fs) ≤ most
   pub balances : balanced c (w .account ⊞ ofRecord c r fs) (w .group ⊞ ofRecord c r fs) (w .file ⊞ ofRecord c r fs) fs ≡ fine tt
 
@@ -66,9 +67,9 @@ module _ {w : Writer} {r : Record} {c : Code} {fs : List Field} {wanted : List K
   unfolding walkRecord
   walk-taken = rw (t .walked, t .may)
 
-  step-taken : step (stateOf w) r ≡ fine (stateBehind (stateOf w) r (reading c fs))
+  step-taken : step (stateOf w) r ≡ fine (stateAfter (stateOf w) r (reading c fs))
   step-taken =
-      step-again (stateOf w) r (stateBehind (stateOf w) r (reading c fs))
+      step-again (stateOf w) r (stateAfter (stateOf w) r (reading c fs))
       (record {
         code = c;
         fields = fs;
@@ -89,7 +90,7 @@ order-code cs l ls c h =
 
 taken-said : (w : Writer) (r : Record) (c : Code) (fs : List Field) (wanted : List Kind) → Taken w r c fs wanted → recordSaid r ≡ allSaid fs
 unfolding recordSaid codedSaid fieldsIn inOrder
-taken-said w [] c fs wanted t = absurd (refused-fine 6 0 c (t .order))
+taken-said w [] c fs wanted t = absurd (refused-fine _ c (t .order))
 taken-said w (l ∷ ls) c fs wanted t = rw (order-code (expectedIn (w .phase)) l ls c (t .order), walk-taken t)
 
 -- ---- the bytes so far
@@ -111,7 +112,7 @@ pub record Ready (r : Run) : Type 0 where
   pub told : fileSaid (r .bytes) ≡ r .told
 
 -- with the last record apart: v is the writer before it
-pub record Behind (r : Run) : Type 0 where
+pub record After (r : Run) : Type 0 where
   pub before : List Record
   pub v : Writer
   pub last : Record
@@ -121,7 +122,7 @@ pub record Behind (r : Run) : Type 0 where
   pub whole : fileRecords (r .bytes) ≡ before ++ (last ∷ [])
   pub first : run 0 start before ≡ fine (stateOf v)
   pub taken : Taken v last code fields wanted
-  pub state : stateBehind (stateOf v) last (reading code fields) ≡ stateOf (r .writer)
+  pub state : stateAfter (stateOf v) last (reading code fields) ≡ stateOf (r .writer)
   pub items : r .writer .items ≡ wantsItem wanted
   pub item : wantsItem wanted ≡ true → (wanted ≡ furtherType ∷ []) × (code ≡ accountHeader)
   pub cut : Cut (r .bytes)
@@ -133,14 +134,14 @@ unfolding recordsSaid
 records-said [] qs = refl
 records-said (r ∷ rs) qs = rw (records-said rs qs)
 
-module _ (r : Run) (b : Behind r) where
+module _ (r : Run) (b : After r) where
   last-run : (p : ℕ) → run p (stateOf (b .v)) (b .last ∷ []) ≡ fine (stateOf (r .writer))
   unfolding run moved
   last-run p = rw (step-taken (b .taken), b .state)
 
-  pub ready-behind : Ready r
+  pub ready-after : Ready r
   unfolding fileSaid recordsSaid
-  ready-behind =
+  ready-after =
       record {
         cut = b .cut;
         size = b .size;
@@ -182,7 +183,7 @@ module _ (r : Run) (ready : Ready r) (g : Given) (vs : List Value) (left : List 
   this-line = rw (l .sum 3)
 
   new-taken : among (g .code) (expectedIn (r .writer .phase)) ≡ true → g .kinds ++ textKinds (g .text) ≡ fieldsOf (g .code)
-      → limitBehind (g .code) longestLine (l .fields 3) ≡ longestLine → magnitudes (r .writer .file .sum ⊕ sumGiven (g .amount)) ≤ most
+      → limitAfter (g .code) longestLine (l .fields 3) ≡ longestLine → magnitudes (r .writer .file .sum ⊕ sumGiven (g .amount)) ≤ most
       → balanced (g .code) (r .writer .account ⊞ ofGiven g) (r .writer .group ⊞ ofGiven g) (r .writer .file ⊞ ofGiven g) (l .fields 3) ≡ fine tt
       → Taken (r .writer) (lineAt g ∷ []) (g .code) (l .fields 3) (l .wanted)
   unfolding bodyOf walkLines
@@ -202,17 +203,17 @@ module _ (r : Run) (ready : Ready r) (g : Given) (vs : List Value) (left : List 
   unfolding lineOf fileRecords recordsOf
   records-new h = rw (lines-more (r .bytes) (bodyOf g) (ready .cut) (body-clear g l)) (records-append (linesOf (r .bytes)) (lineAt g ∷ []) (rw h tt))
 
-  new-state : limitBehind (g .code) longestLine (l .fields 3) ≡ longestLine → after (g .code) ≡ expectedIn (phaseAfter (g .code))
-      → stateBehind (stateOf (r .writer)) (lineAt g ∷ []) (reading (g .code) (l .fields 3)) ≡ stateOf (entryOf (r .writer) g left .next)
-  unfolding stateBehind entryOf
+  new-state : limitAfter (g .code) longestLine (l .fields 3) ≡ longestLine → mayFollow (g .code) ≡ expectedIn (phaseAfter (g .code))
+      → stateAfter (stateOf (r .writer)) (lineAt g ∷ []) (reading (g .code) (l .fields 3)) ≡ stateOf (entryOf (r .writer) g left .next)
+  unfolding stateAfter entryOf
   new-state limit phase = rw (this-line, limit, phase)
 
   pub new-record : among (g .code) (expectedIn (r .writer .phase)) ≡ true → g .kinds ++ textKinds (g .text) ≡ fieldsOf (g .code)
-      → limitBehind (g .code) longestLine (l .fields 3) ≡ longestLine → magnitudes (r .writer .file .sum ⊕ sumGiven (g .amount)) ≤ most
+      → limitAfter (g .code) longestLine (l .fields 3) ≡ longestLine → magnitudes (r .writer .file .sum ⊕ sumGiven (g .amount)) ≤ most
       → balanced (g .code) (r .writer .account ⊞ ofGiven g) (r .writer .group ⊞ ofGiven g) (r .writer .file ⊞ ofGiven g) (l .fields 3) ≡ fine tt
-      → begins continuation (lineAt g) ≡ false → after (g .code) ≡ expectedIn (phaseAfter (g .code))
+      → begins continuation (lineAt g) ≡ false → mayFollow (g .code) ≡ expectedIn (phaseAfter (g .code))
       → (holdsItems (g .code) ≡ true → g .code ≡ accountHeader) → gathered (g .code) (r .told) vs ≡ r .told ++ (vs ∷ [])
-      → Behind (extended r g left vs)
+      → After (extended r g left vs)
   unfolding entryOf lineOf fileSaid
   new-record turn kinds limit bound balances begin phase item told =
       record {

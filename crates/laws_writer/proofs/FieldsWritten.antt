@@ -11,37 +11,39 @@ use Rattle.rules.specs.Bytes.{Bytes, all, between, isEmpty, plus, minus, clean,
 use Rattle.rules.specs.Numbers.{digits, number, withoutSign}
 use Rattle.rules.specs.Dates.{isDate, isTime}
 use Rattle.rules.specs.Outcome.{Outcome, fine, _>>=_, check}
-use Rattle.rules.specs.Grammar.{Kind, name, reference, ultimateReceiver, date, time, timeOrNone, fileNumber, physicalLength, blockSize, version, groupStatus, currency, modifier, firstType, furtherType, statusAmount, amount, itemCount, funds, detailType, text, furtherText, splitAmount, pairCount, days, dayAmount, total, count, records, nothing, kindNumber, Judged, bad, good, fits, isCurrency, isSigned, isUnsigned, isLength, judged, isText, andThen, takeNext}
-use Rattle.rules.specs.Writer.{orTwenty, behindFields}
+use Rattle.rules.specs.Grammar.{Kind, name, reference, ultimateReceiver, date, time, timeOrNone, fileNumber, physicalLength, blockSize, version, groupStatus, currency, modifier, firstType}
+use Rattle.rules.specs.Grammar.{furtherType, statusAmount, amount, itemCount, funds, detailType, text, furtherText, splitAmount, pairCount, days, dayAmount, total, count, records, nothing}
+use Rattle.rules.specs.Grammar.{kindNumber, Judged, bad, good, fits, isCurrency, isSigned, isUnsigned, isLength, judged, isText, andThen, takeNext}
+use Rattle.rules.specs.Writer.{orTwenty, kindsAfter}
 use Rattle.rules.proofs.Binds.{refused-fine}
-use Rattle.base_digits.proofs.Tests.{and-left, and-right, at-most}
-use Rattle.base_digits.proofs.Reading.{digits-at-most}
+use Rattle.base_digits.proofs.DigitTests.{and-left, and-right, at-most}
+use Rattle.base_digits.proofs.ReadingLaws.{digits-at-most}
 
 -- ---- what acceptance says of the first field
 
 pub bad-good : {P : Type 0} (n : ℕ) (new : List Kind) → bad n ≡ good new → P
 bad-good n new h = let z : _≡_ {A = ℕ} 0 1 = cc in absurd (omega arith)
 
-next-kinds : {P : Type 0} (j : Judged) (ks : List Kind) (fs : List Bytes) (left : List Kind) → (orTwenty (andThen j ks) >>= λ next. behindFields next fs) ≡ fine left
-    → ((new : List Kind) → j ≡ good new → behindFields (new ++ ks) fs ≡ fine left → P) → P
+next-kinds : {P : Type 0} (j : Judged) (ks : List Kind) (fs : List Bytes) (left : List Kind) → (orTwenty (andThen j ks) >>= λ next. kindsAfter next fs) ≡ fine left
+    → ((new : List Kind) → j ≡ good new → kindsAfter (new ++ ks) fs ≡ fine left → P) → P
 unfolding andThen
-next-kinds (bad n) ks fs left h go = absurd (refused-fine 20 0 left h)
+next-kinds (bad n) ks fs left h go = absurd (refused-fine _ left h)
 next-kinds (good new) ks fs left h go = go new refl h
 
 clean-first : {P : Type 0} (t : Bool) (o : Outcome (List Kind)) (left : List Kind) → (check t 20 0 >>= λ _. o) ≡ fine left → (t ≡ true → o ≡ fine left → P) → P
 clean-first true o left h go = go refl h
-clean-first false o left h go = absurd (refused-fine 20 0 left h)
+clean-first false o left h go = absurd (refused-fine _ left h)
 
--- it is clean and good, and the rest is accepted behind it
-pub from-field : {P : Type 0} (k : Kind) (f : Bytes) (ks : List Kind) (fs : List Bytes) (left : List Kind) → behindFields (k ∷ ks) (f ∷ fs) ≡ fine left
-    → ((new : List Kind) → clean f ≡ true → judged k f ≡ good new → behindFields (new ++ ks) fs ≡ fine left → P) → P
-unfolding behindFields takeNext
+-- it is clean and good, and the rest is accepted after it
+pub from-field : {P : Type 0} (k : Kind) (f : Bytes) (ks : List Kind) (fs : List Bytes) (left : List Kind) → kindsAfter (k ∷ ks) (f ∷ fs) ≡ fine left
+    → ((new : List Kind) → clean f ≡ true → judged k f ≡ good new → kindsAfter (new ++ ks) fs ≡ fine left → P) → P
+unfolding kindsAfter takeNext
 from-field k f ks fs left h go =
     clean-first (clean f) _ left h (λ c rest.
     next-kinds (judged k f) ks fs left rest (λ new j q. go new c j q))
 
-pub none-left : (ks left : List Kind) → behindFields ks [] ≡ fine left → ks ≡ left
-unfolding behindFields
+pub none-left : (ks left : List Kind) → kindsAfter ks [] ≡ fine left → ks ≡ left
+unfolding kindsAfter
 none-left ks left h = cc
 
 -- ---- how long a good field is
@@ -165,7 +167,7 @@ plain-field dayAmount f new e h = absurd (false≢true e)
 
 -- ---- fields taken one after the other
 
--- as these kinds, where these were wanted and these are wanted behind them
+-- as these kinds, where these were wanted and these are wanted after them
 pub data Takes : List Kind → List Bytes → List Kind → List Kind → Type 0 where
   done : {ks : List Kind} → Takes ks [] [] ks
   one :
@@ -174,7 +176,7 @@ pub data Takes : List Kind → List Bytes → List Kind → List Kind → Type 0
       → Takes (k ∷ ks) (f ∷ fs) (k ∷ used) left
 
 -- no field is left
-pub all-taken : (ks left : List Kind) → behindFields ks [] ≡ fine left → Takes ks [] [] left
+pub all-taken : (ks left : List Kind) → kindsAfter ks [] ≡ fine left → Takes ks [] [] left
 all-taken ks left h = rw (none-left ks left h) done
 
 abbrev pub simples : List Kind → Bool
@@ -182,22 +184,22 @@ simples [] = true
 simples (k ∷ ks) = simple k && simples ks
 
 -- fields of simple kinds in front of others
-pub in-front : (ks tail : List Kind) (gs rest : List Bytes) (left : List Kind) → simples ks ≡ true → length ks ≡ length gs → behindFields (ks ++ tail) (gs ++ rest) ≡ fine left
-    → (behindFields tail rest ≡ fine left) × ((used : List Kind) → Takes tail rest used left → Takes (ks ++ tail) (gs ++ rest) (ks ++ used) left)
+pub in-front : (ks tail : List Kind) (gs rest : List Bytes) (left : List Kind) → simples ks ≡ true → length ks ≡ length gs → kindsAfter (ks ++ tail) (gs ++ rest) ≡ fine left
+    → (kindsAfter tail rest ≡ fine left) × ((used : List Kind) → Takes tail rest used left → Takes (ks ++ tail) (gs ++ rest) (ks ++ used) left)
 in-front [] tail [] rest left s n h = (h, λ used t. t)
 in-front [] tail (g ∷ gs) rest left s n h = absurd (omega arith)
 in-front (k ∷ ks) tail [] rest left s n h = absurd (omega arith)
 in-front (k ∷ ks) tail (f ∷ gs) rest left s n h =
     from-field k f (ks ++ tail) (gs ++ rest) left h (λ new c j q.
     let g = plain-field k f new (and-left (simple k) (simples ks) s) j in
-    let m : behindFields (ks ++ tail) (gs ++ rest) ≡ fine left = rw (← g .adds) at q in
+    let m : kindsAfter (ks ++ tail) (gs ++ rest) ≡ fine left = rw (← g .adds) at q in
     let t = in-front ks tail gs rest left (and-right (simple k) (simples ks) s) (omega arith) m in
     (t .0, λ used u. one c (g .short) (g .no-text) j (rw (← g .adds)) (t .1 used u)))
 
 -- all fields of simple kinds
-pub takes-all : (ks : List Kind) (fs : List Bytes) (left : List Kind) → simples ks ≡ true → length ks ≡ length fs → behindFields ks fs ≡ fine left → ([] ≡ left) × Takes ks fs ks []
+pub takes-all : (ks : List Kind) (fs : List Bytes) (left : List Kind) → simples ks ≡ true → length ks ≡ length fs → kindsAfter ks fs ≡ fine left → ([] ≡ left) × Takes ks fs ks []
 takes-all ks fs left s n h =
-    let k : behindFields (ks ++ []) (fs ++ []) ≡ fine left = rw (append-nil ks, append-nil fs) h in
+    let k : kindsAfter (ks ++ []) (fs ++ []) ≡ fine left = rw (append-nil ks, append-nil fs) h in
     let t = in-front ks [] fs [] left s n k in
     let e = none-left [] left (t .0) in
     (e, rw (append-nil ks, append-nil fs, ← e) at (t .1 [] (all-taken [] left (t .0))))

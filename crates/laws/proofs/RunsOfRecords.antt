@@ -6,19 +6,20 @@ use native.Mathlib.Omega.{arith}
 use lib.Dec.{T}
 use Rattle.rules.specs.Outcome.{fine, moved}
 use Rattle.rules.specs.Lines.{Code, fileHeader, groupHeader, Record, recordSize}
-use Rattle.rules.specs.Numbers.{magnitudes, most}
+use Rattle.rules.specs.Numbers.{magnitudes}
+use Rattle.rules.specs.Limits.{most}
 use Rattle.rules.specs.Totals.{Summary, _⊞_, adding, ofRecord}
 use Rattle.rules.specs.Verdict.{State, step, run}
 use Rattle.rules.specs.Parts.{fieldsIn, sizeOfAll}
-use Rattle.rules.specs.Combine.{summaryOf, summaryOfAll, linesWithin, joined}
+use Rattle.rules.specs.Combine.{summaryOf, summaryOfAll, linesWithin, concat}
 use Rattle.rules.proofs.Binds.{from-bind, moved-fine, fine-same}
 use Rattle.rules.proofs.RunLaws.{run-append, run-anywhere}
-use Rattle.laws.specs.Words.{All, Enclosed, IsGroup, between, RunsAnywhere}
-use Rattle.laws.proofs.Codes.{of-each, Of}
-use Rattle.laws.proofs.Pieces.{groupCodes}
+use Rattle.laws.specs.LawWords.{All, Enclosed, IsGroup, between, RunsAnywhere, Of}
+use Rattle.laws.proofs.Codes.{of-each}
+use Rattle.laws.proofs.PartCuts.{groupCodes}
 use Rattle.laws.proofs.Envelopes.{group-codes}
-use Rattle.laws.proofs.Summaries.{add-none, add-regroup, summary-as, within-left, within-right, within-both}
-use Rattle.laws.proofs.Steps.{stateAfter, Taken, taken, good-within, bounded-within, keeps-limit, elsewhere, step-elsewhere}
+use Rattle.laws.proofs.SummarySums.{add-none, add-regroup, summary-as, within-left, within-right, within-both}
+use Rattle.laws.proofs.RecordsTaken.{stateWith, Taken, taken, good-within, bounded-within, keeps-limit, elsewhere, step-elsewhere}
 
 -- ---- cut in two
 
@@ -40,20 +41,20 @@ pub run-one : (p : ℕ) (s t : State) (r : Record) → step s r ≡ fine t → r
 unfolding run moved
 run-one p s t r h = rw h
 
--- an envelope: the state behind its first record, and the state before its last
+-- an envelope: the state after its first record, and the state before its last
 pub record Through {c d : Code} {ps : List (List Record)} {rs : List Record} (e : Enclosed c d ps rs) (s u : State) : Type 0 where
   pub opened : State
   pub last : State
   pub begins : step s (e .header) ≡ fine opened
   pub opens : Taken c s (e .header) opened
-  pub inner : run 0 opened (joined ps) ≡ fine last
-  pub before : run 0 s (e .header ∷ joined ps) ≡ fine last
+  pub inner : run 0 opened (concat ps) ≡ fine last
+  pub before : run 0 s (e .header ∷ concat ps) ≡ fine last
   pub closes : Taken d last (e .trailer) u
 
 pub through : {c d : Code} {ps : List (List Record)} {rs : List Record} (e : Enclosed c d ps rs) (s u : State) → run 0 s rs ≡ fine u → Through e s u
 through {c} {d} {ps} e s u h =
-    let (last, before, end) = run-two 0 s u (e .header ∷ joined ps) (e .trailer ∷ []) (subst (λ (rs : List Record). run 0 s rs ≡ fine u) (e .whole) h) in
-    let (opened, first, inner) = run-cons 0 s last (e .header) (joined ps) before in
+    let (last, before, end) = run-two 0 s u (e .header ∷ concat ps) (e .trailer ∷ []) (subst (λ (rs : List Record). run 0 s rs ≡ fine u) (e .whole) h) in
+    let (opened, first, inner) = run-cons 0 s last (e .header) (concat ps) before in
     let (v, closes, over) = run-cons 0 last u (e .trailer) [] end in
     record {
       opened = opened;
@@ -68,10 +69,10 @@ through {c} {d} {ps} e s u h =
 -- ---- what a run adds up to
 
 -- a summary in states that each record of one of these codes adds to
-module _ (get : State → Summary) (codes : List Code) (law : (s : State) (r : Record) → All (λ c. get (stateAfter c s r) ≡ get s ⊞ summaryOf r) codes) where
+module _ (get : State → Summary) (codes : List Code) (law : (s : State) (r : Record) → All (λ c. get (stateWith c s r) ≡ get s ⊞ summaryOf r) codes) where
   step-sum : (s t : State) (r : Record) → Of codes r → step s r ≡ fine t → get t ≡ get s ⊞ summaryOf r
   step-sum s t r o h =
-      ap get (taken (o .code) s r t (o .is-code) h .next) ∙ of-each (λ c. get (stateAfter c s r) ≡ get s ⊞ summaryOf r) codes (law s r) (o .code) (o .is-among)
+      ap get (taken (o .code) s r t (o .is-code) h .next) ∙ of-each (λ c. get (stateWith c s r) ≡ get s ⊞ summaryOf r) codes (law s r) (o .code) (o .is-among)
 
   pub run-sum : (rs : List Record) (s t : State) → All (Of codes) rs → run 0 s rs ≡ fine t → get t ≡ get s ⊞ summaryOfAll rs
   unfolding summaryOfAll
@@ -110,13 +111,13 @@ pub run-limit : (rs : List Record) (s t : State) → All (Of (groupHeader ∷ gr
 run-limit [] s t a h = ap (λ (y : State). y .limit) (sym (run-none 0 s t h))
 run-limit (r ∷ rs) s t a h = let (u, first, rest) = run-cons 0 s t r rs h in run-limit rs u t (a .1) rest ∙ step-limit s u r (a .0) first
 
-pub run-within : (rs : List Record) (s t : State) → All (Of (groupHeader ∷ groupCodes)) rs → run 0 s rs ≡ fine t → T (linesWithin (s .limit) (joined rs))
-unfolding joined linesWithin
+pub run-within : (rs : List Record) (s t : State) → All (Of (groupHeader ∷ groupCodes)) rs → run 0 s rs ≡ fine t → T (linesWithin (s .limit) (concat rs))
+unfolding concat linesWithin
 run-within [] s t a h = tt
 run-within (r ∷ rs) s t a h =
     let (u, first, rest) = run-cons 0 s t r rs h in
-    within-both (s .limit) r (joined rs) (good-within 0 (s .limit) r (taken (a .0 .code) s r u (a .0 .is-code) first .good-lines))
-    (subst (λ (l : ℕ). T (linesWithin l (joined rs))) (step-limit s u r (a .0) first) (run-within rs u t (a .1) rest))
+    within-both (s .limit) r (concat rs) (good-within 0 (s .limit) r (taken (a .0 .code) s r u (a .0 .is-code) first .good-lines))
+    (subst (λ (l : ℕ). T (linesWithin l (concat rs))) (step-limit s u r (a .0) first) (run-within rs u t (a .1) rest))
 
 -- ---- a group's run elsewhere
 
@@ -126,23 +127,23 @@ unfolding _⊞_
 two-rooms file a b h = (omega arith, omega arith)
 
 run-elsewhere : (rs : List Record) (s t : State) → All (Of (groupHeader ∷ groupCodes)) rs → run 0 s rs ≡ fine t → (p limit : ℕ) (file : Summary)
-    → T (linesWithin limit (joined rs)) → magnitudes (file .sum) + magnitudes (summaryOfAll rs .sum) ≤ most
+    → T (linesWithin limit (concat rs)) → magnitudes (file .sum) + magnitudes (summaryOfAll rs .sum) ≤ most
     → run p (elsewhere limit file s) rs ≡ fine (elsewhere limit (file ⊞ summaryOfAll rs) t)
-unfolding run moved joined summaryOfAll
+unfolding run moved concat summaryOfAll
 run-elsewhere [] s t a h p limit file w room = rw (add-none file) (ap (λ (y : State). fine (elsewhere limit file y)) (run-none 0 s t h))
 run-elsewhere (r ∷ rs) s t a h p limit file w room =
     let (u, first, rest) = run-cons 0 s t r rs h in
-    let (here, behind) = two-rooms file (summaryOf r) (summaryOfAll rs) room in
-    rw (step-elsewhere s u r first (a .0) limit file (within-left limit r (joined rs) w) here)
-    (run-elsewhere rs u t (a .1) rest (p + recordSize r) limit (file ⊞ summaryOf r) (within-right limit r (joined rs) w) behind
+    let (here, after) = two-rooms file (summaryOf r) (summaryOfAll rs) room in
+    rw (step-elsewhere s u r first (a .0) limit file (within-left limit r (concat rs) w) here)
+    (run-elsewhere rs u t (a .1) rest (p + recordSize r) limit (file ⊞ summaryOf r) (within-right limit r (concat rs) w) after
     ∙ ap (λ (f : Summary). fine (elsewhere limit f t)) (add-regroup file (summaryOf r) (summaryOfAll rs)))
 
 -- between groups, whatever the limit and the file so far
 abbrev pub Outside : State → Type 0
 Outside s = (limit : ℕ) (file : Summary) → elsewhere limit file s ≡ between limit file
 
-pub behind-header : (s t : State) (r : Record) → Taken fileHeader s r t → Outside t
-behind-header s t r x limit file = ap (elsewhere limit file) (x .next)
+pub after-header : (s t : State) (r : Record) → Taken fileHeader s r t → Outside t
+after-header s t r x limit file = ap (elsewhere limit file) (x .next)
 
 -- a group runs from between groups to between groups, anywhere
 group-outside : (g : List Record) (s t : State) → IsGroup g → run 0 s g ≡ fine t → Outside t
@@ -154,9 +155,9 @@ group-anywhere g s t i o h p limit file w room =
     ∙ run-elsewhere g s t (group-codes g i) h p limit file w room
     ∙ ap (λ (y : State). fine y) (group-outside g s t i h limit (file ⊞ summaryOfAll g))
 
-pub groups-anywhere : (gs : List (List Record)) (s t : State) → All IsGroup gs → Outside s → run 0 s (joined gs) ≡ fine t → All RunsAnywhere gs
-unfolding joined
+pub groups-anywhere : (gs : List (List Record)) (s t : State) → All IsGroup gs → Outside s → run 0 s (concat gs) ≡ fine t → All RunsAnywhere gs
+unfolding concat
 groups-anywhere [] s t a o h = tt
 groups-anywhere (g ∷ gs) s t a o h =
-    let (u, first, rest) = run-two 0 s t g (joined gs) h in
+    let (u, first, rest) = run-two 0 s t g (concat gs) h in
     (group-anywhere g s u (a .0) o first, groups-anywhere gs u t (a .1) (group-outside g s u (a .0) first) rest)

@@ -14,11 +14,11 @@ use Rattle.rules.specs.Numbers.{Signed, Sum, asSum, signed, asInteger, numberFr
 use Rattle.rules.specs.Grammar.{Kind, sameKind, amount, statusAmount, total, itemCount, count, records}
 use Rattle.rules.specs.Writer.{amountBytes, countBytes, sumGiven}
 use Rattle.rules.proofs.Tests.{Known, holds, fails, known}
-use Rattle.base_digits.proofs.Tests.{below-or-from}
+use Rattle.base_digits.proofs.DigitTests.{below-or-from}
 use Rattle.base_digits.proofs.DigitStrings.{decimal-some, number-decimal}
-use Rattle.base_digits.proofs.Totals.{asRead, total-below-zero, total-from-zero, total-read}
-use Rattle.laws_writer.specs.Words.{units, number, filled, said, amountGiven, countGiven}
-use Rattle.laws_writer.specs.Words as words
+use Rattle.base_digits.proofs.TotalStrings.{asRead, total-below-zero, total-from-zero, total-read}
+use Rattle.laws_writer.specs.SessionWords.{units, number, filled, said, amountGiven, countGiven}
+use Rattle.laws_writer.specs.SessionWords as words
 
 -- ---- a written number is never empty
 

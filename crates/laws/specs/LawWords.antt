@@ -3,36 +3,22 @@ use Prim.Native.Nat.{ℕ, _+_, _≤_}
 use mathlib.Core.Path.{_≡_}
 use mathlib.Core.List.{List, [], _∷_, _++_}
 use mathlib.Core.Option.{Option, none, some}
-use lib.Dec.{T}
+use mathlib.Core.Bool.{Bool, true, false, not}
+use lib.Dec.{T, eqb}
 use lib.ListN.{length, take}
-use Rattle.rules.specs.Bytes.{Bytes}
+use Rattle.rules.specs.Bytes.{Bytes, LF}
 use Rattle.rules.specs.Outcome.{fine}
-use Rattle.rules.specs.Lines.{Code, fileHeader, groupHeader, accountHeader, detail, accountTrailer, groupTrailer, fileTrailer, Record, linesOf, lineBytes, recordBytes, fileRecords}
-use Rattle.rules.specs.Numbers.{Sum, zeroSum, _⊕_, asSum, signed, number, equals, magnitudes, most}
+use Rattle.rules.specs.Lines.{Code, fileHeader, groupHeader, accountHeader, detail, accountTrailer, groupTrailer, fileTrailer, continuation, LineEnd, lacking, lf, crlf, Line, wholeLine, begins, Record, linesOf, lineBytes, recordBytes, fileRecords}
+use Rattle.rules.specs.Numbers.{Sum, zeroSum, _⊕_, asSum, signed, number, equals, magnitudes}
+use Rattle.rules.specs.Limits.{most}
 use Rattle.rules.specs.Grammar.{total, count, records}
 use Rattle.rules.specs.Records.{Field, the, walkRecord}
 use Rattle.rules.specs.Totals.{Summary, noSummary, _⊞_}
-use Rattle.rules.specs.Order.{after}
+use Rattle.rules.specs.Order.{mayFollow, among}
 use Rattle.rules.specs.Verdict.{State, run, judge}
-use Rattle.rules.specs.Parts.{heads, headerIn, groupsIn, accountPieces, detailPieces, receiverOf}
-use Rattle.rules.specs.Combine.{summaryOfAll, freshTrailer, linesWithin, joined, Answer}
+use Rattle.rules.specs.Parts.{heads, headerIn, groupsIn, inAccounts, inDetails, receiverOf}
+use Rattle.rules.specs.Combine.{summaryOfAll, freshTrailer, linesWithin, concat, Answer}
 use Rattle.rules.specs.Split.{groupsFor}
-use Rattle.rules.proofs.LineLaws.{endsInLF, freshStart}
-
--- ---- calls
-
--- the call was not refused: its number is 0
-abbrev pub NotRefused : Answer → Type 0
-NotRefused x = x .number ≡ 0
-
--- what a call wrote: the first bytes of its output slice
-abbrev pub written : Answer → Bytes
-written x = take (x .len) (x .output)
-
--- what a call leaves: its answer, and its output slice
-pub record Left (A : Type 0) : Type 0 where
-  pub answer : A
-  pub slice : Bytes
 
 -- ---- lists
 
@@ -50,6 +36,66 @@ addUp f (x ∷ xs) = f x + addUp f xs
 unfoldable pub sumUp : {A : Type 0} → (A → Sum) → List A → Sum
 sumUp f [] = zeroSum
 sumUp f (x ∷ xs) = f x ⊕ sumUp f xs
+
+-- ---- bytes
+
+-- the bytes end in LF
+abbrev pub endsInLF : Bytes → Bool
+endsInLF [] = false
+endsInLF (b ∷ []) = eqb b LF
+endsInLF (b ∷ c ∷ bs) = endsInLF (c ∷ bs)
+
+-- ---- lines and records that stay themselves
+
+-- the line has its line end
+abbrev pub endsLine : LineEnd → Bool
+endsLine lacking = false
+endsLine lf = true
+endsLine crlf = true
+
+-- a line that has its end: its bytes before others are read as this line, then the lines of the others
+pub record Whole (l : Line) : Type 0 where
+  pub ended : T (endsLine (l .lineEnd))
+  pub stays : (bs : Bytes) → linesOf (wholeLine l ++ bs) ≡ l ∷ linesOf bs
+
+-- a record is a line that doesn't begin "88," with all "88," lines after it
+abbrev pub Continues : Line → Type 0
+Continues l = T (begins continuation l)
+
+abbrev pub IsRecord : List Line → Type 0
+IsRecord [] = ⊥
+IsRecord (l ∷ ls) = T (not (begins continuation l)) × All Continues ls
+
+-- records that stay themselves wherever their bytes stand before a line that isn't an 88
+pub record Kept (rs : List Record) : Type 0 where
+  pub wholes : All Whole (concat rs)
+  pub are-records : All IsRecord rs
+
+-- the record has one of these codes
+pub record Of (cs : List Code) (r : Record) : Type 0 where
+  pub code : Code
+  pub is-code : T (heads code r)
+  pub is-among : T (among code cs)
+
+-- records of which the first has code c, the others one of cs
+abbrev pub Begins : Code → List Code → List Record → Type 0
+Begins c cs [] = ⊥
+Begins c cs (r ∷ rs) = T (heads c r) × All (Of cs) rs
+
+-- ---- calls
+
+-- the call was not refused: its number is 0
+abbrev pub NotRefused : Answer → Type 0
+NotRefused x = x .refusal .number ≡ 0
+
+-- what a call wrote: the first bytes of its output slice
+abbrev pub written : Answer → Bytes
+written x = take (x .len) (x .output)
+
+-- what a call leaves: its answer, and its output slice
+pub record Left (A : Type 0) : Type 0 where
+  pub answer : A
+  pub slice : Bytes
 
 -- ---- the parts of a file, in bytes
 
@@ -72,10 +118,10 @@ groupPartsFor name file = partsOf (groupsFor name (groupsIn file))
 
 -- the accounts of a group, and the details of an account
 unfoldable pub accountsIn : List Record → List (List Record)
-accountsIn g = accountPieces g .cut
+accountsIn g = inAccounts g .parts
 
 unfoldable pub detailsIn : List Record → List (List Record)
-detailsIn a = detailPieces a .cut
+detailsIn a = inDetails a .parts
 
 -- an envelope: one record of code c, the parts, one record of code d
 pub record Enclosed (c d : Code) (parts : List (List Record)) (rs : List Record) : Type 0 where
@@ -83,7 +129,7 @@ pub record Enclosed (c d : Code) (parts : List (List Record)) (rs : List Record)
   pub trailer : Record
   pub is-header : T (heads c header)
   pub is-trailer : T (heads d trailer)
-  pub whole : rs ≡ header ∷ (joined parts ++ (trailer ∷ []))
+  pub whole : rs ≡ header ∷ (concat parts ++ (trailer ∷ []))
 
 -- a detail is one record, a 16
 abbrev pub IsDetail : List Record → Type 0
@@ -114,8 +160,8 @@ pub record FileParts (file : Bytes) : Type 0 where
   pub one-header : headerIn file ≡ header ∷ []
   pub is-header : T (heads fileHeader header)
   pub is-trailer : T (heads fileTrailer trailer)
-  pub records : fileRecords file ≡ headerIn file ++ (joined (groupsIn file) ++ (trailer ∷ []))
-  pub bytes : file ≡ headerLines file ++ (joined (groupParts file) ++ lineBytes trailer)
+  pub records : fileRecords file ≡ headerIn file ++ (concat (groupsIn file) ++ (trailer ∷ []))
+  pub bytes : file ≡ headerLines file ++ (concat (groupParts file) ++ lineBytes trailer)
   pub header-ends : T (endsInLF (headerLines file))
   pub groups-end : All (λ bs. T (endsInLF bs)) (groupParts file)
 
@@ -141,7 +187,7 @@ pub record Controlled (d : Code) (parts : Option ℕ) (rs : List Record) : Type 
   pub walked : walkRecord d trailer ≡ fine fields
   pub states-total : T (equals (totalOf rs) (asSum (signed (the total fields .bytes))))
   pub states-parts : States parts fields
-  pub states-lines : number (the records fields .bytes) ≡ length (joined rs)
+  pub states-lines : number (the records fields .bytes) ≡ length (concat rs)
 
 -- a group's 98 and its accounts' 49s
 pub record GroupControlled (g : List Record) : Type 0 where
@@ -157,28 +203,28 @@ pub record FileControlled (file : Bytes) : Type 0 where
 pub record TotalsNest (file : Bytes) : Type 0 where
   pub of-file : totalOf (fileRecords file) ≡ sumUp totalOf (groupsIn file)
   pub of-groups : All (λ g. totalOf g ≡ sumUp totalOf (accountsIn g)) (groupsIn file)
-  pub of-accounts : All (λ g. All (λ a. totalOf a ≡ totalOf (detailPieces a .waiting) ⊕ sumUp totalOf (detailsIn a)) (accountsIn g)) (groupsIn file)
+  pub of-accounts : All (λ g. All (λ a. totalOf a ≡ totalOf (inDetails a .waiting) ⊕ sumUp totalOf (detailsIn a)) (accountsIn g)) (groupsIn file)
 
 -- ---- groups anywhere
 
--- the state between groups: behind the 01 or a 98, under a limit, with the summary of the file so far
+-- the state between groups: after the 01 or a 98, under a limit, with the summary of the file so far
 abbrev pub between : ℕ → Summary → State
-between limit file = record { expected = after groupTrailer; limit = limit; file = file; group = noSummary; account = noSummary }
+between limit file = record { expected = mayFollow groupTrailer; limit = limit; file = file; group = noSummary; account = noSummary }
 
 -- records are read as themselves wherever their bytes stand before a line that isn't an 88
 abbrev pub ReadAnywhere : List Record → Type 0
-ReadAnywhere rs = (bs : Bytes) → T (freshStart (linesOf bs)) → fileRecords (recordBytes rs ++ bs) ≡ rs ++ fileRecords bs
+ReadAnywhere rs = (bs : Bytes) → T (not (heads continuation (linesOf bs))) → fileRecords (recordBytes rs ++ bs) ≡ rs ++ fileRecords bs
 
--- a group is good anywhere: it runs from between groups to between groups, at any place p, under any limit that its lines respect, behind
+-- a group is good anywhere: it runs from between groups to between groups, at any place p, under any limit that its lines respect, after
 -- any file whose magnitudes leave room, and adds its own numbers
 abbrev pub RunsAnywhere : List Record → Type 0
 RunsAnywhere g =
-    (p limit : ℕ) (file : Summary) → T (linesWithin limit (joined g)) → magnitudes (file .sum) + magnitudes (summaryOfAll g .sum) ≤ most
+    (p limit : ℕ) (file : Summary) → T (linesWithin limit (concat g)) → magnitudes (file .sum) + magnitudes (summaryOfAll g .sum) ≤ most
     → run p (between limit file) g ≡ fine (between limit (file ⊞ summaryOfAll g))
 
 -- so many records, and nothing else: what a 01 or a 99 adds
 abbrev pub onlyLines : ℕ → Summary
-onlyLines n = record { sum = zeroSum; groups = 0; accounts = 0; details = 0; lines = n }
+onlyLines n = record { sum = zeroSum; groups = 0; accounts = 0; details = 0; records = n }
 
 -- ---- files put together
 
@@ -187,8 +233,8 @@ onlyLines n = record { sum = zeroSum; groups = 0; accounts = 0; details = 0; lin
 pub record Assembled (file : Bytes) (gs : List (List Record)) (out : Bytes) : Type 0 where
   pub header : headerIn out ≡ headerIn file
   pub groups : groupsIn out ≡ gs
-  pub bytes : out ≡ headerLines file ++ (joined (partsOf gs) ++ freshTrailer (summaryOfAll (headerIn file ++ joined gs)))
-  pub accepted : judge out ≡ fine (summaryOfAll (headerIn file ++ joined gs) ⊞ onlyLines 1)
+  pub bytes : out ≡ headerLines file ++ (concat (partsOf gs) ++ freshTrailer (summaryOfAll (headerIn file ++ concat gs)))
+  pub accepted : judge out ≡ fine (summaryOfAll (headerIn file ++ concat gs) ⊞ onlyLines 1)
 
 -- ---- combine
 
@@ -197,7 +243,7 @@ pub record CombinedParts (a b out : Bytes) : Type 0 where
   pub header : headerLines out ≡ headerLines a
   pub groups : groupParts out ≡ groupParts a ++ groupParts b
   pub exactly-those : groupsIn out ≡ groupsIn a ++ groupsIn b
-  pub bytes : out ≡ headerLines a ++ (joined (groupParts a ++ groupParts b) ++ freshTrailer (summaryOfAll (headerIn a ++ joined (groupsIn a ++ groupsIn b))))
+  pub bytes : out ≡ headerLines a ++ (concat (groupParts a ++ groupParts b) ++ freshTrailer (summaryOfAll (headerIn a ++ concat (groupsIn a ++ groupsIn b))))
 
 -- its summary u, from those of the two files, s and t: total and counts add up; its records are those of the first header, of both files'
 -- groups, and one 99
@@ -206,7 +252,7 @@ pub record CombinedSummary (a b : Bytes) (s t u : Summary) : Type 0 where
   pub groups : u .groups ≡ s .groups + t .groups
   pub accounts : u .accounts ≡ s .accounts + t .accounts
   pub details : u .details ≡ s .details + t .details
-  pub lines : u .lines ≡ summaryOfAll (headerIn a) .lines + summaryOfAll (joined (groupsIn a)) .lines + summaryOfAll (joined (groupsIn b)) .lines + 1
+  pub records : u .records ≡ summaryOfAll (headerIn a) .records + summaryOfAll (concat (groupsIn a)) .records + summaryOfAll (concat (groupsIn b)) .records + 1
 
 -- ---- split
 
@@ -221,4 +267,4 @@ pub record SplitParts (name file out : Bytes) : Type 0 where
   pub header : headerLines out ≡ headerLines file
   pub groups : groupParts out ≡ groupPartsFor name file
   pub exactly-those : Exactly name (groupsIn file) (groupsIn out)
-  pub bytes : out ≡ headerLines file ++ (joined (groupPartsFor name file) ++ freshTrailer (summaryOfAll (headerIn file ++ joined (groupsFor name (groupsIn file)))))
+  pub bytes : out ≡ headerLines file ++ (concat (groupPartsFor name file) ++ freshTrailer (summaryOfAll (headerIn file ++ concat (groupsFor name (groupsIn file)))))

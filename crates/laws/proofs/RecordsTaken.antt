@@ -1,4 +1,4 @@
--- An accepted record of a known code; a group's record is accepted elsewhere too, under another limit and behind another file. Assumes nothing.
+-- An accepted record of a known code; a group's record is accepted elsewhere too, under another limit and after another file. Assumes nothing.
 use Prim.Native.Nat.{ℕ, _+_, _≤_}
 use mathlib.Core.Path.{_≡_, refl, ap, subst, _∙_}
 use mathlib.Core.List.{List, [], _∷_}
@@ -8,31 +8,33 @@ use lib.ListN.{length}
 use Rattle.rules.specs.Bytes.{sameBytes}
 use Rattle.rules.specs.Outcome.{fine, _>>_, check}
 use Rattle.rules.specs.Lines.{sizeOf, Code, groupHeader, Record}
-use Rattle.rules.specs.Numbers.{magnitudes, most}
+use Rattle.rules.specs.Numbers.{magnitudes}
+use Rattle.rules.specs.Limits.{most}
 use Rattle.rules.specs.Records.{Field, walkRecord}
 use Rattle.rules.specs.Totals.{Summary, _⊞_, amountOf, sumOf, adding, ofRecord, boundedFrom, balanced}
-use Rattle.rules.specs.Order.{after, among, groupBehind, accountBehind}
-use Rattle.rules.specs.Verdict.{State, notLonger, allAllowed, coded, goodLine, goodLines, limitBehind, ownLines, stateBehind, step}
+use Rattle.rules.specs.Order.{mayFollow, among, groupAfter, accountAfter}
+use Rattle.rules.specs.Verdict.{State, notLonger, allAllowed, coded, goodLine, goodLines, limitAfter, ownLines, stateAfter, step}
 use Rattle.rules.specs.Parts.{heads, fieldsIn}
 use Rattle.rules.specs.Combine.{summaryOf, linesWithin}
 use Rattle.rules.proofs.Tests.{and-left, and-right, both}
 use Rattle.rules.proofs.Binds.{from-bind, then-fine, first-fine, check-holds, check-true}
 use Rattle.rules.proofs.Accepted.{Stepped, stepped, step-again}
-use Rattle.laws.proofs.Codes.{of-each, one-code, order-fine, Of}
-use Rattle.laws.proofs.Pieces.{groupCodes}
-use Rattle.laws.proofs.Summaries.{summary-as}
+use Rattle.laws.specs.LawWords.{Of}
+use Rattle.laws.proofs.Codes.{of-each, one-code, order-fine}
+use Rattle.laws.proofs.PartCuts.{groupCodes}
+use Rattle.laws.proofs.SummarySums.{summary-as}
 
 -- ---- a record of a known code
 
--- the state behind a record of code c
-abbrev pub stateAfter : Code → State → Record → State
-stateAfter c s r =
+-- the state after a record of code c
+abbrev pub stateWith : Code → State → Record → State
+stateWith c s r =
     record {
-      expected = after c;
-      limit = limitBehind c (s .limit) (fieldsIn c r);
+      expected = mayFollow c;
+      limit = limitAfter c (s .limit) (fieldsIn c r);
       file = s .file ⊞ summaryOf r;
-      group = groupBehind c (s .group) (summaryOf r);
-      account = accountBehind c (s .account) (summaryOf r);
+      group = groupAfter c (s .group) (summaryOf r);
+      account = accountAfter c (s .account) (summaryOf r);
     }
 
 pub record Taken (c : Code) (s : State) (r : Record) (t : State) : Type 0 where
@@ -40,14 +42,14 @@ pub record Taken (c : Code) (s : State) (r : Record) (t : State) : Type 0 where
   pub good-lines : goodLines 0 (s .limit) r ≡ fine tt
   pub bounded : boundedFrom (magnitudes (s .file .sum)) (fieldsIn c r) ≡ fine tt
   pub balances : balanced c (s .account ⊞ summaryOf r) (s .group ⊞ summaryOf r) (s .file ⊞ summaryOf r) (fieldsIn c r) ≡ fine tt
-  pub next : t ≡ stateAfter c s r
+  pub next : t ≡ stateWith c s r
 
 fields-read : (c : Code) (r : Record) (fs : List Field) → walkRecord c r ≡ fine fs → fieldsIn c r ≡ fs
 unfolding fieldsIn
 fields-read c r fs h = rw h
 
 pub taken : (c : Code) (s : State) (r : Record) (t : State) → T (heads c r) → step s r ≡ fine t → Taken c s r t
-unfolding stateBehind
+unfolding stateAfter
 taken c s r t h k =
     let x = stepped s r t k in
     let is-code : T (heads (x .code) r) = order-fine (s .expected) r (x .code) (x .in-order) .0 in
@@ -106,9 +108,9 @@ bounded-within m (f ∷ fs) k h =
 
 -- no record of a group changes the limit, has its lines held against it again, or looks at the file's summary
 module _ (c : Code) (h : T (among c (groupHeader ∷ groupCodes))) where
-  pub keeps-limit : (limit : ℕ) (fs : List Field) → limitBehind c limit fs ≡ limit
-  unfolding limitBehind sameBytes
-  keeps-limit limit fs = of-each (λ b. limitBehind b limit fs ≡ limit) (groupHeader ∷ groupCodes) (refl, (refl, (refl, (refl, (refl, tt))))) c h
+  pub keeps-limit : (limit : ℕ) (fs : List Field) → limitAfter c limit fs ≡ limit
+  unfolding limitAfter sameBytes
+  keeps-limit limit fs = of-each (λ b. limitAfter b limit fs ≡ limit) (groupHeader ∷ groupCodes) (refl, (refl, (refl, (refl, (refl, tt))))) c h
 
   own-fine : (limit : ℕ) (r : Record) → ownLines c limit r ≡ fine tt
   unfolding ownLines sameBytes
@@ -118,14 +120,14 @@ module _ (c : Code) (h : T (among c (groupHeader ∷ groupCodes))) where
   unfolding balanced
   same-balance a g f o fs = of-each (λ b. balanced b a g f fs ≡ balanced b a g o fs) (groupHeader ∷ groupCodes) (refl, (refl, (refl, (refl, (refl, tt))))) c h
 
--- the same state under another limit and behind another file
+-- the same state under another limit and after another file
 abbrev pub elsewhere : ℕ → Summary → State → State
 elsewhere limit file s = record { expected = s .expected; limit = limit; file = file; group = s .group; account = s .account }
 
 stepped-elsewhere : (s t : State) (r : Record) → Stepped s r t → Of (groupHeader ∷ groupCodes) r → (limit : ℕ) (file : Summary)
     → T (linesWithin limit r) → magnitudes (file .sum) + magnitudes (summaryOf r .sum) ≤ most
     → step (elsewhere limit file s) r ≡ fine (elsewhere limit (file ⊞ summaryOf r) t)
-unfolding stateBehind ofRecord adding
+unfolding stateAfter ofRecord adding
 stepped-elsewhere s t r x o limit file w room =
     let is-code : T (heads (x .code) r) = order-fine (s .expected) r (x .code) (x .in-order) .0 in
     let same : o .code ≡ x .code = one-code (o .code) (x .code) r (o .is-code) is-code in
@@ -139,7 +141,7 @@ stepped-elsewhere s t r x o limit file w room =
       good-lines = good-elsewhere 0 (s .limit) limit r w (x .good-lines);
       in-order = x .in-order;
       walked = x .walked;
-      own-lines = own-fine (x .code) i (limitBehind (x .code) limit (x .fields)) r;
+      own-lines = own-fine (x .code) i (limitAfter (x .code) limit (x .fields)) r;
       bounded = bounded-room (magnitudes (file .sum)) (x .fields) (rw a at room);
       balances = same-balance (x .code) i (s .account ⊞ this) (s .group ⊞ this) (file ⊞ this) (s .file ⊞ this) (x .fields) ∙ x .balances;
       next = rw (a, x .next, keeps-limit (x .code) i limit (x .fields));

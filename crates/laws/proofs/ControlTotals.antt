@@ -15,18 +15,18 @@ use Rattle.rules.specs.Totals.{Summary, noSummary, _⊞_, sumWithin, rightTotal
 use Rattle.rules.specs.Order.{among}
 use Rattle.rules.specs.Verdict.{State, start, run, judge}
 use Rattle.rules.specs.Parts.{groupsIn, fieldsIn}
-use Rattle.rules.specs.Combine.{summaryOf, summaryOfAll, joined}
+use Rattle.rules.specs.Combine.{summaryOf, summaryOfAll, concat}
 use Rattle.rules.proofs.Binds.{then-fine, first-fine, check-holds}
 use Rattle.rules.proofs.Accepted.{accepted}
-use Rattle.laws.specs.Words.{All, accountsIn, detailsIn, Enclosed, IsAccount, IsGroup, IsFile, States, Controlled, GroupControlled, FileControlled}
-use Rattle.laws.proofs.Codes.{Of, of-own}
-use Rattle.laws.proofs.Pieces.{parts-of, accountCodes, groupCodes, fileCodes}
+use Rattle.laws.specs.LawWords.{All, accountsIn, detailsIn, Enclosed, IsAccount, IsGroup, IsFile, States, Controlled, GroupControlled, FileControlled, Of}
+use Rattle.laws.proofs.Codes.{of-own}
+use Rattle.laws.proofs.PartCuts.{parts-of, accountCodes, groupCodes, fileCodes}
 use Rattle.laws.proofs.Envelopes.{account-codes, group-codes, details-begin, accounts-begin, groups-begin}
 use Rattle.laws.proofs.Shape.{is-file, file-codes}
-use Rattle.laws.proofs.Summaries.{add-none, none-add, summary-append, lines-counted}
+use Rattle.laws.proofs.SummarySums.{add-none, none-add, summary-append, lines-counted}
 use Rattle.laws.proofs.Counts.{group-accounts, file-groups}
-use Rattle.laws.proofs.Steps.{stateAfter}
-use Rattle.laws.proofs.Runs.{run-two, Through, through, run-sum}
+use Rattle.laws.proofs.RecordsTaken.{stateWith}
+use Rattle.laws.proofs.RunsOfRecords.{run-two, Through, through, run-sum}
 
 -- ---- a trailer against the summary of all records that it encloses, itself included
 
@@ -59,13 +59,13 @@ right-counted s n parts fs e h =
 
 -- an envelope that runs from a state where none is open; `get` is the summary of what it encloses, to which records of codes before its trailer add
 module _ {c d : Code} {ps : List (List Record)} {rs : List Record} (e : Enclosed c d ps rs) (codes : List Code) (coded : All (Of codes) rs)
-    (get : State → Summary) (before : List Code) (law : (s : State) (r : Record) → All (λ b. get (stateAfter b s r) ≡ get s ⊞ summaryOf r) before)
-    (adds : All (Of before) (e .header ∷ joined ps)) (s u : State) (starts : get s ≡ noSummary) (x : Through e s u) where
+    (get : State → Summary) (before : List Code) (law : (s : State) (r : Record) → All (λ b. get (stateWith b s r) ≡ get s ⊞ summaryOf r) before)
+    (adds : All (Of before) (e .header ∷ concat ps)) (s u : State) (starts : get s ≡ noSummary) (x : Through e s u) where
   -- with the trailer it is the summary of all
   all-added : get (x .last) ⊞ summaryOf (e .trailer) ≡ summaryOfAll rs
   unfolding summaryOfAll
   all-added =
-      let qs = e .header ∷ joined ps in
+      let qs = e .header ∷ concat ps in
       let sums : get (x .last) ≡ summaryOfAll qs = run-sum get before law qs s (x .last) adds (x .before) ∙ rw (starts, none-add (summaryOfAll qs)) in
       rw sums (sym (ap summaryOfAll (e .whole) ∙ summary-append qs (e .trailer ∷ []) ∙ rw (add-none (summaryOf (e .trailer)))))
 
@@ -80,7 +80,7 @@ module _ {c d : Code} {ps : List (List Record)} {rs : List Record} (e : Enclosed
       let stated = number (the records fs .bytes) in
       let right = says all-added in
       record {
-        before = e .header ∷ joined ps;
+        before = e .header ∷ concat ps;
         trailer = e .trailer;
         fields = fs;
         whole = e .whole;
@@ -89,7 +89,7 @@ module _ {c d : Code} {ps : List (List Record)} {rs : List Record} (e : Enclosed
         states-total = check-holds (equals (sum .sum) (asSum (signed (the total fs .bytes)))) 11 (the total fs .place) (right .right-total);
         states-parts = right .right-parts;
         states-lines =
-            sym (eqb→eq (sum .lines) stated (check-holds (eqb (sum .lines) stated) 13 (the records fs .place) (right .right-records)))
+            sym (eqb→eq (sum .records) stated (check-holds (eqb (sum .records) stated) 13 (the records fs .place) (right .right-records)))
             ∙ lines-counted codes rs coded;
       }
 
@@ -107,12 +107,12 @@ module _ (a : List Record) (i : IsAccount a) (s u : State) (starts : s .account 
       s u starts x none
       (λ same. right-account (summaryOfAll a) fs (subst (λ (z : Summary). checksOfAccount z fs ≡ fine tt) same (x .closes .balances)))
 
-accounts-controlled : (ps : List (List Record)) (s u : State) → All IsAccount ps → s .account ≡ noSummary → run 0 s (joined ps) ≡ fine u
+accounts-controlled : (ps : List (List Record)) (s u : State) → All IsAccount ps → s .account ≡ noSummary → run 0 s (concat ps) ≡ fine u
     → All (Controlled accountTrailer none) ps
-unfolding joined
+unfolding concat
 accounts-controlled [] s u a starts runs = tt
 accounts-controlled (p ∷ ps) s u a starts runs =
-    let (t, first, rest) = run-two 0 s u p (joined ps) runs in
+    let (t, first, rest) = run-two 0 s u p (concat ps) runs in
     let x = through (a .0 .enclosed) s t first in
     (account-controlled p (a .0) s t starts x, accounts-controlled ps t u (a .1) (ap (λ (y : State). y .account) (x .closes .next)) rest)
 
@@ -138,11 +138,11 @@ module _ (g : List Record) (i : IsGroup g) (s u : State) (starts : s .group ≡ 
         of-accounts = accounts-controlled (accountsIn g) (x .opened) (x .last) (i .accounts) (ap (λ (y : State). y .account) (x .opens .next)) (x .inner);
       }
 
-groups-controlled : (gs : List (List Record)) (s u : State) → All IsGroup gs → s .group ≡ noSummary → run 0 s (joined gs) ≡ fine u → All GroupControlled gs
-unfolding joined
+groups-controlled : (gs : List (List Record)) (s u : State) → All IsGroup gs → s .group ≡ noSummary → run 0 s (concat gs) ≡ fine u → All GroupControlled gs
+unfolding concat
 groups-controlled [] s u a starts runs = tt
 groups-controlled (g ∷ gs) s u a starts runs =
-    let (t, first, rest) = run-two 0 s u g (joined gs) runs in
+    let (t, first, rest) = run-two 0 s u g (concat gs) runs in
     let x = through (a .0 .enclosed) s t first in
     (group-controlled g (a .0) s t starts x, groups-controlled gs t u (a .1) (ap (λ (y : State). y .group) (x .closes .next)) rest)
 

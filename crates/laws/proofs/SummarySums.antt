@@ -9,10 +9,10 @@ use Rattle.rules.specs.Lines.{Line, Code, Record}
 use Rattle.rules.specs.Numbers.{Sum}
 use Rattle.rules.specs.Totals.{Summary, noSummary, _⊞_, adding, ofRecord}
 use Rattle.rules.specs.Parts.{heads, fieldsIn}
-use Rattle.rules.specs.Combine.{ofCoded, summaryOf, summaryOfAll, linesWithin, joined}
+use Rattle.rules.specs.Combine.{ofCoded, summaryOf, summaryOfAll, linesWithin, concat}
 use Rattle.rules.proofs.Tests.{and-left, and-right, both}
-use Rattle.laws.specs.Words.{All}
-use Rattle.laws.proofs.Codes.{code-of, Of}
+use Rattle.laws.specs.LawWords.{All, Of}
+use Rattle.laws.proofs.Codes.{code-of}
 
 -- ---- adding up
 
@@ -20,8 +20,8 @@ pub same-sum : (a b : Sum) → a .pluses ≡ b .pluses → a .minuses ≡ b .min
 same-sum a b p m = λ i. record { pluses = p i; minuses = m i }
 
 pub same-summary : (a b : Summary) → a .sum .pluses ≡ b .sum .pluses → a .sum .minuses ≡ b .sum .minuses → a .groups ≡ b .groups
-    → a .accounts ≡ b .accounts → a .details ≡ b .details → a .lines ≡ b .lines → a ≡ b
-same-summary a b p m g c d l = λ i. record { sum = record { pluses = p i; minuses = m i }; groups = g i; accounts = c i; details = d i; lines = l i }
+    → a .accounts ≡ b .accounts → a .details ≡ b .details → a .records ≡ b .records → a ≡ b
+same-summary a b p m g c d l = λ i. record { sum = record { pluses = p i; minuses = m i }; groups = g i; accounts = c i; details = d i; records = l i }
 
 pub add-none : (a : Summary) → a ⊞ noSummary ≡ a
 unfolding _⊞_
@@ -53,13 +53,13 @@ summary-as c [] h = absurd h
 summary-as c (l ∷ ls) h = rw (code-of c l h)
 
 -- records are lines
-pub lines-counted : (cs : List Code) (rs : List Record) → All (Of cs) rs → summaryOfAll rs .lines ≡ length (joined rs)
-unfolding summaryOfAll joined _⊞_ ofRecord adding
+pub lines-counted : (cs : List Code) (rs : List Record) → All (Of cs) rs → summaryOfAll rs .records ≡ length (concat rs)
+unfolding summaryOfAll concat _⊞_ ofRecord adding
 lines-counted cs [] a = refl
 lines-counted cs (r ∷ rs) a =
     let o = a .0 in
-    rw (lines-counted cs rs (a .1), length-append r (joined rs))
-    (ap (λ (s : Summary). s .lines + length (joined rs)) (summary-as (o .code) r (o .is-code)))
+    rw (lines-counted cs rs (a .1), length-append r (concat rs))
+    (ap (λ (s : Summary). s .records + length (concat rs)) (summary-as (o .code) r (o .is-code)))
 
 -- ---- lines within a limit
 
