@@ -13,8 +13,8 @@ use lib.Dec.{leb}
 use borrow.Author.Tests.{le-leb, lt-leb}
 use Rattle.rules.specs.Bytes.{Bytes}
 use Rattle.rules.specs.Numbers.{decimal}
-use Rattle.base_numerals.specs.Put.{Put}
-use Rattle.base_digits.proofs.Tests.{below-or-from}
+use Rattle.base_numerals.specs.PutBytes.{Put}
+use Rattle.base_digits.proofs.DigitTests.{below-or-from}
 use Rattle.base_digits.proofs.DigitStrings.{decimal-small, decimal-step, decimal-some, decimal-longer, decimal-at-most}
 
 -- ---- Put by its two cases, and what it says
@@ -99,7 +99,7 @@ rest-is a xs = take-all (length xs - a) (drop a xs) (le-of-eq (length-drop a xs)
 pub rest-back : (a : ℕ) (xs ys : Bytes) → a ≤ length xs → putMid a (length xs - a) xs ys ≡ take a xs ++ ys
 rest-back a xs ys h = rw (post-is a (length xs) xs h, drop-length xs, append-nil ys)
 
--- a byte is stored first, and the bytes behind it are put by a call that is lent the rest
+-- a byte is stored first, and the bytes after it are put by a call that is lent the rest
 pub put-first : (b : ℕ) (bs out : Bytes) (r : ℕ) (after : Bytes) → length bs + 1 ≤ length out
     → Put bs (midOf 1 (length (set out 0 b) - 1) (set out 0 b)) r after
     → Put (b ∷ bs) out (r + 1) (putMid 1 (length (set out 0 b) - 1) (set out 0 b) after)

@@ -1,14 +1,15 @@
 -- Sums of units: the cases of the checked sums, and what their answers say. Assumes nothing.
 use Prim.Native.Nat.{ℕ, _+_, _<_, _≤_}
+use native.Mathlib.Nat.{mod-eq-of-lt}
 use native.Mathlib.Omega.{arith}
 use mathlib.Core.Path.{_≡_, refl, ap}
 use mathlib.Core.Bool.{Bool, true, false, cond}
 use lib.Dec.{leb}
 use borrow.Author.Tests.{le-leb, lt-leb, leb-true, leb-false}
-use Rattle.rules.specs.Numbers.{Sum, asSum, _⊕_, magnitudes, most}
-use Rattle.base_quantities.specs.Kinds.{sumMeant, unitsOf, unitsWithin}
+use Rattle.rules.specs.Numbers.{Sum, _⊕_, magnitudes}
+use Rattle.rules.specs.Limits.{most}
+use Rattle.base_quantities.specs.QuantityMeanings.{sumMeant, unitsOf, wrapped, wrappedSum, unitsWithin}
 use Rattle.base_quantities.specs.declared.Units.{Units}
-use Rattle.base_quantities.specs.declared.UnitsSum.{UnitsSum}
 use Rattle.base_quantities.specs.declared.UnitsSum.the-variants.{Within, Beyond}
 
 -- ---- what an answer says
@@ -48,23 +49,13 @@ pub sum-beyond : (a : Sum) → most < magnitudes a → Beyond ≡ unitsWithin a
 unfolding unitsWithin
 sum-beyond a h = rw (lt-leb (magnitudes a) most h)
 
--- one amount more
-pub add-beyond : (u : Units) (minus : Bool) (n : ℕ) → most < u .0 + u .1 + n
-    → Beyond ≡ unitsWithin (sumMeant u ⊕ asSum (record { negative = minus; magnitude = n }))
-add-beyond u true n h = sum-beyond (sumMeant u ⊕ record { pluses = 0; minuses = n }) (omega arith)
-add-beyond u false n h = sum-beyond (sumMeant u ⊕ record { pluses = n; minuses = 0 }) (omega arith)
+-- ---- numbers of 64 bits
 
--- two sums in one: the second's pluses first, then its minuses
-module _ (a b : Units) where
-  pub join-within : (u : Units) (r : UnitsSum) → Within u ≡ unitsWithin (sumMeant a ⊕ asSum (record { negative = false; magnitude = b .0 }))
-      → r ≡ unitsWithin (sumMeant u ⊕ asSum (record { negative = true; magnitude = b .1 })) → r ≡ unitsWithin (sumMeant a ⊕ sumMeant b)
-  join-within u r e f =
-      let s = within-is (sumMeant a ⊕ record { pluses = b .0; minuses = 0 }) u e in
-      let p : u .0 + 0 ≡ a .0 + b .0 = omega (arith, ap (λ (x : Sum). x .pluses) s) in
-      let m : u .1 + b .1 ≡ a .1 + b .1 = omega (arith, ap (λ (x : Sum). x .minuses) s) in
-      rw (p, m) at f
+-- a number that fits stays as it is
+pub not-wrapped : (n : ℕ) → n ≤ 18_446_744_073_709_551_615 → wrapped n ≡ n
+not-wrapped n h = mod-eq-of-lt (omega arith)
 
-  pub join-beyond : Beyond ≡ unitsWithin (sumMeant a ⊕ asSum (record { negative = false; magnitude = b .0 }))
-      → Beyond ≡ unitsWithin (sumMeant a ⊕ sumMeant b)
-  join-beyond e =
-      sum-beyond (sumMeant a ⊕ sumMeant b) (omega (arith, beyond-most (sumMeant a ⊕ record { pluses = b .0; minuses = 0 }) e))
+-- two sums whose sides fit stay as they are together
+pub sum-not-wrapped : (a b : Sum) → a .pluses + b .pluses ≤ 18_446_744_073_709_551_615 → a .minuses + b .minuses ≤ 18_446_744_073_709_551_615
+    → wrappedSum (a ⊕ b) ≡ a ⊕ b
+sum-not-wrapped a b p m = rw (not-wrapped (a .pluses + b .pluses) p, not-wrapped (a .minuses + b .minuses) m)

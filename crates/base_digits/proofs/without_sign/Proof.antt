@@ -1,8 +1,8 @@
--- `behind_sign` meets its contract. Assumes nothing.
+-- `without_sign` meets its contract. Assumes nothing.
 use borrow.Author.Needs.{needs}
-use Rattle.base_digits.proofs.Signs.{plus-is, minus-is, neither-is, sign-none, sign-cut, sign-kept}
-use Rattle.base_digits.proofs.behind_sign.Statement.{statement}
-use Rattle.base_digits.proofs.behind_sign.Tie as tie
+use Rattle.base_digits.proofs.SignLaws.{plus-is, minus-is, neither-is, sign-none, sign-cut, sign-kept}
+use Rattle.base_digits.proofs.without_sign.Statement.{statement}
+use Rattle.base_digits.proofs.without_sign.Tie as tie
 
 returns : tie.Need-returns
 returns c = sign-none _ (c .if1 .taken)
@@ -19,8 +19,8 @@ returns-4 c =
     sign-kept _ (c .before .before .before .before .if1 .left)
     (neither-is _ (c .before .before .if2 .left) (c .if3 .left))
 
-pub behind-sign-spec : {M : Type 1} → statement M
-behind-sign-spec =
+pub without-sign-spec : {M : Type 1} → statement M
+without-sign-spec =
     tie.close
     (tie.spec
     returns

@@ -11,10 +11,10 @@ use borrow.Author.Tests.{eq-eqb, ne-eqb}
 use Rattle.rules.specs.Bytes.{Bytes, all, isEmpty, plus, minus, startsWith}
 use Rattle.rules.specs.Numbers.{isDigit, digits, numberFrom, number, withoutSign, signed}
 use Rattle.rules.specs.Grammar.{isSigned, isUnsigned}
-use Rattle.base_digits.specs.Reading.{valueOf, amountIn}
-use Rattle.base_digits.proofs.Tests.{and-left}
+use Rattle.base_digits.specs.NumbersRead.{valueOf, amountIn}
+use Rattle.base_digits.proofs.DigitTests.{and-left}
 use Rattle.base_digits.proofs.DigitStrings.{first-low}
-use Rattle.base_digits.proofs.Reading.{value-is}
+use Rattle.base_digits.proofs.ReadingLaws.{value-is}
 
 -- ---- the first byte
 

@@ -1,4 +1,4 @@
--- A result that is written piece by piece to the front of a lent slice: what stands there so far, and what is left to write. Assumes nothing.
+-- A result that is written part by part to the front of a lent slice: what stands there so far, and what is left to write. Assumes nothing.
 use Prim.Native.Nat.{ℕ, _+_, _≤_}
 use mathlib.Core.Path.{_≡_}
 use mathlib.Core.List.{_++_}

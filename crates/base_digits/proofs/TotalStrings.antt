@@ -6,13 +6,15 @@ use mathlib.Core.Logic.{⊎-elim}
 use mathlib.Core.List.{_∷_}
 use mathlib.Core.Bool.{Bool, true, false}
 use lib.Dec.{leb, ltb}
+use lib.ListN.{length}
 use borrow.Author.Tests.{lt-ltb, le-ltb, ltb-true, ltb-false, leb-true, eq-eqb, eqb-true}
 use Rattle.rules.specs.Bytes.{minus, startsWith}
-use Rattle.rules.specs.Numbers.{number, decimal, withoutSign, Signed, signed, Sum, asSum, equals, most, withinMost, totalBytes}
+use Rattle.rules.specs.Numbers.{number, decimal, withoutSign, Signed, signed, Sum, asSum, equals, withinMost, totalBytes}
+use Rattle.rules.specs.Limits.{most}
 use Rattle.rules.specs.Grammar.{isSigned}
-use Rattle.base_digits.proofs.Tests.{below-or-from, and-left, and-right}
-use Rattle.base_digits.proofs.DigitStrings.{decimal-digits, decimal-fits, number-decimal}
-use Rattle.base_digits.proofs.Signs.{no-sign, signed-digits}
+use Rattle.base_digits.proofs.DigitTests.{below-or-from, and-left, and-right}
+use Rattle.base_digits.proofs.DigitStrings.{decimal-digits, decimal-fits, decimal-short, number-decimal}
+use Rattle.base_digits.proofs.SignLaws.{no-sign, signed-digits}
 
 -- ---- the two shapes of a total
 
@@ -93,4 +95,12 @@ total-signed a e =
     (λ h.
     rw (total-from-zero a h, no-sign (decimal (a .pluses - a .minuses)) (decimal-digits (a .pluses - a .minuses)))
     (decimal-fits 18 (a .pluses - a .minuses) (omega arith) (omega arith)))
+    (below-or-from (a .pluses) (a .minuses))
+
+-- a total of 64 bits has at most 21 bytes
+pub total-short : (a : Sum) → a .pluses < 18_446_744_073_709_551_616 → a .minuses < 18_446_744_073_709_551_616 → length (totalBytes a) ≤ 21
+total-short a h g =
+    ⊎-elim
+    (λ l. rw (total-below-zero a l) (omega (arith, decimal-short (a .minuses - a .pluses) (omega arith))))
+    (λ l. rw (total-from-zero a l) (omega (arith, decimal-short (a .pluses - a .minuses) (omega arith))))
     (below-or-from (a .pluses) (a .minuses))

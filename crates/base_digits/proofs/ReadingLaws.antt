@@ -9,8 +9,8 @@ use lib.ListN.{length, getD, take, drop, drop-of-length-le, length-take, take-ap
 use lib.Seq.{drop-cons}
 use Rattle.rules.specs.Bytes.{Bytes, all, between}
 use Rattle.rules.specs.Numbers.{isDigit, digits, numberFrom, number}
-use Rattle.base_digits.specs.Reading.{valueOf}
-use Rattle.base_digits.proofs.Tests.{and-left, and-right, within, below, above, at-most, at-least}
+use Rattle.base_digits.specs.NumbersRead.{valueOf}
+use Rattle.base_digits.proofs.DigitTests.{and-left, and-right, within, below, above, at-most, at-least}
 use Rattle.base_digits.proofs.DigitStrings.{all-append}
 
 -- ---- one byte more
@@ -125,10 +125,10 @@ value-is lo hi s e g = value-digits s (omega (arith, digits-at-most lo hi s e)) 
 pub value-part : (lo hi k j : ℕ) (s : Bytes) → digits lo hi s ≡ true → k ≤ 18 → valueOf (take k (drop j s)) ≡ number (take k (drop j s))
 value-part lo hi k j s e g =
     let n : length (take k (drop j s)) ≤ k = rw (length-take k (drop j s)) (min-le-left k (length (drop j s))) in
-    value-digits (take k (drop j s)) (omega arith) (and-left (all isDigit (take k (drop j s))) (all isDigit (drop k (drop j s))) (halves k (drop j s) behind))
+    value-digits (take k (drop j s)) (omega arith) (and-left (all isDigit (take k (drop j s))) (all isDigit (drop k (drop j s))) (halves k (drop j s) after))
   where
     halves : (m : ℕ) (t : Bytes) → all isDigit t ≡ true → (all isDigit (take m t) && all isDigit (drop m t)) ≡ true
     halves m t d = sym (all-append isDigit (take m t) (drop m t)) ∙ ap (all isDigit) (take-append-drop m t) ∙ d
 
-    behind : all isDigit (drop j s) ≡ true
-    behind = and-right (all isDigit (take j s)) (all isDigit (drop j s)) (halves j s (digits-are lo hi s e))
+    after : all isDigit (drop j s) ≡ true
+    after = and-right (all isDigit (take j s)) (all isDigit (drop j s)) (halves j s (digits-are lo hi s e))
