@@ -437,7 +437,7 @@ refused("code_without_comma.bai", k1(line3=b"03/0975312468,USD,010,-500,,/"), 5,
 refused("code_unknown.bai", k1(line3=b"04,0975312468,USD,010,-500,,/"), 5, 83, b"04,")
 refused("code_89.bai", lines(*K1[:4], b"89,X/", *K1[4:]), 5, 151, b"89,")
 refused("code_one_digit.bai", k1(line3=b"3,0975312468,USD,010,-500,,/"), 5, 83, b"3,0")
-refused("code_behind_blank.bai", k1(line3=b" 03,0975312468,USD,010,-500,,/"), 5, 83, b" 03")
+refused("code_after_blank.bai", k1(line3=b" 03,0975312468,USD,010,-500,,/"), 5, 83, b" 03")
 refused("code_alone.bai", k1(line7=b"99"), 5, 175, b"99\n")
 # "88" without its comma is no 88, so not the 16's continuation, and no code either.
 refused("code_88_without_comma.bai", lines(*K1[:4], b"88", *K1[4:]), 5, 151, b"88\n")
@@ -450,14 +450,14 @@ refused("order_49_missing.bai", lines(*K1[:4], *K1[5:]), 6, 151, b"98,")
 refused("order_98_missing.bai", lines(*K1[:5], K1[6]), 6, 162, b"99,")
 refused("order_02_in_group.bai", lines(*K1[:5], K1[1]), 6, 162, b"02,")
 refused("order_03_in_account.bai", lines(*K1[:4], K1[2]), 6, 151, b"03,")
-refused("order_16_behind_49.bai", lines(*K1[:5], K1[3]), 6, 162, b"16,")
+refused("order_16_after_49.bai", lines(*K1[:5], K1[3]), 6, 162, b"16,")
 # Behind the 99 nothing may stand; its 188 bytes come first.
-refused("order_behind_99.bai", k1() + b"16,165,1,,,,/\n", 6, 188, b"16,")
+refused("order_after_99.bai", k1() + b"16,165,1,,,,/\n", 6, 188, b"16,")
 refused("order_second_file.bai", k1() + k1(), 6, 188, b"01,")
 # A record after the 99 has its lines judged first: a bad byte (188 + 3) comes before 6.
-refused("order_behind_99_bad_byte.bai", k1() + b"16,\x01\n", 4, 191, b"\x01")
+refused("order_after_99_bad_byte.bai", k1() + b"16,\x01\n", 4, 191, b"\x01")
 # An 88 after the 99 is the 99's: one field too many, at the 88's fourth byte, 188 + 3.
-refused("88_behind_99.bai", k1() + b"88,1/\n", 8, 191, b"1/")
+refused("88_after_99.bai", k1() + b"88,1/\n", 8, 191, b"1/")
 # Leading 88s are one record, refused at 0, ...
 refused("88_first.bai", b"88,A/\n88,B/\n" + k1(), 6, 0, b"88,A")
 # ... but all its lines are judged before: a bad byte in the second 88, at 6 + 3.
@@ -468,7 +468,7 @@ refused("order_88_bad_byte.bai", lines(*K1[:2], K1[3], b"88,X\x7fY", *K1[4:]), 4
 refused("order_before_fields.bai", lines(*K1[:2], b"98,X,Y,Z/"), 6, 83, b"98,X")
 # The file ends before its 99: at the file's length. 175 bytes are K1 without its last line.
 refused("end_before_99.bai", lines(*K1[:6]), 6, 175, b"")
-refused("end_behind_01.bai", lines(K1[0]), 6, 42, b"")
+refused("end_after_01.bai", lines(K1[0]), 6, 42, b"")
 refused("end_before_99_no_last_end.bai", lines(*K1[:6])[:-1], 6, 174, b"")
 # A file without group is accepted (k03_result above); its figures are judged all the same: "99," at
 # 42, total 45, groups 47, records 49.
@@ -493,9 +493,9 @@ refused("comma_at_end.bai", k1(line3=b"03,0975312468,USD,010,-500,,,"), 7, 112, 
 refused("bare_03.bai", lines(*K1[:2], b"03,", *K1[3:]), 7, 86, b"\n16")
 refused("bare_88.bai", lines(*K1[:3], b"88,", *K1[3:]), 7, 116, b"\n16")
 # Blanks may follow the slash, anything else is 7 there: the 49's slash is at 160, X at 161 or 163.
-accepted("blanks_behind_slash.bai", k1(line5=b"49,1000,3/   "), 1000, 1, 1, 1, 7)
-refused("byte_behind_slash.bai", k1(line5=b"49,1000,3/X"), 7, 161, b"X\n")
-refused("byte_behind_blanks.bai", k1(line5=b"49,1000,3/  X"), 7, 163, b"X\n")
+accepted("blanks_after_slash.bai", k1(line5=b"49,1000,3/   "), 1000, 1, 1, 1, 7)
+refused("byte_after_slash.bai", k1(line5=b"49,1000,3/X"), 7, 161, b"X\n")
+refused("byte_after_blanks.bai", k1(line5=b"49,1000,3/  X"), 7, 163, b"X\n")
 refused("two_slashes.bai", k1(line5=b"49,1000,3//"), 7, 161, b"/\n98")
 # The field before the slash is judged first (records "A" at 159), ...
 refused("bad_field_then_byte.bai", k1(line5=b"49,1000,A/X"), 8, 159, b"A/X")
@@ -615,7 +615,7 @@ accepted("minus_zero.bai", lines(*K1[:2], b"03,0975312468,USD,010,-0,,/", b"49,-
                                  b"99,-000,1,6/"), 0, 1, 1, 0, 6)
 refused("sign_alone.bai", k1(line3=b"03,0975312468,USD,010,-,,/"), 8, 105, b"-,,/")
 refused("sign_twice.bai", k1(line3=b"03,0975312468,USD,010,--5,,/"), 8, 105, b"--5")
-refused("sign_behind.bai", k1(line3=b"03,0975312468,USD,010,5-,,/"), 8, 105, b"5-,")
+refused("sign_after.bai", k1(line3=b"03,0975312468,USD,010,5-,,/"), 8, 105, b"5-,")
 # The sole empty item: beside an empty type the first filled field is wrong (amount 102, count 103,
 # funds 104); any field after it is one too many (105); a slash too soon is a field missing (103).
 refused("no_item_amount.bai", k1(line3=b"03,0975312468,USD,,5,6,/"), 8, 102, b"5,6")
