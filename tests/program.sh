@@ -9,7 +9,7 @@ work=$(mktemp -d)
 bai2=$work/bai2
 trap 'rm -rf "$work"' EXIT
 
-need_x86
+check 'make and a C compiler for x86-64 are here' need_x86
 
 # Builds by the Makefile of program/: build FOLDER [VARIABLE=VALUE..] [TARGET..].
 build() {
@@ -42,7 +42,7 @@ stand_in() {
 
 # Sets $native to the variables of a native build, which sanitizers, valgrind, fuzzer and preloaded libraries need.
 choose_native() {
-    need gcc gcc
+    need gcc gcc 'programs that run under the sanitizers'
     native=(CC=gcc)
     [ -z "$X86_RUN" ] && return
     tell "the library is for x86-64 and this is $(uname -m): checked here is the C around it, with the independent implementation in its place"
