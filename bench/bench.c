@@ -84,7 +84,7 @@ static void close_group(file *f)
 /* What stands in an account of each shape. */
 typedef struct {
     const char *name;
-    const char *line, *further; /* a 16 worth 1500, and the 88s behind it */
+    const char *line, *further; /* a 16 worth 1500, and the 88s after it */
     int furthers, details, accounts; /* 88s for a 16, 16s for an account, accounts for a group (0: one huge group) */
 } shape;
 

@@ -12,38 +12,10 @@
 
    HOW TO READ AN ANSWER
    `number` is 0 when the call was accepted, and then `place` is 0. Otherwise `number` says why it
-   was refused (table below), `place` is the byte in the file that shows it (counted from 0), and all
-   other figures are 0. A refused call leaves `out` as it was. An accepted one fills the first
-   `length` bytes of `out`; the bytes behind them stay as they were.
-
-   WHY A CALL IS REFUSED
-    1  The file is empty.
-    2  The file is longer than 16,777,216 bytes.
-    3  A line is longer than 4,096 bytes, or longer than the record length its file's header states;
-       the place is the first byte too many.
-    4  A byte is not a printable ASCII character (a tab or an accented letter, for instance).
-    5  A line does not begin with a record code (01, 02, 03, 16, 49, 88, 98, 99) and a comma.
-    6  A record stands where it may not, or the file ends before its 99 record.
-    7  A line ends in the middle of a field (no comma or slash behind it), something follows the slash
-       that ends a line, or a text is empty or begins with a slash.
-    8  A field has a wrong value, is missing (the place is then the record's last slash), or is one
-       too many.
-    9  The header's version is not 2.
-   10  The amounts, added up without their signs, pass 999,999,999,999,999,999.
-   11  A trailer's control total is not the sum of the amounts it closes.
-   12  A 98's number of accounts, or the 99's number of groups, is wrong.
-   13  A trailer's number of records (lines, with continuation lines and both ends) is wrong.
-   14  A group's or the file's sum passes 999,999,999,999,999,999 either way.
-   15  `out` is too short for the result.
-   16  The receiver's name asked for is empty, longer than 76 bytes, or has a comma, a slash or a byte
-       that is not a printable ASCII character.
-   17  The file has no group, account or detail of that number (numbers count from 0).
-   18  The result would be longer than 16,777,216 bytes, or a line of the second file's groups is
-       longer than the record length that the first file's header states.
-   19  The writer was called out of turn (a detail before its account, for instance).
-   20  A field given to the writer is one that the reader would refuse, or a text is longer than 76
-       bytes, begins with a slash or ends in a blank.
-   For 1, 2 and 15 to 20, and for 10 when combining or writing, the place is 0. */
+   was refused (enum bai2_refusal), `place` is the byte in the file that shows it (counted from 0),
+   and all other figures are 0, except for two: a combination's `file` says which file was refused,
+   and `writer` is the writer that the call was given. A refused call leaves `out` as it was. An
+   accepted one fills the first `length` bytes of `out`; the bytes after them stay as they were. */
 #ifndef BAI2_H
 #define BAI2_H
 
@@ -53,6 +25,83 @@
 #ifdef __cplusplus
 extern "C" {
 #endif
+
+enum {
+    BAI2_LONGEST_FILE = 16777216, /* bytes */
+    BAI2_LONGEST_LINE = 4096,     /* bytes, without its line end */
+    BAI2_LONGEST_NAME = 76,       /* bytes of a name, of a reference, or of a text that is written */
+    BAI2_TRAILER_ROOM = 64        /* bytes, more than a fresh 99 takes */
+};
+
+/* Why a call is refused. The place is 0 for BAI2_EMPTY_FILE, for BAI2_FILE_TOO_LONG, from
+   BAI2_NO_ROOM on, and for BAI2_AMOUNTS_TOO_LARGE when combining or writing. */
+enum bai2_refusal {
+    /* The file is empty. */
+    BAI2_EMPTY_FILE = 1,
+
+    /* The file is longer than 16,777,216 bytes. */
+    BAI2_FILE_TOO_LONG = 2,
+
+    /* A line is longer than 4,096 bytes, or longer than the record length its file's header states;
+       the place is the first byte too many. */
+    BAI2_LINE_TOO_LONG = 3,
+
+    /* A byte is not a printable ASCII character (a tab or an accented letter, for instance). */
+    BAI2_BYTE_NOT_ALLOWED = 4,
+
+    /* A line does not begin with a record code (01, 02, 03, 16, 49, 88, 98, 99) and a comma. */
+    BAI2_NO_RECORD_CODE = 5,
+
+    /* A record stands where it may not, or the file ends before its 99 record. */
+    BAI2_RECORD_OUT_OF_ORDER = 6,
+
+    /* A line ends in the middle of a field (no comma or slash after it), something follows the slash
+       that ends a line, or a text is empty or begins with a slash. */
+    BAI2_LINE_BADLY_ENDED = 7,
+
+    /* A field has a wrong value, is missing (the place is then the record's last slash), or is one
+       too many. */
+    BAI2_WRONG_FIELD = 8,
+
+    /* The header's version is not 2. */
+    BAI2_WRONG_VERSION = 9,
+
+    /* The amounts, added up without their signs, pass 999,999,999,999,999,999. */
+    BAI2_AMOUNTS_TOO_LARGE = 10,
+
+    /* A trailer's control total is not the sum of the amounts it closes. */
+    BAI2_WRONG_TOTAL = 11,
+
+    /* A 98's number of accounts, or the 99's number of groups, is wrong. */
+    BAI2_WRONG_COUNT = 12,
+
+    /* A trailer's number of records (lines, with continuation lines and both ends) is wrong. */
+    BAI2_WRONG_RECORD_COUNT = 13,
+
+    /* A group's or the file's sum passes 999,999,999,999,999,999 either way. */
+    BAI2_SUM_TOO_LARGE = 14,
+
+    /* `out` is too short for the result. */
+    BAI2_NO_ROOM = 15,
+
+    /* The receiver's name asked for is empty, longer than 76 bytes, or has a comma, a slash or a byte
+       that is not a printable ASCII character. */
+    BAI2_NOT_A_NAME = 16,
+
+    /* The file has no group, account or detail of that number (numbers count from 0). */
+    BAI2_NO_SUCH_PART = 17,
+
+    /* The result would be longer than 16,777,216 bytes, or a line of the second file's groups is
+       longer than the record length that the first file's header states. */
+    BAI2_RESULT_TOO_LONG = 18,
+
+    /* The writer was called out of turn (a detail before its account, for instance). */
+    BAI2_OUT_OF_TURN = 19,
+
+    /* A field given to the writer does not have its form (below): the reader would refuse it, or it
+       is a text that is longer than 76 bytes, begins with a slash or ends in a blank. */
+    BAI2_WRONG_FIELD_GIVEN = 20
+};
 
 /* ---- Reading ---- */
 
@@ -92,18 +141,20 @@ typedef struct {
     uint64_t number, place, length;
 } bai2_answer;
 
-/* The file's header, its groups whose ultimate receiver is exactly `name`, and a fresh 99. The file's
-   length and 64 more are always room enough. */
+/* The file's header, its groups whose ultimate receiver is exactly `name`, and a fresh 99.
+   file_length + BAI2_TRAILER_ROOM is always room enough. */
 bai2_answer bai2_split(const uint8_t *name, size_t name_length,
                        const uint8_t *file, size_t file_length,
                        uint8_t *out, size_t out_length);
 
-/* `file` says which file was refused, 1 for a and 2 for b; 0 where it was neither. */
+/* `file` says which file was refused, 1 for a and 2 for b; 0 where it was neither, also where the two
+   are refused together. */
 typedef struct {
     uint64_t number, place, length, file;
 } bai2_combined;
 
-/* A's header and groups, B's groups, and a fresh 99. Both lengths and 64 more are always room enough. */
+/* A's header and groups, B's groups, and a fresh 99. a_length + b_length + BAI2_TRAILER_ROOM is always
+   room enough. */
 bai2_combined bai2_combine(const uint8_t *a, size_t a_length,
                            const uint8_t *b, size_t b_length,
                            uint8_t *out, size_t out_length);
@@ -111,15 +162,30 @@ bai2_combined bai2_combine(const uint8_t *a, size_t a_length,
 /* ---- Writing ----
    Begin with bai2_writer_new, hand each call the writer that the call before handed back, and the
    same `out` all along; each call adds one line. `length` is the number of all bytes so far. A
-   refused call hands back the writer it was given. An amount or item count counts only where its
-   `..._given` is not 0; a negative amount is a minus. */
+   refused call hands back the writer it was given.
+
+   The order: the header; for each group, bai2_write_group, its accounts (at least one) and
+   bai2_write_end_group; for each account, bai2_write_account, its further items, its details and
+   bai2_write_end_account; bai2_write_end_file. Trailers are written with their totals and counts.
+
+   THE FORM OF EACH FIELD
+   Bytes are printable ASCII, from blank to tilde. Only what is said to be may be empty.
+     name       1 to 76 bytes, none of them a comma or a slash; leading zeros count
+     reference  the same, or empty
+     date       YYMMDD: the years 2000 to 2099, a day that its month has
+     time       HHMM: 0000 to 2359 with minutes up to 59, or 2400, or 9999 (the day's end)
+     currency   three of A to Z, or empty
+     type       three digits; which ones, each call says
+     amount     minor units, of 18 digits at most; written where amount_given is not 0
+     count      of items, of 9 digits at most; written where count_given is not 0
+     text       0 to 76 bytes, commas and slashes too; no slash first, no blank last */
 
 /* Where the writer stands. Plain numbers, to be handed on and not to be changed. */
 typedef struct {
     uint64_t size;  /* bytes written so far */
-    uint64_t phase; /* 0 fresh, 1 between groups (behind 01 or 98), 2 in a group (behind 02),
-                       3 in an account (behind 03, its items or 16), 4 between accounts (behind 49),
-                       5 ended (behind 99) */
+    uint64_t phase; /* 0 fresh, 1 between groups (after 01 or 98), 2 in a group (after 02),
+                       3 in an account (after 03, its items or 16), 4 between accounts (after 49),
+                       5 ended (after 99) */
     uint64_t items; /* 1 where a further item may follow, else 0 */
     uint64_t file_pluses, file_minuses, file_groups, file_accounts, file_details, file_lines;
     uint64_t group_pluses, group_minuses, group_groups, group_accounts, group_details, group_lines;
@@ -134,6 +200,7 @@ typedef struct {
 
 bai2_writer bai2_writer_new(void);
 
+/* sender and receiver: names. date, time. file_number: 1 to 9 digits. */
 bai2_written bai2_write_header(bai2_writer writer,
                                const uint8_t *sender, size_t sender_length,
                                const uint8_t *receiver, size_t receiver_length,
@@ -142,6 +209,9 @@ bai2_written bai2_write_header(bai2_writer writer,
                                const uint8_t *file_number, size_t file_number_length,
                                uint8_t *out, size_t out_length);
 
+/* receiver: a name, or empty, which is nobody's: no split finds it. originator: a name. status: 1
+   update, 2 deletion, 3 correction, 4 test only. date. time: may be empty. currency. modifier: 1
+   interim previous-day, 2 final previous-day, 3 interim same-day, 4 final same-day data, or empty. */
 bai2_written bai2_write_group(bai2_writer writer,
                               const uint8_t *receiver, size_t receiver_length,
                               const uint8_t *originator, size_t originator_length,
@@ -152,7 +222,10 @@ bai2_written bai2_write_group(bai2_writer writer,
                               const uint8_t *modifier, size_t modifier_length,
                               uint8_t *out, size_t out_length);
 
-/* An account with its first item, or with none where item_given is 0. */
+/* An account with its first item, or with none where item_given is 0. account: a name. currency.
+   type: 001 to 099, a status, whose amount may be negative and which has no count; or 100 to 799 or
+   900 to 999, a summary, whose amount is not negative. An item of empty type without amount and count
+   is none. */
 bai2_written bai2_write_account(bai2_writer writer,
                                 const uint8_t *account, size_t account_length,
                                 const uint8_t *currency, size_t currency_length,
@@ -162,13 +235,16 @@ bai2_written bai2_write_account(bai2_writer writer,
                                 uint64_t count_given, uint64_t count,
                                 uint8_t *out, size_t out_length);
 
-/* A further item of the account, on a line of its own (88). */
+/* A further item of the account, on a line of its own (88): after bai2_write_account with an item, or
+   after another further item. Its fields are as an account's first item's; the type is not empty. */
 bai2_written bai2_write_item(bai2_writer writer,
                              const uint8_t *type, size_t type_length,
                              uint64_t amount_given, int64_t amount,
                              uint64_t count_given, uint64_t count,
                              uint8_t *out, size_t out_length);
 
+/* type: 101 to 399, 401 to 799 or 900 to 999, whose amount is not negative; or 890, which has no
+   amount. bank_reference and customer_reference: references. text. */
 bai2_written bai2_write_detail(bai2_writer writer,
                                const uint8_t *type, size_t type_length,
                                uint64_t amount_given, int64_t amount,

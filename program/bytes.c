@@ -70,7 +70,7 @@ line line_at(slice file, size_t start)
     return (line){start, end, next};
 }
 
-/* The line that this byte stands in; the file's end stands behind its last line end. */
+/* The line that this byte stands in; the file's end stands after its last line end. */
 line line_of(slice file, size_t place)
 {
     size_t start = place < file.length ? place : file.length;

@@ -6,7 +6,7 @@
 
 #include "status.h"
 
-/* A command's arguments: its operands in order, and the file behind -o, NULL where there is none. */
+/* A command's arguments: its operands in order, and the file of -o, NULL where there is none. */
 typedef struct {
     char **operands;
     size_t count;

@@ -34,7 +34,7 @@ int explain_command(const arguments *a)
     if (a->count == 0) {
         for (uint64_t number = 1; number <= REFUSALS; number++)
             printf("%2" PRIu64 "  %s\n", number, explain(number).title);
-        return flush_standard_output() ? GOOD : TROUBLE;
+        return printed();
     }
     uint64_t number = refusal_named(a->operands[0]);
     if (number == 0) {
@@ -42,5 +42,5 @@ int explain_command(const arguments *a)
         return MISUSED;
     }
     put_explanation(number);
-    return flush_standard_output() ? GOOD : TROUBLE;
+    return printed();
 }

@@ -7,11 +7,12 @@
 #include <string.h>
 #include <unistd.h>
 
+#include "bai2.h"
 #include "message.h"
 
 enum {
     FIRST_ROOM = 65536,
-    ENOUGH = LONGEST_FILE + 1 /* one byte past the limit is all that its refusal needs */
+    ENOUGH = BAI2_LONGEST_FILE + 1 /* one byte past the limit is all that its refusal needs */
 };
 
 /* Whether this argument stands for standard input. */

@@ -4,8 +4,6 @@
 
 #include "bytes.h"
 
-enum { LONGEST_FILE = 16777216 };
-
 /* A file that was read: its name for messages, and its bytes. */
 typedef struct {
     const char *name;

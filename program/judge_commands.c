@@ -7,6 +7,7 @@
 
 #include "bai2.h"
 #include "commands.h"
+#include "escapes.h"
 #include "input.h"
 #include "message.h"
 #include "output.h"
@@ -69,7 +70,7 @@ static void put_progress(size_t done, size_t all, size_t bad)
 /* Wipes the progress line away. */
 static void wipe_progress(void)
 {
-    fputs("\r\033[K", stderr);
+    fputs("\r" WIPE_REST_OF_ROW, stderr);
 }
 
 /* bai2 check FILE..: a line for each file; refused where any is not accepted. */

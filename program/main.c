@@ -1,5 +1,6 @@
 /* bai2: looks at, splits, combines and checks BAI2 cash files. */
 #include <fcntl.h>
+#include <getopt.h>
 #include <signal.h>
 #include <stdbool.h>
 #include <stdio.h>
@@ -34,6 +35,24 @@ static const command commands[] = {
 };
 enum { COMMANDS = sizeof commands / sizeof commands[0] };
 
+static const struct option program_options[] = {
+    {"help", no_argument, NULL, 'h'},
+    {"version", no_argument, NULL, 'v'},
+    {NULL, 0, NULL, 0},
+};
+
+/* A command's options; the first is for those that write. */
+static const struct option command_options[] = {
+    {"output", required_argument, NULL, 'o'},
+    {"help", no_argument, NULL, 'h'},
+    {NULL, 0, NULL, 0},
+};
+
+/* What a command's arguments ask for. */
+typedef enum { TO_RUN, FOR_HELP, NOT_UNDERSTOOD } request;
+
+enum { OPERAND = 1 }; /* what getopt_long answers for one, where letters begin with a minus */
+
 /* Prints how the program is used. */
 static void put_usage(FILE *to)
 {
@@ -41,43 +60,63 @@ static void put_usage(FILE *to)
     for (size_t i = 0; i < COMMANDS; i++)
         fprintf(to, "  bai2 %-7s %-18s  %s\n", commands[i].name, commands[i].operands,
                 commands[i].purpose);
-    fputs("A FILE of - is standard input. Status: 0 accepted, 1 refused or not readable, 2 wrong usage,\n"
-          "3 the answer can't be written or shown. See bai2(1).\n", to);
+    fputs("A FILE of - is standard input. A COMMAND with --help tells its options. Status: 0 accepted,\n"
+          "1 refused or not readable, 2 wrong usage, 3 the answer can't be written or shown. See bai2(1).\n",
+          to);
 }
 
-/* Tells how one command is used. */
-static int misuse(const command *c)
+/* Prints how one command is used. */
+static void put_command_usage(FILE *to, const command *c)
 {
-    fprintf(stderr, "usage: bai2 %s %s\n", c->name, c->operands);
-    return MISUSED;
+    fprintf(to, "usage: bai2 %s %s\n", c->name, c->operands);
 }
 
-/* Sorts a command's arguments into options and operands; false where they are not understood. */
-static bool sort_arguments(const command *c, char **given, arguments *a)
+/* Prints how one command is used, and what it is for. */
+static void put_command_help(const command *c)
 {
-    bool options = true;
-    for (; *given != NULL; given++) {
-        if (options && strcmp(*given, "--") == 0) {
-            options = false;
-        } else if (options && c->writes && strcmp(*given, "-o") == 0) {
-            a->out = *++given;
-            if (a->out == NULL)
-                return false;
-        } else if (options && (*given)[0] == '-' && (*given)[1] != '\0') {
-            complain("%s: unknown option %s", c->name, *given);
-            return false;
-        } else {
-            a->operands[a->count++] = *given;
+    put_command_usage(stdout, c);
+    printf("  %s\n", c->purpose);
+    if (c->writes)
+        puts("  -o OUT, --output=OUT  writes to the file OUT instead of standard output");
+    puts("  -h, --help            says how the command is used");
+}
+
+/* Takes what stands after -- as operands; whether the command takes so many as there are now. */
+static request take_rest(const command *c, int argc, char **argv, arguments *a)
+{
+    while (optind < argc)
+        a->operands[a->count++] = argv[optind++];
+    return a->count >= c->least && a->count <= c->most ? TO_RUN : NOT_UNDERSTOOD;
+}
+
+/* Sorts a command's arguments, of which the first is its name, into options and operands. */
+static request sort_arguments(const command *c, int argc, char **argv, arguments *a)
+{
+    const char *letters = c->writes ? "-:ho:" : "-:h"; /* options may stand after operands */
+    const struct option *options = c->writes ? command_options : command_options + 1;
+    optind = 0; /* which has getopt_long begin anew */
+    for (;;) {
+        const char *word = argv[optind == 0 ? 1 : optind];
+        switch (getopt_long(argc, argv, letters, options, NULL)) {
+        case OPERAND: a->operands[a->count++] = optarg; break;
+        case 'o': a->out = optarg; break;
+        case 'h': return FOR_HELP;
+        case -1: return take_rest(c, argc, argv, a);
+        case ':': complain("%s: option %s needs a file", c->name, word); return NOT_UNDERSTOOD;
+        default: complain("%s: unknown option %s", c->name, word); return NOT_UNDERSTOOD;
         }
     }
-    return a->count >= c->least && a->count <= c->most;
 }
 
-/* Runs a command with the arguments behind its name. */
-static int run(const command *c, char **given)
+/* Runs a command with its arguments, of which the first is its name. */
+static int run(const command *c, int argc, char **argv)
 {
-    arguments a = {.operands = given}; /* operands only move forward over what was read */
-    return sort_arguments(c, given, &a) ? c->run(&a) : misuse(c);
+    arguments a = {.operands = argv}; /* operands only move forward over what was read */
+    switch (sort_arguments(c, argc, argv, &a)) {
+    case TO_RUN: return c->run(&a);
+    case FOR_HELP: put_command_help(c); return printed();
+    default: put_command_usage(stderr, c); return MISUSED;
+    }
 }
 
 /* Keeps the standard descriptors taken, so that no file is opened in the place of a closed one;
@@ -90,25 +129,36 @@ static void keep_standard_descriptors(void)
 }
 
 /* Finds the command and runs it. */
+static int run_named(int argc, char **argv)
+{
+    const char *name = argc > 0 ? argv[0] : "";
+    if (strcmp(name, "help") == 0) {
+        put_usage(stdout);
+        return printed();
+    }
+    for (size_t i = 0; i < COMMANDS; i++)
+        if (strcmp(name, commands[i].name) == 0)
+            return run(&commands[i], argc, argv);
+    if (*name != '\0')
+        complain("unknown command %s", name);
+    put_usage(stderr);
+    return MISUSED;
+}
+
+/* Answers the program's own options, or runs the command. */
 int main(int argc, char **argv)
 {
     keep_standard_descriptors();
     signal(SIGPIPE, SIG_IGN); /* so that a closed pipe is told as any failed write */
     signal(SIGXFSZ, SIG_IGN); /* and a file size limit too */
-    const char *name = argc > 1 ? argv[1] : "";
-    if (strcmp(name, "--help") == 0 || strcmp(name, "-h") == 0 || strcmp(name, "help") == 0) {
-        put_usage(stdout);
-        return flush_standard_output() ? GOOD : TROUBLE;
+    opterr = 0;               /* what is wrong is told here */
+    switch (getopt_long(argc, argv, "+h", program_options, NULL)) {
+    case 'h': put_usage(stdout); return printed();
+    case 'v': puts("bai2 " VERSION); return printed();
+    case -1: return run_named(argc - optind, argv + optind);
+    default:
+        complain("unknown option %s", argv[1]);
+        put_usage(stderr);
+        return MISUSED;
     }
-    if (strcmp(name, "--version") == 0) {
-        puts("bai2 " VERSION);
-        return flush_standard_output() ? GOOD : TROUBLE;
-    }
-    for (size_t i = 0; i < COMMANDS; i++)
-        if (strcmp(name, commands[i].name) == 0)
-            return run(&commands[i], argv + 2);
-    if (*name != '\0')
-        complain("unknown command %s", name);
-    put_usage(stderr);
-    return MISUSED;
 }

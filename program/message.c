@@ -38,7 +38,7 @@ void put_name(FILE *to, const char *name)
     }
 }
 
-/* Tells a trouble in one line, behind the program's name. */
+/* Tells a trouble in one line, after the program's name. */
 void complain(const char *format, ...)
 {
     char text[LONGEST_MESSAGE];

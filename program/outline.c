@@ -30,24 +30,18 @@ slice bytes_of(const outline *o, size_t i)
     return part_of(o->file, o->records[i].start, o->records[i].length);
 }
 
-/* The record code that a line begins with. */
-static unsigned code_at(slice file, size_t start)
-{
-    return (unsigned)number_of(part_of(file, start, 2));
-}
-
-/* Finds the records; false where they are more than the library's count of lines. */
+/* Finds the records; false where a line is of none, or where there are not as many lines as the
+   library counted. */
 static bool find_records(outline *o)
 {
-    enum { CONTINUATION = 88 };
     uint64_t lines = 0;
     for (size_t at = 0; at < o->file.length; lines++) {
         size_t next = line_at(o->file, at).next;
-        unsigned code = code_at(o->file, at);
-        if (lines == o->summary.records || (code == CONTINUATION && o->count == 0))
+        record_code code = code_at(o->file, at);
+        if (lines == o->summary.records || code == NO_CODE || (code == CONTINUATION && o->count == 0))
             return false;
         if (code != CONTINUATION)
-            o->records[o->count++] = (found_record){(record_code)code, (uint32_t)at, 0, 0};
+            o->records[o->count++] = (found_record){code, (uint32_t)at, 0, 0};
         found_record *last = &o->records[o->count - 1];
         last->length = (uint32_t)(next - last->start);
         at = next;

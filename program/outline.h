@@ -4,20 +4,11 @@
 
 #include "bai2.h"
 #include "bytes.h"
-
-typedef enum {
-    FILE_HEADER = 1,
-    GROUP_HEADER = 2,
-    ACCOUNT_HEADER = 3,
-    DETAIL = 16,
-    ACCOUNT_TRAILER = 49,
-    GROUP_TRAILER = 98,
-    FILE_TRAILER = 99
-} record_code;
+#include "codes.h"
 
 /* One record with its 88 lines. A file's places fit in 32 bits, and large files have many records. */
 typedef struct {
-    record_code code;
+    record_code code;       /* not CONTINUATION */
     uint32_t start, length; /* its bytes, line ends included */
     uint32_t closing;       /* 02 and 03: the trailer's index */
 } found_record;

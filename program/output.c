@@ -11,6 +11,7 @@
 
 #include "message.h"
 #include "signals.h"
+#include "status.h"
 
 /* What signals need: the temporary file to be removed, empty while there is none. */
 static char unfinished[PATH_MAX];
@@ -145,4 +146,10 @@ bool flush_standard_output(void)
         return true;
     complain("can't write standard output: %s", strerror(errno));
     return false;
+}
+
+/* How the program ends after an answer that was printed: good, or with the trouble told. */
+int printed(void)
+{
+    return flush_standard_output() ? GOOD : TROUBLE;
 }

@@ -6,5 +6,6 @@
 
 bool write_result(const char *path, slice result);
 bool flush_standard_output(void);
+int printed(void);
 
 #endif

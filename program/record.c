@@ -3,14 +3,16 @@
 
 #include <string.h>
 
-enum { BEHIND_CODE = 3, DIGITS = 18 };
+#include "codes.h"
 
-/* Sets the walk on the line that starts here, behind its code; no more where there is none. */
+enum { DIGITS = 18 };
+
+/* Sets the walk on the line that starts here, after its code; no more where there is none. */
 static void enter_line(fields *walk, size_t start)
 {
     line l = line_at(walk->record, start);
     size_t left = l.end - l.start;
-    walk->at = l.start + (left < BEHIND_CODE ? left : BEHIND_CODE);
+    walk->at = l.start + (left < AFTER_CODE ? left : AFTER_CODE);
     walk->line_end = l.end;
     walk->next = l.next;
     walk->more = start < walk->record.length;
@@ -24,7 +26,7 @@ static fields walk_of(slice record)
     return walk;
 }
 
-/* The next field; the walk moves behind it. Empty where there is no more. */
+/* The next field; the walk moves past it. Empty where there is no more. */
 static slice next_field(fields *walk)
 {
     if (!walk->more)
@@ -40,7 +42,7 @@ static slice next_field(fields *walk)
     return (slice){bytes + start, end - start};
 }
 
-/* The funds that come next; the walk moves behind their values. */
+/* The funds that come next; the walk moves past their values. */
 static funds next_funds(fields *walk)
 {
     funds f = {.kind = next_field(walk)};
@@ -139,7 +141,7 @@ trailer read_trailer(slice record)
 {
     fields walk = walk_of(record);
     trailer t = {.total = next_field(&walk), .count = part_of(record, 0, 0)};
-    if (!same_text(part_of(record, 0, BEHIND_CODE), "49,"))
+    if (code_at(record, 0) != ACCOUNT_TRAILER)
         t.count = next_field(&walk);
     t.records = next_field(&walk);
     return t;
@@ -170,13 +172,13 @@ int64_t units_of(slice amount)
     return amount.length > 0 && *amount.bytes == '-' ? -units : units;
 }
 
-/* The amount as it is shown: a minus as written, no leading zeros, nothing where it is empty. Minor
-   units stay minor units, since the file does not say how many decimals a currency has. */
-const char *put_figure(char room[FIGURE_ROOM], slice amount)
+/* An amount or item count as it is shown: a minus as written, no leading zeros, nothing where it is
+   empty. Minor units stay minor units, since the file does not say how many decimals a currency has. */
+const char *put_amount(char room[AMOUNT_ROOM], slice amount)
 {
     slice digits = part_of(plain_digits(amount), 0, DIGITS);
     const char *sign = amount.length > 0 && *amount.bytes == '-' ? "-" : "";
-    snprintf(room, FIGURE_ROOM, "%s%.*s", sign, SLICE(digits));
+    snprintf(room, AMOUNT_ROOM, "%s%.*s", sign, SLICE(digits));
     return room;
 }
 
@@ -213,16 +215,16 @@ const char *put_funds(char room[FUNDS_ROOM], const funds *f)
 bool next_funds_part(char room[FUNDS_ROOM], funds *f)
 {
     static const char *const when[] = {"at once", "in one day", "in two days or later"};
-    char figure[FIGURE_ROOM];
+    char amount[AMOUNT_ROOM];
     if (f->taken >= f->parts || !f->values.more)
         return false;
     if (same_text(f->kind, "S")) {
-        put_figure(figure, next_field(&f->values));
-        snprintf(room, FUNDS_ROOM, "%s: %s", when[f->taken], *figure == '\0' ? "not given" : figure);
+        put_amount(amount, next_field(&f->values));
+        snprintf(room, FUNDS_ROOM, "%s: %s", when[f->taken], *amount == '\0' ? "not given" : amount);
     } else {
         unsigned days = (unsigned)number_of(next_field(&f->values));
-        put_figure(figure, next_field(&f->values));
-        snprintf(room, FUNDS_ROOM, "in %u day%s: %s", days, days == 1 ? "" : "s", figure);
+        put_amount(amount, next_field(&f->values));
+        snprintf(room, FUNDS_ROOM, "in %u day%s: %s", days, days == 1 ? "" : "s", amount);
     }
     f->taken++;
     return true;

@@ -6,7 +6,7 @@
 #include "bytes.h"
 
 enum {
-    FIGURE_ROOM = 24, /* an amount as it is shown: sign, 18 digits, end */
+    AMOUNT_ROOM = 24, /* an amount as it is shown: sign, 18 digits, end */
     DAY_ROOM = 32,    /* a date and a time as they are shown */
     FUNDS_ROOM = 64   /* funds as they are shown */
 };
@@ -28,7 +28,7 @@ typedef struct {
     slice receiver, originator, status, date, time, currency, modifier;
 } group_header;
 
-/* Funds: their kind, the walk over the values behind it; S and D: how many amounts, and how many of
+/* Funds: their kind, the walk over the values after it; S and D: how many amounts, and how many of
    them were taken. */
 typedef struct {
     slice kind;
@@ -70,7 +70,7 @@ trailer read_trailer(slice record);
 
 int64_t units_of(slice amount);
 uint64_t number_of(slice digits);
-const char *put_figure(char room[FIGURE_ROOM], slice amount);
+const char *put_amount(char room[AMOUNT_ROOM], slice amount);
 const char *put_day(char room[DAY_ROOM], slice date, slice time);
 const char *put_funds(char room[FUNDS_ROOM], const funds *f);
 bool next_funds_part(char room[FUNDS_ROOM], funds *f);

@@ -4,6 +4,7 @@
 #include <inttypes.h>
 #include <string.h>
 
+#include "codes.h"
 #include "message.h"
 
 enum {
@@ -12,19 +13,19 @@ enum {
     LONGEST_CONTEXT = 60
 };
 
-/* A line's bytes that are shown, and whether some are left out before or behind them. */
+/* A line's bytes that are shown, and whether some are left out before or after them. */
 typedef struct {
     size_t from, to;
-    bool cut_before, cut_behind;
+    bool cut_before, cut_after;
 } excerpt;
 
 /* Whether a refusal of this number has a place in the file that is worth showing. */
 bool stands_in_file(uint64_t number)
 {
-    return number >= 3 && number <= 14;
+    return number >= BAI2_LINE_TOO_LONG && number <= BAI2_SUM_TOO_LARGE;
 }
 
-/* Writes a text in lines of at most so many columns, each behind an indent. */
+/* Writes a text in lines of at most so many columns, each after an indent. */
 void put_wrapped(FILE *to, const char *text, size_t indent, size_t columns)
 {
     size_t used = 0;
@@ -72,24 +73,25 @@ static void put_line_and_caret(FILE *to, slice file, size_t place)
     excerpt e = excerpt_around(file, l, place);
     fprintf(to, "%8zu | %s", line_number(file, place), e.cut_before ? "..." : "");
     put_bytes(to, part_of(file, e.from, e.to - e.from));
-    fprintf(to, "%s\n", e.cut_behind ? "..." : "");
+    fprintf(to, "%s\n", e.cut_after ? "..." : "");
     put_caret(to, file, e, place);
 }
 
-/* Whether the line at this place begins with that code and its comma. */
-static bool has_code(slice file, size_t start, const char *code)
+/* The code of the record that a trailer of this code closes; NO_CODE for any other record. */
+static record_code opening_code(record_code trailer)
 {
-    return same_text(part_of(file, start, 3), code);
+    if (trailer == ACCOUNT_TRAILER)
+        return ACCOUNT_HEADER;
+    return trailer == GROUP_TRAILER ? GROUP_HEADER : NO_CODE;
 }
 
 /* Where the record starts that this line's trailer closes; the line itself where it is none. */
 static size_t opening_of(slice file, line l)
 {
-    const char *opening = has_code(file, l.start, "49,") ? "03,"
-                        : has_code(file, l.start, "98,") ? "02," : NULL;
-    for (line before = l; opening != NULL && before.start > 0;) {
+    record_code opening = opening_code(code_at(file, l.start));
+    for (line before = l; opening != NO_CODE && before.start > 0;) {
         before = line_of(file, before.start - 1);
-        if (has_code(file, before.start, opening))
+        if (code_at(file, before.start) == opening)
             return before.start;
     }
     return l.start;
@@ -99,7 +101,7 @@ static size_t opening_of(slice file, line l)
    wrong trailer closes, the last line where the file ends too early; else the refused line. */
 static size_t context_of(slice file, uint64_t number, line l)
 {
-    if (number >= 11 && number <= 14)
+    if (number >= BAI2_WRONG_TOTAL && number <= BAI2_SUM_TOO_LARGE)
         return opening_of(file, l);
     if (l.start > 0 && l.start == file.length)
         return line_of(file, l.start - 1).start;
@@ -121,7 +123,7 @@ static void put_context(FILE *to, slice file, uint64_t number, size_t place)
         fprintf(to, "%8s :\n", "");
 }
 
-/* Tells a refusal in one line, behind whatever the caller wrote before. */
+/* Tells a refusal in one line, after whatever the caller wrote before. */
 void tell_refusal_briefly(FILE *to, slice file, uint64_t number, uint64_t place)
 {
     fprintf(to, "refused %" PRIu64, number);

@@ -2,9 +2,10 @@
 #ifndef REFUSAL_H
 #define REFUSAL_H
 
+#include "bai2.h"
 #include "bytes.h"
 
-enum { REFUSALS = 20 };
+enum { REFUSALS = BAI2_WRONG_FIELD_GIVEN }; /* their numbers begin with 1 */
 
 /* A refusal's number explained: in a few words, in full, and what to do about it. */
 typedef struct {

@@ -1,12 +1,11 @@
-/* The screen of a refused file: its lines, the refused byte marked, and what the refusal means. */
+/* The screen of a refused file: its lines, the refused byte standing out, and what the refusal means. */
 #include <inttypes.h>
 #include <stdlib.h>
 #include <string.h>
 
+#include "escapes.h"
 #include "refusal.h"
 #include "screen.h"
-
-#define ESCAPE "\033"
 
 enum {
     GUTTER = 10,     /* a line's number and a bar */
@@ -35,7 +34,7 @@ static size_t start_before(slice file, size_t start)
     return start == 0 ? 0 : line_of(file, start - 1).start;
 }
 
-/* Whether this is the start of the file's last line, or behind it. */
+/* Whether this is the start of the file's last line, or the file's end. */
 static bool is_last(slice file, size_t start)
 {
     return line_at(file, start).next >= file.length;
@@ -85,12 +84,12 @@ static void draw_line_bytes(const refusal_screen *s, const canvas *c, line l)
         cells += cells_of(s->file.bytes[i]);
         if (cells > room)
             break;
-        bool marked = i == s->place && stands_in_file(s->number);
-        fputs(marked ? ESCAPE "[7m" : "", c->to);
+        bool refused = i == s->place && stands_in_file(s->number);
+        fputs(refused ? REVERSE_LOOK : "", c->to);
         put_byte(c->to, s->file.bytes[i]);
-        fputs(marked ? ESCAPE "[0m" : "", c->to);
+        fputs(refused ? PLAIN_LOOK : "", c->to);
     }
-    fputs(ESCAPE "[K", c->to);
+    fputs(WIPE_REST_OF_ROW, c->to);
 }
 
 /* Draws the caret under the refused byte, where the byte is on the canvas. */
@@ -100,7 +99,7 @@ static void draw_caret(const refusal_screen *s, const canvas *c, size_t row, lin
     for (size_t i = from; i < s->place && i < l.end; i++)
         cells += cells_of(s->file.bytes[i]);
     bool seen = s->place >= from && cells < body_columns(c);
-    fprintf(c->to, ESCAPE "[%zu;1H" ESCAPE "[0m%7s | %*s%s" ESCAPE "[K", row + 1, "",
+    fprintf(c->to, GO_TO_ROW PLAIN_LOOK "%7s | %*s%s" WIPE_REST_OF_ROW, row + 1, "",
             seen ? (int)cells : 0, "", seen ? "^" : "");
 }
 
@@ -108,20 +107,20 @@ static void draw_caret(const refusal_screen *s, const canvas *c, size_t row, lin
 static void draw_lines(const refusal_screen *s, const canvas *c)
 {
     size_t number = line_number(s->file, s->top), at = s->top;
-    bool marked = stands_in_file(s->number);
+    bool awaited = stands_in_file(s->number); /* whether the refused line is still to come */
     size_t refused = line_of(s->file, s->place).start;
     for (size_t row = 1; row <= body_rows(c); row++) {
-        fprintf(c->to, ESCAPE "[%zu;1H" ESCAPE "[0m", row + 1);
-        if (at == s->file.length && !(marked && at == refused)) {
-            fputs(ESCAPE "[K", c->to);
+        fprintf(c->to, GO_TO_ROW PLAIN_LOOK, row + 1);
+        if (at == s->file.length && !(awaited && at == refused)) {
+            fputs(WIPE_REST_OF_ROW, c->to);
             continue;
         }
         line l = line_at(s->file, at);
         fprintf(c->to, "%7zu | ", number++);
         draw_line_bytes(s, c, l);
-        if (marked && l.start == refused && row < body_rows(c))
+        if (awaited && l.start == refused && row < body_rows(c))
             draw_caret(s, c, ++row, l);
-        marked = marked && l.start != refused;
+        awaited = awaited && l.start != refused;
         at = l.next;
     }
 }

@@ -16,7 +16,7 @@ enum { TYPE_INDENT = 4, LEAST_LABEL = 14, LABEL_ROOM = 40 };
 /* One row of an account's table. */
 typedef struct {
     slice cells[COLUMNS];
-    char amount[FIGURE_ROOM], count[FIGURE_ROOM], funds[FUNDS_ROOM];
+    char amount[AMOUNT_ROOM], count[AMOUNT_ROOM], funds[FUNDS_ROOM];
 } row;
 
 /* The report's layout: column widths, 0 for a column that is empty in the whole file. */
@@ -32,7 +32,7 @@ static slice slice_of(const char *text)
     return (slice){(const uint8_t *)text, strlen(text)};
 }
 
-/* The word with an s behind it where there is not exactly one. */
+/* A count and its word, with an s where there is not exactly one. */
 static void put_counted(FILE *to, uint64_t count, const char *word)
 {
     fprintf(to, "%" PRIu64 " %s%s", count, word, count == 1 ? "" : "s");
@@ -41,7 +41,7 @@ static void put_counted(FILE *to, uint64_t count, const char *word)
 /* Sets a row's amount. */
 static void set_amount(row *r, slice amount)
 {
-    r->cells[AMOUNT] = slice_of(put_figure(r->amount, amount));
+    r->cells[AMOUNT] = slice_of(put_amount(r->amount, amount));
 }
 
 /* The cells of an item's row. */
@@ -49,7 +49,7 @@ static void item_row(row *r, const item *i)
 {
     *r = (row){0};
     set_amount(r, i->amount);
-    r->cells[COUNT] = slice_of(put_figure(r->count, i->count));
+    r->cells[COUNT] = slice_of(put_amount(r->count, i->count));
     r->cells[FUNDS] = slice_of(put_funds(r->funds, &i->funds));
 }
 
@@ -78,23 +78,42 @@ static void widen(layout *l, const row *r)
     }
 }
 
+/* Widens the columns for an account's items. */
+static void measure_items(layout *l, slice bytes)
+{
+    account_header h = read_account_header(bytes);
+    row r;
+    for (item i; next_item(&h.items, &i);) {
+        item_row(&r, &i);
+        widen(l, &r);
+    }
+}
+
+/* Widens the columns for a detail. */
+static void measure_detail(layout *l, slice bytes)
+{
+    detail d = read_detail(bytes);
+    row r;
+    detail_row(&r, &d);
+    widen(l, &r);
+}
+
+/* Widens the columns for a trailer's total. */
+static void measure_trailer(layout *l, slice bytes)
+{
+    row r = {0};
+    set_amount(&r, read_trailer(bytes).total);
+    widen(l, &r);
+}
+
 /* Widens the columns for all rows of one record. */
 static void measure_record(layout *l, record_code code, slice bytes)
 {
-    row r = {0};
-    if (code == ACCOUNT_HEADER) {
-        account_header h = read_account_header(bytes);
-        for (item i; next_item(&h.items, &i);) {
-            item_row(&r, &i);
-            widen(l, &r);
-        }
-    } else if (code == DETAIL) {
-        detail d = read_detail(bytes);
-        detail_row(&r, &d);
-        widen(l, &r);
-    } else if (code >= ACCOUNT_TRAILER) {
-        set_amount(&r, read_trailer(bytes).total);
-        widen(l, &r);
+    switch (code) {
+    case ACCOUNT_HEADER: measure_items(l, bytes); break;
+    case DETAIL: measure_detail(l, bytes); break;
+    case ACCOUNT_TRAILER: case GROUP_TRAILER: case FILE_TRAILER: measure_trailer(l, bytes); break;
+    default: break;
     }
 }
 
@@ -109,7 +128,7 @@ static layout layout_for(FILE *to, const outline *o)
     return l;
 }
 
-/* Writes a row: its label, then each column; nothing behind the last cell that has something. */
+/* Writes a row: its label, then each column; nothing after the last cell that has something. */
 static void put_row(const layout *l, slice label, const row *r)
 {
     fprintf(l->to, "%-*.*s", (int)l->label, SLICE(label));
@@ -156,7 +175,7 @@ static void put_funds_rows(const layout *l, funds *f)
         put_cell_row(l, FUNDS, slice_of(words));
 }
 
-/* Writes a row behind a type. */
+/* Writes a row that begins with a type. */
 static void put_typed_row(const layout *l, slice type, const row *r)
 {
     char label[LABEL_ROOM];
@@ -225,14 +244,14 @@ static void put_group(FILE *to, uint64_t number, slice bytes)
     fputc('\n', to);
 }
 
-/* Writes a total behind its label, and in words what it closes. */
+/* Writes a total after its label, and in words what it closes. */
 static void put_total(const layout *l, const char *label, int64_t total, uint64_t count, const char *what)
 {
     fprintf(l->to, "%-*s  %*" PRId64 "  ", (int)l->label, label, (int)l->widths[AMOUNT], total);
     put_counted(l->to, count, what);
 }
 
-/* Writes behind a total how many records it closes. */
+/* Writes, after a total, how many records it closes. */
 static void put_records(const layout *l, uint64_t records)
 {
     fputs(", ", l->to);
@@ -285,6 +304,7 @@ void put_report(FILE *to, const outline *o)
         case ACCOUNT_TRAILER: put_account_total(&l, bytes, details); break;
         case GROUP_TRAILER: put_group_total(&l, bytes, group); break;
         case FILE_TRAILER: put_file_total(&l, o->summary); break;
+        default: break;
         }
     }
 }

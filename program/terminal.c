@@ -10,14 +10,13 @@
 #include <termios.h>
 #include <unistd.h>
 
+#include "escapes.h"
 #include "message.h"
 #include "signals.h"
 
-#define ESCAPE "\033"
-
-/* Other screen, cursor hidden, no wrapping at the right edge; and back. */
-static const char take_codes[] = ESCAPE "[?1049h" ESCAPE "[?25l" ESCAPE "[?7l";
-static const char give_codes[] = ESCAPE "[?7h" ESCAPE "[?25h" ESCAPE "[0m" ESCAPE "[?1049l";
+/* What takes the terminal's screen over, and what gives it back. */
+static const char taking[] = OTHER_SCREEN HIDE_CURSOR CUT_LONG_ROWS;
+static const char giving[] = WRAP_LONG_ROWS SHOW_CURSOR PLAIN_LOOK FIRST_SCREEN;
 
 enum { ROWS = 24, COLUMNS = 80, SEQUENCE_ROOM = 8, REST_OF_KEY = 50 /* milliseconds */ };
 
@@ -36,7 +35,7 @@ static void give_back(void)
 {
     if (taken < 0)
         return;
-    ssize_t put = write(taken, give_codes, sizeof give_codes - 1);
+    ssize_t put = write(taken, giving, sizeof giving - 1);
     (void)put; /* nothing is left to be done where the terminal is gone */
     tcsetattr(taken, TCSADRAIN, &before);
     taken = -1;
@@ -75,8 +74,8 @@ static bool take_over(int fd)
         taken = -1;
         return false;
     }
-    ssize_t put = write(fd, take_codes, sizeof take_codes - 1);
-    return put == (ssize_t)sizeof take_codes - 1;
+    ssize_t put = write(fd, taking, sizeof taking - 1);
+    return put == (ssize_t)sizeof taking - 1;
 }
 
 /* Asks how large the terminal is. */

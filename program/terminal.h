@@ -24,7 +24,7 @@ typedef enum {
     KEY_OTHER
 } key;
 
-/* What a view draws on: where the codes go, and how large it is. */
+/* What a view draws on: where its text goes, and how large it is. */
 typedef struct {
     FILE *to;
     size_t rows, columns;

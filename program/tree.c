@@ -187,7 +187,7 @@ static void reveal(tree *t, size_t i)
     lay_rows(t);
 }
 
-/* Finds the next record behind the row that has the needle, from the end on to the start again;
+/* Finds the next record after the row that has the needle, from the end on to the start again;
    it is opened and becomes the row. False where there is none. */
 bool find_in_tree(tree *t, size_t *row, slice needle)
 {

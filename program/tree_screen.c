@@ -94,35 +94,35 @@ static void put_note_label(char *label, const tree_screen *s, const tree_row *ro
 }
 
 /* The amount at the right edge of a group's or account's row: its trailer's total. */
-static void put_closing_total(char figure[FIGURE_ROOM], const tree_screen *s, const tree_row *row)
+static void put_closing_total(char amount[AMOUNT_ROOM], const tree_screen *s, const tree_row *row)
 {
     slice bytes = bytes_of(s->outline, s->outline->records[row->record].closing);
-    snprintf(figure, FIGURE_ROOM, "%" PRId64, units_of(read_trailer(bytes).total));
+    snprintf(amount, AMOUNT_ROOM, "%" PRId64, units_of(read_trailer(bytes).total));
 }
 
 /* A row's words and its amount, empty where it has none. */
-static void put_label(char *label, char figure[FIGURE_ROOM], const tree_screen *s, const tree_row *row)
+static void put_label(char *label, char amount[AMOUNT_ROOM], const tree_screen *s, const tree_row *row)
 {
     slice bytes = bytes_of(s->outline, row->record);
     item i;
-    figure[0] = '\0';
+    amount[0] = '\0';
     switch (row->kind) {
     case GROUP_ROW:
         put_group_label(label, row, bytes);
-        put_closing_total(figure, s, row);
+        put_closing_total(amount, s, row);
         return;
     case ACCOUNT_ROW:
         put_account_label(label, bytes);
-        put_closing_total(figure, s, row);
+        put_closing_total(amount, s, row);
         return;
     case DETAIL_ROW:
         put_detail_label(label, bytes);
-        put_figure(figure, read_detail(bytes).amount);
+        put_amount(amount, read_detail(bytes).amount);
         return;
     case ITEM_ROW:
         i = item_at(s, row);
         put_item_label(label, &i);
-        put_figure(figure, i.amount);
+        put_amount(amount, i.amount);
         return;
     default: put_note_label(label, s, row); return;
     }
@@ -135,18 +135,18 @@ static void draw_tree_row(const tree_screen *s, const canvas *c, size_t canvas_r
                                   [BANK_REFERENCE_ROW] = 8, [CUSTOMER_REFERENCE_ROW] = 8,
                                   [FUNDS_ROW] = 8, [FUNDS_PART_ROW] = 8, [TEXT_ROW] = 8};
     const tree_row *row = &s->tree.rows[index];
-    char label[LABEL_ROOM], text[LABEL_ROOM + 16], figure[FIGURE_ROOM];
-    put_label(label, figure, s, row);
-    const char *mark = !can_open(&s->tree, index) ? " " : s->tree.open[row->record] ? "-" : "+";
-    snprintf(text, sizeof text, "%*s%s %s", indents[row->kind], "", mark, label);
-    draw_row(c, canvas_row, index == s->row ? REVERSE : PLAIN, text, figure);
+    char label[LABEL_ROOM], text[LABEL_ROOM + 16], amount[AMOUNT_ROOM];
+    put_label(label, amount, s, row);
+    const char *fold = !can_open(&s->tree, index) ? " " : s->tree.open[row->record] ? "-" : "+";
+    snprintf(text, sizeof text, "%*s%s %s", indents[row->kind], "", fold, label);
+    draw_row(c, canvas_row, index == s->row ? REVERSE : PLAIN, text, amount);
 }
 
 /* Draws the title: the file's name, who sent it to whom, its total. */
 static void draw_title(const tree_screen *s, const canvas *c)
 {
     file_header h = read_file_header(bytes_of(s->outline, 0));
-    char text[LABEL_ROOM], day[DAY_ROOM], total[FIGURE_ROOM + 8];
+    char text[LABEL_ROOM], day[DAY_ROOM], total[AMOUNT_ROOM + 8];
     snprintf(text, sizeof text, "%.60s  %.*s to %.*s  %s", last_part(s->name), SLICE(h.sender),
              SLICE(h.receiver), put_day(day, h.date, h.time));
     snprintf(total, sizeof total, "total %" PRId64, s->outline->summary.total);

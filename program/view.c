@@ -3,7 +3,7 @@
 
 #include <string.h>
 
-#define ESCAPE "\033"
+#include "escapes.h"
 
 enum { NEEDLE_ROOM = 64, MESSAGE_ROOM = 96 };
 
@@ -24,7 +24,7 @@ const char *last_part(const char *path)
 /* Draws one row: a text cut to the width, and at the right edge what must be seen whole. */
 void draw_row(const canvas *c, size_t row, look how, const char *text, const char *right)
 {
-    static const char *const looks[] = {"", ESCAPE "[7m", ESCAPE "[1m"};
+    static const char *const looks[] = {[PLAIN] = "", [REVERSE] = REVERSE_LOOK, [BOLD] = BOLD_LOOK};
     size_t tail = strlen(right);
     size_t room = tail + 1 < c->columns ? c->columns - tail - (tail > 0 ? 1 : 0) : c->columns;
     size_t length = strlen(text);
@@ -32,10 +32,10 @@ void draw_row(const canvas *c, size_t row, look how, const char *text, const cha
         length = room;
     if (room == c->columns)
         tail = 0;
-    fprintf(c->to, ESCAPE "[%zu;1H" ESCAPE "[0m%s", row + 1, looks[how]);
+    fprintf(c->to, GO_TO_ROW PLAIN_LOOK "%s", row + 1, looks[how]);
     for (size_t i = 0; i < length; i++)
         fputc(is_printable((uint8_t)text[i]) ? text[i] : '?', c->to);
-    fprintf(c->to, "%*s%s" ESCAPE "[0m", (int)(c->columns - length - tail), "", tail > 0 ? right : "");
+    fprintf(c->to, "%*s%s" PLAIN_LOOK, (int)(c->columns - length - tail), "", tail > 0 ? right : "");
 }
 
 /* Draws the last row: the search being typed, a message, or the keys. */
@@ -86,7 +86,7 @@ static bool take_key(const canvas *c, const view *v, dialog *d, key k)
     if (k == KEY_GONE)
         return false;
     if (k == KEY_RESIZED) {
-        fputs(ESCAPE "[0m" ESCAPE "[2J", c->to);
+        fputs(PLAIN_LOOK WIPE_SCREEN, c->to);
         v->press(v->state, c, k);
         return true;
     }

@@ -9,11 +9,7 @@
 #include "output.h"
 #include "refusal.h"
 
-enum {
-    TRAILER_ROOM = 64, /* more than a fresh 99 ever takes */
-    RECEIVER_ROOM = 128,
-    NOT_A_NAME = 16 /* the refusal that is about the name asked for */
-};
+enum { RECEIVER_ROOM = 128 };
 
 /* Says so where a result has no group at all; the result is right, but may surprise. */
 static void note_no_group(const char *name, const input *in, slice result)
@@ -27,7 +23,7 @@ static void tell_split_refusal(const char *name, const input *in, bai2_answer an
 {
     char receiver[RECEIVER_ROOM];
     snprintf(receiver, sizeof receiver, "receiver '%.100s'", name);
-    if (answer.number == NOT_A_NAME)
+    if (answer.number == BAI2_NOT_A_NAME)
         tell_refusal_without_place(stderr, receiver, answer.number);
     else
         tell_refusal(stderr, in->name, in->file, answer.number, answer.place);
@@ -40,7 +36,7 @@ int split_command(const arguments *a)
     input in;
     if (!load(&in, a->operands[1]))
         return REFUSED;
-    size_t room = in.file.length + TRAILER_ROOM;
+    size_t room = in.file.length + BAI2_TRAILER_ROOM;
     uint8_t *out = room_for(room, 1);
     bai2_answer answer = bai2_split((const uint8_t *)name, strlen(name), in.file.bytes,
                                     in.file.length, out, room);
@@ -68,7 +64,7 @@ static void tell_combine_refusal(const input *first, const input *second, bai2_c
 /* Combines two files that were read, and writes the result. */
 static int combine(const input *first, const input *second, const char *path)
 {
-    size_t room = first->file.length + second->file.length + TRAILER_ROOM;
+    size_t room = first->file.length + second->file.length + BAI2_TRAILER_ROOM;
     uint8_t *out = room_for(room, 1);
     bai2_combined answer = bai2_combine(first->file.bytes, first->file.length, second->file.bytes,
                                         second->file.length, out, room);

@@ -9,7 +9,7 @@ work=$(mktemp -d)
 bai2=$work/bai2
 trap 'rm -rf "$work"' EXIT
 
-need_x86
+check 'make and a C compiler for x86-64 are here' need_x86
 
 # Builds by the Makefile of program/: build FOLDER [VARIABLE=VALUE..] [TARGET..].
 build() {
@@ -42,7 +42,7 @@ stand_in() {
 
 # Sets $native to the variables of a native build, which sanitizers, valgrind, fuzzer and preloaded libraries need.
 choose_native() {
-    need gcc gcc
+    need gcc gcc 'programs that run under the sanitizers'
     native=(CC=gcc)
     [ -z "$X86_RUN" ] && return
     tell "the library is for x86-64 and this is $(uname -m): checked here is the C around it, with the independent implementation in its place"
@@ -81,6 +81,21 @@ gave() {
         [[ $said == *"$part"* ]] || { echo "not said: $part"; echo "$said" | head -n 40; return 1; }
     done
     [ "$status" -eq "$wanted" ] || { echo "status $status instead of $wanted"; echo "$said" | head -n 40; return 1; }
+}
+
+# Whether the last run had that status and each of these was one of its lines.
+gave_lines() {
+    local wanted=$1 line
+    shift
+    for line; do
+        grep -qxF -e "$line" <<<"$said" || { echo "no such line: $line"; echo "$said" | head -n 40; return 1; }
+    done
+    gave "$wanted"
+}
+
+# Whether the last run had that status and said this and no more.
+gave_exactly() {
+    gave "$1" && { [ "$said" = "$2" ] || { diff <(echo "$2") <(echo "$said"); false; }; }
 }
 
 # Bytes of a file with one group, so many accounts and so many details in each.

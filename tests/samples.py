@@ -1,5 +1,5 @@
 #!/usr/bin/env python3
-"""samples.py FOLDER: writes the samples of crate `samples` into FOLDER: data/, args and stdout.
+"""samples.py FOLDER: writes the samples of crate `run_samples` into FOLDER: data/, args and stdout.
 
 Each expected answer is worked out by hand from document 01, in the comment above its sample. For a
 refusal the sample also names the bytes that stand at the place, and the script stops where they
@@ -10,6 +10,8 @@ of 10 is met first)."""
 import os
 import sys
 
+if len(sys.argv) != 2:
+    sys.exit("usage: samples.py FOLDER")
 FOLDER = sys.argv[1]
 EXPECTED = []
 
@@ -29,11 +31,12 @@ def write_list(name, rows):
 
 
 def accepted(name, data, total, groups, accounts, details, records):
+    """Stores a sample that is accepted with these figures."""
     store(name, data, f"ok {total} {groups} {accounts} {details} {records}")
 
 
 def refused(name, data, number, place, found):
-    """`found` is what stands at the place; b"" means that the file ends there."""
+    """Stores a sample that is refused; `found` stands at the place, b"" where the file ends there."""
     assert data[place:].startswith(found) and (found or place == len(data)), (name, data[place:][:20])
     store(name, data, f"refused {number} {place}")
 
@@ -77,14 +80,14 @@ def k1(**changed):
 
 
 def detail(row, *more):
-    """K1 with another 16 (with 88s behind it) worth 1500, so that all totals stay."""
+    """K1 with another 16 (with 88s after it) worth 1500, so that all totals stay."""
     n = len(more)
     return lines(*K1[:3], row, *more, b"49,1000,%d/" % (3 + n), b"98,1000,1,%d/" % (5 + n),
                  b"99,1000,1,%d/" % (7 + n))
 
 
 def account(row, *more):
-    """K1 with another 03 (with 88s behind it) worth -500, so that all totals stay."""
+    """K1 with another 03 (with 88s after it) worth -500, so that all totals stay."""
     n = len(more)
     return lines(*K1[:2], row, *more, K1[3], b"49,1000,%d/" % (3 + n),
                  b"98,1000,1,%d/" % (5 + n), b"99,1000,1,%d/" % (7 + n))
@@ -96,19 +99,19 @@ def account(row, *more):
 accepted("k01.bai", k1(), 1000, 1, 1, 1, 7)
 # A CR directly before the LF belongs to the line end.
 accepted("k01_crlf.bai", k1().replace(b"\n", b"\r\n"), 1000, 1, 1, 1, 7)
-# Both kinds in one file: CR LF behind 01, 03, 49 and 99 only.
+# Both kinds in one file: CR LF after 01, 03, 49 and 99 only.
 accepted("k01_mixed_ends.bai",
          b"".join(row + (b"\r\n" if i % 2 == 0 else b"\n") for i, row in enumerate(K1)),
          1000, 1, 1, 1, 7)
 # The last line may lack its end.
 accepted("k01_no_last_end.bai", k1()[:-1], 1000, 1, 1, 1, 7)
 accepted("k01_crlf_no_last_end.bai", k1().replace(b"\n", b"\r\n")[:-2], 1000, 1, 1, 1, 7)
-# A CR at the very end is not before an LF: a byte not allowed, 187 bytes behind the file's start
+# A CR at the very end is not before an LF: a byte not allowed, 187 bytes after the file's start
 # (188 less the LF that it stands for).
 refused("cr_at_end.bai", k1()[:-1] + b"\r", 4, 187, b"\r")
 # The first of two CRs belongs to the line, not to its end: line 1 has 41 bytes, so byte 41.
 refused("cr_cr_lf.bai", k1(line1=K1[0] + b"\r\r"), 4, 41, b"\r\r\n")
-# A CR inside a line: in the text, which starts at 135, behind "DEALER".
+# A CR inside a line: in the text, which starts at 135, after "DEALER".
 refused("cr_inside.bai", k1(line4=b"16,165,1500,1,DD1620,,DEALER\rPAYMENTS"), 4, 141, b"\rPAY")
 # CRs as line ends make the file one line: its first CR is the first byte not allowed.
 refused("cr_only.bai", k1().replace(b"\n", b"\r"), 4, 41, b"\r02,")
@@ -117,7 +120,7 @@ refused("cr_only.bai", k1().replace(b"\n", b"\r"), 4, 41, b"\r02,")
 
 # K5: the account's sum is 1000, 49 says -2000 (a debit subtracted); the total starts at 154.
 refused("k05_total.bai", k1(line5=b"49,-2000,3/"), 11, 154, b"-2000,")
-# K6: 03, 16 and 49 are three records, 49 says 2; behind "1000," at 154 the count starts at 159.
+# K6: 03, 16 and 49 are three records, 49 says 2; after "1000," at 154 the count starts at 159.
 refused("k06_records.bai", k1(line5=b"49,1000,2/"), 13, 159, b"2/")
 # K7: a group has one or more accounts; the 98 starts where K1's line 3 does.
 refused("k07_no_account.bai", lines(K1[0], K1[1], b"98,0,0,2/", b"99,0,1,4/"), 6, 83, b"98,")
@@ -170,12 +173,12 @@ refused("k12_over_minus.bai", lines(*K1[:2], b"03,0975312468,USD,010,-9999999999
                                     b"49,-999999999999999996,3/", b"98,-999999999999999996,1,5/",
                                     b"99,-999999999999999996,1,7/"),
         10, 135, b"2,1,")
-# 10 comes behind all field faults of its record: the same 16, whose text (behind "2,1,DD1620,,",
+# 10 comes after all field faults of its record: the same 16, whose text (after "2,1,DD1620,,",
 # 12 bytes, at 146) begins with a slash.
 refused("k12_over_bad_text.bai", lines(*K1[:2], b"03,0975312468,USD,010,999999999999999998,,/",
                                        b"16,165,2,1,DD1620,,/DEALER", b"49,1,3/", b"98,1,1,5/",
                                        b"99,1,1,7/"), 7, 146, b"/DEALER")
-# Two amounts in one 03 pass the bound: the second (behind 18 digits at 105, ",,,", "100,": 105 + 18
+# Two amounts in one 03 pass the bound: the second (after 18 digits at 105, ",,,", "100,": 105 + 18
 # + 3 + 4 = 130) is the one.
 refused("k12_over_in_03.bai", account(b"03,0975312468,USD,010,999999999999999999,,,100,1,,,100,1,,/"),
         10, 130, b"1,,,100")
@@ -227,7 +230,7 @@ DOC_000 = [
 # As printed: the first 16 has a comma too many, so its type is empty. Line 1 is 43 + 1 bytes, line 2
 # 40 + 1, line 3 44 + 1, line 4 30 + 1: the 16 starts at 44 + 41 + 45 + 31 = 161, its type at 164.
 refused("doc000_printed.bai", lines(*DOC_000), 8, 164, b",115,450000")
-# As printed with the blank that the page has behind each line: the blanks change nothing before the
+# As printed with the blank that the page has after each line: the blanks change nothing before the
 # fault but the places, one byte for each of four lines.
 refused("doc000_printed_blanks.bai", lines(*[row + b" " for row in DOC_000]), 8, 168, b",115,450000")
 # Without that comma: groups 13150000 + 180000000 + 140500000 + 11800000 = 345450000; four groups;
@@ -238,10 +241,10 @@ accepted("doc000_corrected_crlf.bai", lines(*DOC_000_GOOD).replace(b"\n", b"\r\n
          345450000, 4, 5, 4, 31)
 # Filled with blanks to the 65 bytes that its header gives.
 accepted("doc000_filled.bai", lines(*[row.ljust(65) for row in DOC_000_GOOD]), 345450000, 4, 5, 4, 31)
-# One blank too many on line 2, which starts behind 65 + 1 bytes: byte 66 + 65.
+# One blank too many on line 2, which starts after 65 + 1 bytes: byte 66 + 65.
 refused("doc000_filled_66.bai", lines(*[row.ljust(66 if i == 1 else 65)
                                        for i, row in enumerate(DOC_000_GOOD)]), 3, 131, b" \n")
-# One blank too many on line 1, the header itself: held against L behind its fields, byte 65.
+# One blank too many on line 1, the header itself: held against L after its fields, byte 65.
 refused("doc000_filled_header_66.bai", lines(DOC_000_GOOD[0].ljust(66), *DOC_000_GOOD[1:]), 3, 65, b" \n")
 
 # ---- Source document 001, its single records in an envelope ----
@@ -375,7 +378,7 @@ refused("line_4097.bai", detail(b"16,165,1500,1,DD1620,," + b"T" * 4074 + b"X"),
 # CR LF is not part of the 4,096.
 accepted("line_4096_crlf.bai", detail(b"16,165,1500,1,DD1620,," + b"T" * 4074).replace(b"\n", b"\r\n"),
          1000, 1, 1, 1, 7)
-# The header may have 4,096 bytes too, blanks behind its slash; one more is refused at 4096.
+# The header may have 4,096 bytes too, blanks after its slash; one more is refused at 4096.
 accepted("header_4096.bai", k1(line1=K1[0].ljust(4096)), 1000, 1, 1, 1, 7)
 refused("header_4097.bai", k1(line1=K1[0].ljust(4097)), 3, 4096, b" \n")
 # L 4096: line 1 is 4 bytes longer, so the 16 starts at 117 and its 4,097th byte is at 4213.
@@ -401,11 +404,11 @@ refused("l_48_line_49.bai",
 # An 88 over L counts as any line; it starts at 115 + 38 = 153, and 153 + 48 = 201.
 refused("l_48_88_over.bai", detail(K1[3], b"88," + b"P" * 45 + b"!").replace(K1[0], HEADER_48),
         3, 201, b"!\n")
-# L known: the place is behind L also where the line is over 4,096 (16 at 115, 115 + 48).
+# L known: the place is after L also where the line is over 4,096 (16 at 115, 115 + 48).
 refused("l_48_line_4097.bai",
         detail(b"16,165,1500,1,DD1620,," + b"T" * 26 + b"!" + b"T" * 4048).replace(K1[0], HEADER_48),
         3, 163, b"!T")
-# The header's own line: 43 bytes and six blanks are 49, held against L behind its fields.
+# The header's own line: 43 bytes and six blanks are 49, held against L after its fields.
 refused("l_48_header_49.bai", k1(line1=HEADER_48 + b"      "), 3, 48, b" \n")
 # The header's 88 over L: line 1 "01,122099999,123456789/" is 23 + 1 bytes, the 88 starts at 24:
 # "88,040621,0200,1,48,,2/" has 23, with 26 blanks 49; byte 24 + 48 = 72.
@@ -434,7 +437,7 @@ refused("code_without_comma.bai", k1(line3=b"03/0975312468,USD,010,-500,,/"), 5,
 refused("code_unknown.bai", k1(line3=b"04,0975312468,USD,010,-500,,/"), 5, 83, b"04,")
 refused("code_89.bai", lines(*K1[:4], b"89,X/", *K1[4:]), 5, 151, b"89,")
 refused("code_one_digit.bai", k1(line3=b"3,0975312468,USD,010,-500,,/"), 5, 83, b"3,0")
-refused("code_behind_blank.bai", k1(line3=b" 03,0975312468,USD,010,-500,,/"), 5, 83, b" 03")
+refused("code_after_blank.bai", k1(line3=b" 03,0975312468,USD,010,-500,,/"), 5, 83, b" 03")
 refused("code_alone.bai", k1(line7=b"99"), 5, 175, b"99\n")
 # "88" without its comma is no 88, so not the 16's continuation, and no code either.
 refused("code_88_without_comma.bai", lines(*K1[:4], b"88", *K1[4:]), 5, 151, b"88\n")
@@ -447,14 +450,14 @@ refused("order_49_missing.bai", lines(*K1[:4], *K1[5:]), 6, 151, b"98,")
 refused("order_98_missing.bai", lines(*K1[:5], K1[6]), 6, 162, b"99,")
 refused("order_02_in_group.bai", lines(*K1[:5], K1[1]), 6, 162, b"02,")
 refused("order_03_in_account.bai", lines(*K1[:4], K1[2]), 6, 151, b"03,")
-refused("order_16_behind_49.bai", lines(*K1[:5], K1[3]), 6, 162, b"16,")
+refused("order_16_after_49.bai", lines(*K1[:5], K1[3]), 6, 162, b"16,")
 # Behind the 99 nothing may stand; its 188 bytes come first.
-refused("order_behind_99.bai", k1() + b"16,165,1,,,,/\n", 6, 188, b"16,")
+refused("order_after_99.bai", k1() + b"16,165,1,,,,/\n", 6, 188, b"16,")
 refused("order_second_file.bai", k1() + k1(), 6, 188, b"01,")
-# A record behind the 99 has its lines judged first: a bad byte (188 + 3) comes before 6.
-refused("order_behind_99_bad_byte.bai", k1() + b"16,\x01\n", 4, 191, b"\x01")
-# An 88 behind the 99 is the 99's: one field too many, at the 88's fourth byte, 188 + 3.
-refused("88_behind_99.bai", k1() + b"88,1/\n", 8, 191, b"1/")
+# A record after the 99 has its lines judged first: a bad byte (188 + 3) comes before 6.
+refused("order_after_99_bad_byte.bai", k1() + b"16,\x01\n", 4, 191, b"\x01")
+# An 88 after the 99 is the 99's: one field too many, at the 88's fourth byte, 188 + 3.
+refused("88_after_99.bai", k1() + b"88,1/\n", 8, 191, b"1/")
 # Leading 88s are one record, refused at 0, ...
 refused("88_first.bai", b"88,A/\n88,B/\n" + k1(), 6, 0, b"88,A")
 # ... but all its lines are judged before: a bad byte in the second 88, at 6 + 3.
@@ -465,7 +468,7 @@ refused("order_88_bad_byte.bai", lines(*K1[:2], K1[3], b"88,X\x7fY", *K1[4:]), 4
 refused("order_before_fields.bai", lines(*K1[:2], b"98,X,Y,Z/"), 6, 83, b"98,X")
 # The file ends before its 99: at the file's length. 175 bytes are K1 without its last line.
 refused("end_before_99.bai", lines(*K1[:6]), 6, 175, b"")
-refused("end_behind_01.bai", lines(K1[0]), 6, 42, b"")
+refused("end_after_01.bai", lines(K1[0]), 6, 42, b"")
 refused("end_before_99_no_last_end.bai", lines(*K1[:6])[:-1], 6, 174, b"")
 # A file without group is accepted (k03_result above); its figures are judged all the same: "99," at
 # 42, total 45, groups 47, records 49.
@@ -473,7 +476,7 @@ refused("no_group_total.bai", lines(K1[0], b"99,1,0,2/"), 11, 45, b"1,0,2")
 refused("no_group_groups.bai", lines(K1[0], b"99,0,1,2/"), 12, 47, b"1,2/")
 refused("no_group_records.bai", lines(K1[0], b"99,0,0,1/"), 13, 49, b"1/")
 
-# ---- 7: the line ends too soon, a byte behind the slash, text ----
+# ---- 7: the line ends too soon, a byte after the slash, text ----
 
 # Line 2 without its slash: 40 less 1 bytes from 42 on, so it ends at 81.
 refused("no_slash.bai", k1(line2=K1[1][:-1]), 7, 81, b"\n03")
@@ -483,20 +486,20 @@ refused("no_slash_crlf.bai", k1(line2=K1[1][:-1]).replace(b"\n", b"\r\n"), 7, 82
 refused("no_slash_at_end.bai", k1()[:-2], 7, 186, b"")
 # A field without comma or slash isn't judged: a bad modifier "9" (at 80) is 7 at 81 too.
 refused("no_slash_bad_field.bai", k1(line2=b"02,031001234,122099999,1,040620,2359,,9"), 7, 81, b"\n03")
-# A comma at the line's end: a further field starts behind it and has no end. Line 3 then ends at
+# A comma at the line's end: a further field starts after it and has no end. Line 3 then ends at
 # 83 + 29; the comma stands where the slash was, at 111.
 refused("comma_at_end.bai", k1(line3=b"03,0975312468,USD,010,-500,,,"), 7, 112, b"\n16")
 # The code's comma alone.
 refused("bare_03.bai", lines(*K1[:2], b"03,", *K1[3:]), 7, 86, b"\n16")
 refused("bare_88.bai", lines(*K1[:3], b"88,", *K1[3:]), 7, 116, b"\n16")
 # Blanks may follow the slash, anything else is 7 there: the 49's slash is at 160, X at 161 or 163.
-accepted("blanks_behind_slash.bai", k1(line5=b"49,1000,3/   "), 1000, 1, 1, 1, 7)
-refused("byte_behind_slash.bai", k1(line5=b"49,1000,3/X"), 7, 161, b"X\n")
-refused("byte_behind_blanks.bai", k1(line5=b"49,1000,3/  X"), 7, 163, b"X\n")
+accepted("blanks_after_slash.bai", k1(line5=b"49,1000,3/   "), 1000, 1, 1, 1, 7)
+refused("byte_after_slash.bai", k1(line5=b"49,1000,3/X"), 7, 161, b"X\n")
+refused("byte_after_blanks.bai", k1(line5=b"49,1000,3/  X"), 7, 163, b"X\n")
 refused("two_slashes.bai", k1(line5=b"49,1000,3//"), 7, 161, b"/\n98")
 # The field before the slash is judged first (records "A" at 159), ...
 refused("bad_field_then_byte.bai", k1(line5=b"49,1000,A/X"), 8, 159, b"A/X")
-# ... and a byte behind the slash comes before what is missing (total 154, slash 158, X 159).
+# ... and a byte after the slash comes before what is missing (total 154, slash 158, X 159).
 refused("byte_then_missing.bai", k1(line5=b"49,1000/X"), 7, 159, b"X\n")
 # ... and before anything on the next line (the 88's field would be wrong).
 refused("byte_then_88.bai", lines(*K1[:4], b"49,1000/X", b"88,A/", *K1[5:]), 7, 159, b"X\n")
@@ -506,7 +509,7 @@ accepted("text_slashes.bai", detail(b"16,165,1500,1,DD1620,,A/B, C//D,/"), 1000,
 accepted("text_slash_last.bai", detail(b"16,165,1500,1,DD1620,,RETURNED CHEQUE /"), 1000, 1, 1, 1, 7)
 accepted("text_comma_first.bai", detail(b"16,165,1500,1,DD1620,,,A"), 1000, 1, 1, 1, 7)
 accepted("text_blank_first.bai", detail(b"16,165,1500,1,DD1620,,  /A  "), 1000, 1, 1, 1, 7)
-# No text: a slash, with blanks behind it.
+# No text: a slash, with blanks after it.
 accepted("text_none.bai", detail(b"16,165,1500,1,DD1620,,/"), 1000, 1, 1, 1, 7)
 accepted("text_none_blanks.bai", detail(b"16,165,1500,1,DD1620,,/   "), 1000, 1, 1, 1, 7)
 # Text that begins with a slash, is empty, or all blank: 7 at the text's place.
@@ -570,7 +573,7 @@ refused("block_size_10.bai", k1(line1=b"01,122099999,123456789,040621,0200,1,,12
 refused("version_3.bai", k1(line1=b"01,122099999,123456789,040621,0200,1,,,3/"), 9, 39, b"3/")
 refused("version_02.bai", k1(line1=b"01,122099999,123456789,040621,0200,1,,,02/"), 9, 39, b"02/")
 refused("version_empty.bai", k1(line1=b"01,122099999,123456789,040621,0200,1,,,/"), 9, 39, b"/\n")
-# Missing: the block size ends at the slash (38), so the version is missing there. One too many: behind
+# Missing: the block size ends at the slash (38), so the version is missing there. One too many: after
 # "2," at 41.
 refused("version_missing.bai", k1(line1=b"01,122099999,123456789,040621,0200,1,,/"), 8, 38, b"/\n")
 refused("header_too_many.bai", k1(line1=b"01,122099999,123456789,040621,0200,1,,,2,/"), 8, 41, b"/\n")
@@ -595,7 +598,7 @@ accepted("item_types.bai", account(
     b"03,0975312468,USD,010,-555,,/", b"88,001,1,,/", b"88,099,2,,/", b"88,100,3,,/", b"88,400,4,,/",
     b"88,101,5,,/", b"88,399,6,,/", b"88,401,7,,/", b"88,799,8,,/", b"88,900,9,,/", b"88,999,10,,/"),
     1000, 1, 1, 1, 17)
-# A status item: count (110, behind "-500," at 105) and funds (111) must be empty.
+# A status item: count (110, after "-500," at 105) and funds (111) must be empty.
 refused("status_count.bai", k1(line3=b"03,0975312468,USD,010,-500,1,/"), 8, 110, b"1,/")
 refused("status_funds.bai", k1(line3=b"03,0975312468,USD,010,-500,,Z/"), 8, 111, b"Z/")
 # Amount and count: 18 and 9 digits good, 19 and 10 not. "100," at 101, amount 105; count 107.
@@ -604,7 +607,7 @@ accepted("digits_18_9.bai", account(b"03,0975312468,USD,010,-000000000000000500,
 refused("digits_19.bai", k1(line3=b"03,0975312468,USD,010,-0000000000000000500,,/"),
         8, 105, b"-0000000000000000500,")
 refused("count_10.bai", k1(line3=b"03,0975312468,USD,100,1,0000000009,/"), 8, 107, b"0000000009,")
-# Signs: plus everywhere; alone, doubled, or behind the digits never; -0 is zero.
+# Signs: plus everywhere; alone, doubled, or after the digits never; -0 is zero.
 accepted("plus_amounts.bai", lines(*K1[:2], b"03,0975312468,USD,010,+500,,,100,+1,,/",
                                    b"16,165,+1500,,,,/", b"49,+2001,3/", b"98,+2001,1,5/",
                                    b"99,+2001,1,7/"), 2001, 1, 1, 1, 7)
@@ -612,9 +615,9 @@ accepted("minus_zero.bai", lines(*K1[:2], b"03,0975312468,USD,010,-0,,/", b"49,-
                                  b"99,-000,1,6/"), 0, 1, 1, 0, 6)
 refused("sign_alone.bai", k1(line3=b"03,0975312468,USD,010,-,,/"), 8, 105, b"-,,/")
 refused("sign_twice.bai", k1(line3=b"03,0975312468,USD,010,--5,,/"), 8, 105, b"--5")
-refused("sign_behind.bai", k1(line3=b"03,0975312468,USD,010,5-,,/"), 8, 105, b"5-,")
+refused("sign_after.bai", k1(line3=b"03,0975312468,USD,010,5-,,/"), 8, 105, b"5-,")
 # The sole empty item: beside an empty type the first filled field is wrong (amount 102, count 103,
-# funds 104); any field behind it is one too many (105); a slash too soon is a field missing (103).
+# funds 104); any field after it is one too many (105); a slash too soon is a field missing (103).
 refused("no_item_amount.bai", k1(line3=b"03,0975312468,USD,,5,6,/"), 8, 102, b"5,6")
 refused("no_item_count.bai", k1(line3=b"03,0975312468,USD,,,6,1/"), 8, 103, b"6,1")
 refused("no_item_funds.bai", k1(line3=b"03,0975312468,USD,,,,1/"), 8, 104, b"1/")

@@ -13,7 +13,7 @@
 #include "show.h"
 #include "write.h"
 
-enum { TRAILER_ROOM = 64, LONGEST_INPUT = 65536 };
+enum { LONGEST_INPUT = 65536 };
 
 int LLVMFuzzerTestOneInput(const uint8_t *data, size_t size);
 
@@ -58,11 +58,11 @@ static void try_refused(slice file, bai2_summary s, FILE *to)
 /* A split for this receiver: accepted, with some of the groups, and unchanged by a second split. */
 static void try_split(slice file, slice name, uint64_t groups)
 {
-    size_t room = file.length + TRAILER_ROOM;
+    size_t room = file.length + BAI2_TRAILER_ROOM;
     uint8_t *out = room_for(room, 1), *again = room_for(room, 1);
     bai2_answer a = bai2_split(name.bytes, name.length, file.bytes, file.length, out, room);
     if (name.length == 0) {
-        must_hold(a.number == 16);
+        must_hold(a.number == BAI2_NOT_A_NAME);
     } else {
         must_hold(a.number == 0);
         bai2_summary s = bai2_read(out, (size_t)a.length);
@@ -77,10 +77,10 @@ static void try_split(slice file, slice name, uint64_t groups)
 /* The file combined with itself: accepted with twice its figures, or its sums are too large. */
 static void try_combine(slice file, bai2_summary s)
 {
-    size_t room = 2 * file.length + TRAILER_ROOM;
+    size_t room = 2 * file.length + BAI2_TRAILER_ROOM;
     uint8_t *out = room_for(room, 1);
     bai2_combined c = bai2_combine(file.bytes, file.length, file.bytes, file.length, out, room);
-    must_hold(c.file == 0 && (c.number == 0 || c.number == 10));
+    must_hold(c.file == 0 && (c.number == 0 || c.number == BAI2_AMOUNTS_TOO_LARGE));
     if (c.number == 0) {
         bai2_summary both = bai2_read(out, (size_t)c.length);
         must_hold(both.number == 0 && both.total == 2 * s.total && both.groups == 2 * s.groups);

@@ -5,7 +5,14 @@
 
 #include "bai2.h"
 
-enum { ROOM = 1024, HALF = 128, FIELDS = 7, RARE = 240, ANY = 255, LONG = 80 };
+enum {
+    ROOM = 1024,
+    HALF = 128,
+    FIELDS = 7,
+    RARE = 240,
+    ANY = 255,
+    FIELD_LENGTHS = BAI2_LONGEST_NAME + 4 /* some of them too long */
+};
 
 /* What is left of the fuzzer's bytes. */
 typedef struct {
@@ -22,24 +29,34 @@ static uint8_t next_byte(source *s)
     return byte;
 }
 
-/* The calls that take fields, and for each of them good fields. */
-enum { HEADER, GROUP, ACCOUNT, ITEM, DETAIL, END_ACCOUNT, END_GROUP, END_FILE, CALLS };
+/* The writer's calls; and for each that takes fields, good ones. */
+enum {
+    HEADER_CALL,
+    GROUP_CALL,
+    ACCOUNT_CALL,
+    ITEM_CALL,
+    DETAIL_CALL,
+    END_ACCOUNT_CALL,
+    END_GROUP_CALL,
+    END_FILE_CALL,
+    CALLS
+};
 static const char *const good[CALLS][FIELDS] = {
-    [HEADER] = {"122099999", "123456789", "040621", "0200", "1", "", ""},
-    [GROUP] = {"031001234", "122099999", "1", "040620", "2359", "USD", "2"},
-    [ACCOUNT] = {"0975312468", "USD", "010", "", "", "", ""},
-    [ITEM] = {"400", "", "", "", "", "", ""},
-    [DETAIL] = {"165", "DD1620", "", "DEALER PAYMENTS", "", "", ""}};
+    [HEADER_CALL] = {"122099999", "123456789", "040621", "0200", "1", "", ""},
+    [GROUP_CALL] = {"031001234", "122099999", "1", "040620", "2359", "USD", "2"},
+    [ACCOUNT_CALL] = {"0975312468", "USD", "010", "", "", "", ""},
+    [ITEM_CALL] = {"400", "", "", "", "", "", ""},
+    [DETAIL_CALL] = {"165", "DD1620", "", "DEALER PAYMENTS", "", "", ""}};
 
 /* The next field: mostly the good one, at times one that is good elsewhere, or any bytes. */
 static slice next_field(source *s, const char *word)
 {
     uint8_t which = next_byte(s);
     if (which >= RARE)
-        word = good[which % END_ACCOUNT][next_byte(s) % FIELDS];
+        word = good[which % END_ACCOUNT_CALL][next_byte(s) % FIELDS];
     if (which != ANY)
         return (slice){(const uint8_t *)word, strlen(word)};
-    slice field = part_of(s->left, 0, next_byte(s) % LONG);
+    slice field = part_of(s->left, 0, next_byte(s) % FIELD_LENGTHS);
     s->left = part_of(s->left, field.length, s->left.length);
     return field;
 }
@@ -60,30 +77,30 @@ static bai2_written call_once(source *s, bai2_writer w, uint8_t out[ROOM], size_
 {
     uint8_t which = next_byte(s) % CALLS;
     slice f[FIELDS] = {{NULL, 0}};
-    for (size_t i = 0; which < END_ACCOUNT && i < FIELDS; i++)
+    for (size_t i = 0; which < END_ACCOUNT_CALL && i < FIELDS; i++)
         f[i] = next_field(s, good[which][i]);
     int64_t amount = next_amount(s);
     uint64_t given = next_byte(s), count = next_byte(s);
-    *last = which == END_FILE;
+    *last = which == END_FILE_CALL;
     switch (which) {
-    case HEADER:
+    case HEADER_CALL:
         return bai2_write_header(w, FIELD(f[0]), FIELD(f[1]), FIELD(f[2]), FIELD(f[3]), FIELD(f[4]), out, room);
-    case GROUP:
+    case GROUP_CALL:
         return bai2_write_group(w, FIELD(f[0]), FIELD(f[1]), FIELD(f[2]), FIELD(f[3]), FIELD(f[4]), FIELD(f[5]),
                                 FIELD(f[6]), out, room);
-    case ACCOUNT:
+    case ACCOUNT_CALL:
         return bai2_write_account(w, FIELD(f[0]), FIELD(f[1]), given & 1, FIELD(f[2]), given & 2, amount, given & 4,
                                   count, out, room);
-    case ITEM: return bai2_write_item(w, FIELD(f[0]), given & 1, amount, given & 2, count, out, room);
-    case DETAIL:
+    case ITEM_CALL: return bai2_write_item(w, FIELD(f[0]), given & 1, amount, given & 2, count, out, room);
+    case DETAIL_CALL:
         return bai2_write_detail(w, FIELD(f[0]), given & 1, amount, FIELD(f[1]), FIELD(f[2]), FIELD(f[3]), out, room);
-    case END_ACCOUNT: return bai2_write_end_account(w, out, room);
-    case END_GROUP: return bai2_write_end_group(w, out, room);
+    case END_ACCOUNT_CALL: return bai2_write_end_account(w, out, room);
+    case END_GROUP_CALL: return bai2_write_end_group(w, out, room);
     default: return bai2_write_end_file(w, out, room);
     }
 }
 
-/* Whether a refused call changed nothing, an accepted one wrote behind what was there, and an ended file is read. */
+/* Whether a refused call changed nothing, an accepted one wrote after what was there, and an ended file is read. */
 static bool is_kept(bai2_writer before, const uint8_t *was, bai2_written now, const uint8_t *out, bool last)
 {
     if (now.number != 0)

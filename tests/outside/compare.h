@@ -8,7 +8,7 @@
 
 enum {
     LONGEST_FILE = 16777216,
-    FRINGE = 64,   /* bytes in front of and behind an output slice that must stay as they were */
+    FRINGE = 64,   /* bytes in front of and after an output slice that must stay as they were */
     PATTERN = 0xA5 /* what output slices hold before a call */
 };
 

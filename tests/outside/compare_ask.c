@@ -227,13 +227,13 @@ static void fresh_outputs(size_t length, uint8_t **one, uint8_t **other)
     memset(*other - FRINGE, PATTERN, length + FRINGE);
 }
 
-/* Compares two output slices with their fringes; the oracle's bytes behind `used` must be untouched. */
+/* Compares two output slices with their fringes; the oracle's bytes after `used` must be untouched. */
 static void same_outputs(const char *call, const uint8_t *one, const uint8_t *other, size_t length,
                          size_t used)
 {
     same_bytes(call, one - FRINGE, other - FRINGE, length + FRINGE);
     for (size_t i = used; i < length; i++)
-        must_hold("bytes behind the result stay", one[i] == PATTERN);
+        must_hold("bytes after the result stay", one[i] == PATTERN);
 }
 
 static const uint8_t *result;

@@ -133,7 +133,7 @@ static void long_records(buffer *b)
 {
     long_account(b);
     long_text(b, "88,,\n", 0, 0);
-    /* a slash is no piece: 7 at the first 88's fourth byte, behind header, 02, 03 and 14 bytes of 16 */
+    /* a slash is no piece: 7 at the first 88's fourth byte, after header, 02, 03 and 14 bytes of 16 */
     long_text(b, "88,/\n", 7, sizeof header - 1 + sizeof group - 1 + 14 + 3);
 }
 

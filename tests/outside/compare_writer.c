@@ -222,8 +222,8 @@ static bai2_writer made_up(dice *d, bai2_writer w)
     return w;
 }
 
-/* Restores the pattern behind what the writer has written. */
-static void fresh_behind(size_t written, size_t room)
+/* Restores the pattern after what the writer has written. */
+static void fresh_after(size_t written, size_t room)
 {
     for (size_t i = 0; i < 2; i++)
         memset(guarded_end(&outputs[i], room) + written, PATTERN, room - written);
@@ -283,7 +283,7 @@ void compare_writer(dice *d, uint64_t *numbers)
         call c = some_call(d, &w);
         bai2_written answer = ask(&c, &w, room, numbers);
         if (answer.number == 0 && chance(d, 100)) {
-            fresh_behind((size_t)w.size, room);
+            fresh_after((size_t)w.size, room);
             try_short(&c, &w, (size_t)answer.length, room, numbers);
             ask(&c, &w, room, numbers);
         }

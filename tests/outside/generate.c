@@ -26,7 +26,7 @@ typedef struct {
     size_t limit; /* the longest line allowed */
     bool limit_given;
     size_t line_start, fields; /* of the line in the making */
-    unsigned breaks, crlfs, blanks, large; /* of a thousand: 88s, CR LFs, blanks behind slashes, amounts */
+    unsigned breaks, crlfs, blanks, large; /* of a thousand: 88s, CR LFs, blanks after slashes, amounts */
     uint64_t budget; /* magnitudes that may still come */
     tally file, group, account;
     slip slip;
@@ -286,7 +286,7 @@ static void put_amount(maker *m, bool minus_allowed)
     }
 }
 
-/* Adds an amount that stands behind a funds type; it counts nowhere. */
+/* Adds an amount that stands after a funds type; it counts nowhere. */
 static void put_funds_amount(maker *m, bool optional)
 {
     if (slips(m, BAD_FUNDS))

@@ -7,7 +7,7 @@
 
 enum { PAGE = 65536 }; /* a multiple of every usual page size */
 
-/* At least `room` bytes, with an unreadable page behind the last. */
+/* At least `room` bytes, with an unreadable page after the last. */
 guarded guarded_of(size_t room)
 {
     size_t whole = (room + PAGE - 1) / PAGE * PAGE;

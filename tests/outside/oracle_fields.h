@@ -146,7 +146,7 @@ static inline bool is_detail_class(type_class class)
     return class == SUMMARY_TYPE || class == NOTE_TYPE;
 }
 
-/* Whether the field is 1 to 18 digits behind an optional plus, or minus where that is allowed. */
+/* Whether the field is 1 to 18 digits after an optional plus, or minus where that is allowed. */
 static inline bool is_signed_amount(slice field, bool minus_allowed, signed_amount *amount)
 {
     amount->minus = false;

@@ -62,7 +62,7 @@ static envelope read_envelope(const slice *name, const uint8_t *file, size_t fil
     return e;
 }
 
-/* The fresh 99 behind a header and some groups; answers its length. */
+/* The fresh 99 after a header and some groups; answers its length. */
 static size_t put_fresh_trailer(uint8_t *out, uint64_t header_lines, const tally *groups)
 {
     tally whole = *groups;
@@ -70,7 +70,7 @@ static size_t put_fresh_trailer(uint8_t *out, uint64_t header_lines, const tally
     return oracle_put_trailer(out, FILE_TRAILER, &whole);
 }
 
-/* Copies bytes behind the `length` bytes that stand in `out`; answers the new length. */
+/* Copies bytes after the `length` bytes that stand in `out`; answers the new length. */
 static size_t append(uint8_t *out, size_t length, const uint8_t *bytes, size_t more)
 {
     memcpy(out + length, bytes, more);
@@ -140,7 +140,7 @@ static size_t group_end(const uint8_t *file, size_t group, size_t trailer_start)
     return at;
 }
 
-/* Copies an accepted file's groups for `name` behind what stands in `out`; answers the length. */
+/* Copies an accepted file's groups for `name` after what stands in `out`; answers the length. */
 static size_t append_groups(uint8_t *out, size_t length, slice name,
                             const uint8_t *file, const envelope *e)
 {

@@ -113,7 +113,7 @@ static refusal find_record(const reader *r, record *rec)
     return none;
 }
 
-/* Whether a record may stand behind what came before; the phase it leads to goes to `next`. */
+/* Whether a record may stand after what came before; the phase it leads to goes to `next`. */
 bool oracle_in_turn(file_phase phase, record_code code, file_phase *next)
 {
     switch (code) {

@@ -36,8 +36,8 @@ static inline want then(bool good, want next)
     return good ? next : WRONG;
 }
 
-/* The field wanted behind an item's or detail's funds. */
-static want behind_funds(const walk *w)
+/* The field wanted after an item's or detail's funds. */
+static want after_funds(const walk *w)
 {
     return w->rec->code == ACCOUNT_HEADER ? NEXT_TYPE : BANK_REFERENCE;
 }
@@ -101,7 +101,7 @@ static void add_amount(walk *w, signed_amount amount, size_t place)
         w->rec->pluses += amount.magnitude;
 }
 
-/* Judges an item's or detail's amount and adds it up; `next` is wanted behind it. */
+/* Judges an item's or detail's amount and adds it up; `next` is wanted after it. */
 static want take_amount(walk *w, slice field, bool minus_allowed, want next)
 {
     signed_amount amount;
@@ -119,11 +119,11 @@ static want take_amount(walk *w, slice field, bool minus_allowed, want next)
 static want take_funds(const walk *w, slice field)
 {
     if (field.length == 0)
-        return behind_funds(w);
+        return after_funds(w);
     if (field.length != 1)
         return WRONG;
     switch (field.bytes[0]) {
-    case '0': case '1': case '2': case 'Z': return behind_funds(w);
+    case '0': case '1': case '2': case 'Z': return after_funds(w);
     case 'S': return S_FIRST;
     case 'V': return V_DATE;
     case 'D': return D_PAIRS;
@@ -144,10 +144,10 @@ static want take_pair_amount(walk *w, slice field)
     if (!is_number(field, LONGEST_AMOUNT, &amount))
         return WRONG;
     w->pairs--;
-    return w->pairs > 0 ? D_DAYS : behind_funds(w);
+    return w->pairs > 0 ? D_DAYS : after_funds(w);
 }
 
-/* Judges a funds type or a field behind one. */
+/* Judges a funds type or a field after one. */
 static want funds_field(walk *w, slice field)
 {
     uint64_t days;
@@ -155,9 +155,9 @@ static want funds_field(walk *w, slice field)
     case FUNDS: return take_funds(w, field);
     case S_FIRST: return then(is_optional_number(field, LONGEST_AMOUNT), S_SECOND);
     case S_SECOND: return then(is_optional_number(field, LONGEST_AMOUNT), S_THIRD);
-    case S_THIRD: return then(is_optional_number(field, LONGEST_AMOUNT), behind_funds(w));
+    case S_THIRD: return then(is_optional_number(field, LONGEST_AMOUNT), after_funds(w));
     case V_DATE: return then(is_date(field), V_TIME);
-    case V_TIME: return then(is_optional_time(field), behind_funds(w));
+    case V_TIME: return then(is_optional_time(field), after_funds(w));
     case D_PAIRS: return take_pairs(w, field);
     case D_DAYS: return then(is_number(field, 3, &days), D_AMOUNT);
     case D_AMOUNT: return take_pair_amount(w, field);
@@ -258,7 +258,7 @@ static want first_field(record_code code)
     }
 }
 
-/* Judges a field; answers what is wanted behind it. */
+/* Judges a field; answers what is wanted after it. */
 static want take_field(walk *w, slice field)
 {
     switch (w->rec->code) {
@@ -297,8 +297,8 @@ static refusal take_text(walk *w, size_t place, size_t end)
     return none;
 }
 
-/* Judges what stands behind a slash: only blanks may. */
-static refusal behind_slash(const uint8_t *file, size_t place, size_t end)
+/* Judges what stands after a slash: only blanks may. */
+static refusal after_slash(const uint8_t *file, size_t place, size_t end)
 {
     while (place < end && file[place] == ' ')
         place++;
@@ -327,7 +327,7 @@ static refusal walk_line(walk *w, line l)
         w->wanted = next;
         if (w->file[stop] == '/') {
             w->last_slash = stop;
-            return behind_slash(w->file, stop + 1, l.end);
+            return after_slash(w->file, stop + 1, l.end);
         }
         place = stop + 1;
     }

@@ -20,7 +20,7 @@ typedef struct {
     uint8_t bytes[LONGEST_DRAFT];
     size_t length;
     tally figures;      /* what the line adds */
-    bool item_may_come; /* behind it */
+    bool item_may_come; /* after it */
 } draft;
 
 /* The magnitude of an amount. */
@@ -126,7 +126,7 @@ static bool is_sound(const bai2_writer *w)
     return is_within(&group, most, w->size) && is_within(&account, most, w->size);
 }
 
-/* Whether it is the record's turn; an item's stands behind an account with one, or an item. */
+/* Whether it is the record's turn; an item's stands after an account with one, or an item. */
 static bool is_turn(const bai2_writer *w, record_code code)
 {
     file_phase next;
@@ -143,9 +143,9 @@ static bai2_written refused(bai2_writer w, uint64_t number)
     return (bai2_written){.number = number, .writer = w};
 }
 
-/* The writer behind an accepted line: it adds to the file, and to what is open behind it; what isn't
+/* The writer after an accepted line: it adds to the file, and to what is open after it; what isn't
    open is nothing. (So where a 02 or 03 comes, only a made-up writer holds an open group or account.) */
-static bai2_writer behind(const bai2_writer *w, const draft *d)
+static bai2_writer after(const bai2_writer *w, const draft *d)
 {
     tally file = file_of(w), group = group_of(w), account = account_of(w);
     file_phase phase = IN_ACCOUNT;
@@ -172,7 +172,7 @@ static bai2_written let_in(bai2_writer w, const draft *d, uint8_t *out, size_t o
     if (size > out_length)
         return refused(w, 15);
     memcpy(out + w.size, d->bytes, d->length);
-    return (bai2_written){0, 0, size, behind(&w, d)};
+    return (bai2_written){0, 0, size, after(&w, d)};
 }
 
 /* A line that so far holds its code. */

@@ -1,6 +1,6 @@
 -- Laws that belong to no one call.
-pub mod Signs
-pub mod Reading
-pub mod Details
-pub mod Replies
+pub mod TotalSigns
+pub mod ReadFigures
+pub mod DetailFigures
+pub mod WriterReplies
 pub mod OneAnswer

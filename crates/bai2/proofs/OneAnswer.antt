@@ -7,6 +7,7 @@ use mathlib.Core.List.{_++_}
 use lib.Dec.{eqb}
 use Rattle.rules.specs.Bytes.{Bytes}
 use Rattle.rules.specs.Outcome.{Outcome, refused, fine, _>>=_}
+use Rattle.rules.specs.Outcome as outcome
 use Rattle.rules.specs.Totals as totals
 use Rattle.rules.specs.Verdict.{judge}
 use Rattle.rules.specs.Parts.{headerIn, groupsIn, sizeOfAll}
@@ -14,53 +15,58 @@ use Rattle.rules.specs.Answers as rules
 use Rattle.rules.specs.Combine as combine
 use Rattle.rules.specs.Split.{split}
 use Rattle.rules.specs.Writer as writing
-use Rattle.laws.specs.Words.{Left}
+use Rattle.laws.specs.LawWords.{Left}
 use Rattle.laws.proofs.OneAnswer.{one-answer}
-use Rattle.base_quantities.specs.Kinds.{unitsOf}
+use Rattle.base_quantities.specs.QuantityMeanings.{unitsOf}
 use Rattle.base_totals.specs.declared.Summary.{Summary}
 use Rattle.read_file.specs.declared.Verdict.{Verdict}
 use Rattle.read_file.specs.declared.Verdict.the-variants.{Accepted, Refused}
 use Rattle.read_file.specs.declared.Judged.{Judged}
 use Rattle.read_file.specs.declared.Judged.the-variants as judged
-use Rattle.base_totals.specs.Summaries.{summaryMeant}
-use Rattle.read_file.specs.Meanings.{verdictMeant}
-use Rattle.read_file.specs.Answers.{JudgedIs}
+use Rattle.base_totals.specs.SummaryMeaning.{summaryMeant}
+use Rattle.read_file.specs.FileMeanings.{verdictMeant}
+use Rattle.read_file.specs.FileAnswers.{JudgedIs}
 use Rattle.join_split.specs.declared.Answer.{Answer}
-use Rattle.join_split.specs.Answers.{answerMeant}
+use Rattle.join_split.specs.SplitAnswers.{answerMeant}
 use Rattle.join_combine.specs.declared.Combined.{Combined}
-use Rattle.join_combine.specs.Answers.{combinedMeant}
+use Rattle.join_combine.specs.CombineAnswers.{combinedMeant}
 use Rattle.part_groups.specs.declared.Part.{Part}
-use Rattle.part_groups.specs.declared.Refusal.{Refusal}
+use Rattle.base_refusals.specs.declared.Refusal.{Refusal}
+use Rattle.base_refusals.specs.RefusalMeaning.{refusalMeant}
 use Rattle.part_details.specs.declared.DetailAnswer.{DetailAnswer}
-use Rattle.part_groups.specs.Meanings as parts
-use Rattle.part_details.specs.Details as details
+use Rattle.part_groups.specs.PartMeaning as parts
+use Rattle.part_details.specs.DetailMeaning as details
 use Rattle.write_state.specs.declared.Phase.{Phase}
 use Rattle.write_state.specs.declared.Phase.the-variants as phases
 use Rattle.write_state.specs.declared.Writer.{Writer}
 use Rattle.write_state.specs.declared.Written.{Written}
-use Rattle.write_state.specs.States.{phaseMeant, writerMeant, writtenMeant}
-use Rattle.bai2.specs.declared.ReadAnswer.{ReadAnswer}
-use Rattle.bai2.specs.declared.SplitAnswer.{SplitAnswer}
-use Rattle.bai2.specs.declared.CombineAnswer.{CombineAnswer}
-use Rattle.bai2.specs.declared.cutting.PartAnswer.{PartAnswer}
-use Rattle.bai2.specs.declared.cutting.DetailFigures.{DetailFigures}
-use Rattle.c_writer.specs.declared.WriterState.{WriterState}
-use Rattle.c_writer.specs.declared.WriteAnswer.{WriteAnswer}
-use Rattle.bai2.specs.Answers.{readMeant, splitMeant, combineMeant, partMeant, detailMeant}
-use Rattle.c_writer.specs.Figures.{numbersOf, Reply, replied, replyTo}
+use Rattle.write_state.specs.WriterMeaning.{phaseMeant, writerMeant, writtenMeant}
+use Rattle.bai2.specs.declared.Bai2Summary.{Bai2Summary}
+use Rattle.bai2.specs.declared.Bai2Answer.{Bai2Answer}
+use Rattle.bai2.specs.declared.Bai2Combined.{Bai2Combined}
+use Rattle.bai2.specs.declared.cutting.Bai2Part.{Bai2Part}
+use Rattle.bai2.specs.declared.cutting.Bai2Detail.{Bai2Detail}
+use Rattle.c_writer.specs.declared.Bai2Writer.{Bai2Writer}
+use Rattle.c_writer.specs.declared.Bai2Written.{Bai2Written}
+use Rattle.bai2.specs.CAnswers.{SummaryFigures, summaryFigures, readMeant, splitMeant, combineMeant, partMeant, isGiven, orZero}
+use Rattle.c_writer.specs.WriterFigures.{numbersOf, Reply, replied, replyTo}
+
+-- the code's refusal that stands for one of the rules
+abbrev refusalFrom : outcome.Refusal → Refusal
+refusalFrom why = record { number = why .number; place = record { 0 = why .place } }
 
 -- ---- reading
 
 abbrev summaryOf : totals.Summary → Summary
-summaryOf s = record { total = unitsOf (s .sum); groups = s .groups; accounts = s .accounts; details = s .details; records = record { 0 = s .lines } }
+summaryOf s = record { total = unitsOf (s .sum); groups = s .groups; accounts = s .accounts; details = s .details; records = record { 0 = s .records } }
 
 abbrev verdictOf : Outcome totals.Summary → Verdict
 verdictOf (fine s) = Accepted (summaryOf s)
-verdictOf (refused n p) = Refused n (record { 0 = p })
+verdictOf (refused why) = Refused (refusalFrom why)
 
 same-verdict : (v : Verdict) → verdictOf (verdictMeant v) ≡ v
 same-verdict (Accepted s) = refl
-same-verdict (Refused n p) = refl
+same-verdict (Refused why) = refl
 
 -- read_file::read
 pub read-one : (file : Bytes) (v w : Verdict) → verdictMeant v ≡ judge file → verdictMeant w ≡ judge file → v ≡ w
@@ -74,35 +80,43 @@ record Known : Type 0 where
 
 abbrev judgedMeant : Judged → Outcome Known
 judgedMeant (judged.Accepted g) = fine (record { summary = summaryMeant (g .summary); limit = g .limit; last = g .last })
-judgedMeant (judged.Refused n p) = refused n (p .0)
+judgedMeant (judged.Refused why) = refused (refusalMeant why)
 
 abbrev judgedOf : Outcome Known → Judged
 judgedOf (fine k) = judged.Accepted (record { summary = summaryOf (k .summary); limit = k .limit; last = k .last })
-judgedOf (refused n p) = judged.Refused n (record { 0 = p })
+judgedOf (refused why) = judged.Refused (refusalFrom why)
 
 same-judged : (v : Judged) → judgedOf (judgedMeant v) ≡ v
 same-judged (judged.Accepted g) = refl
-same-judged (judged.Refused n p) = refl
+same-judged (judged.Refused why) = refl
 
 abbrev known : Bytes → Outcome Known
 known file =
     judge file
-    >>= λ s. fine (record { summary = s; limit = combine.limitOf (headerIn file); last = sizeOfAll (headerIn file ++ combine.joined (groupsIn file)) })
+    >>= λ s. fine (record { summary = s; limit = combine.limitOf (headerIn file); last = sizeOfAll (headerIn file ++ combine.concat (groupsIn file)) })
 
 judged-says : (file : Bytes) (v : Judged) → JudgedIs v file → judgedMeant v ≡ known file
 judged-says file (judged.Accepted g) good = rw (good .accepts, good .limit, good .last)
-judged-says file (judged.Refused n p) e = rw e
+judged-says file (judged.Refused why) e = rw e
 
 -- read_file::judge_file
 pub judged-one : (file : Bytes) (v w : Judged) → JudgedIs v file → JudgedIs w file → v ≡ w
 judged-one file v w x y = one-answer judgedMeant judgedOf same-judged (known file) v w (judged-says file v x) (judged-says file w y)
 
 -- bai2_read
-pub c-read-one : (file : Bytes) (r s : ReadAnswer) → readMeant r ≡ rules.read file → readMeant s ≡ rules.read file → r ≡ s
+pub c-read-one : (file : Bytes) (r s : Bai2Summary) → readMeant r ≡ summaryFigures (judge file) → readMeant s ≡ summaryFigures (judge file) → r ≡ s
 c-read-one file =
     one-answer readMeant
-    (λ (m : rules.ReadAnswer). record { number = m .number; place = m .place; total = m .total; groups = m .groups; accounts = m .accounts; details = m .details; records = m .records })
-    (λ r. refl) (rules.read file)
+    (λ (m : SummaryFigures). record {
+      number = m .refusal .number;
+      place = m .refusal .place;
+      total = m .total;
+      groups = m .groups;
+      accounts = m .accounts;
+      details = m .details;
+      records = m .records;
+    })
+    (λ r. refl) (summaryFigures (judge file))
 
 -- ---- splitting
 
@@ -111,15 +125,15 @@ pub split-one : (name file before : Bytes) (x y : Left Answer)
     → answerMeant (x .answer) (x .slice) ≡ split name file before → answerMeant (y .answer) (y .slice) ≡ split name file before → x ≡ y
 split-one name file before =
     one-answer (λ (x : Left Answer). answerMeant (x .answer) (x .slice))
-    (λ (m : combine.Answer). record { answer = record { number = m .number; place = record { 0 = m .place }; length = m .len }; slice = m .output })
+    (λ (m : combine.Answer). record { answer = record { refusal = refusalFrom (m .refusal); length = m .len }; slice = m .output })
     (λ x. refl) (split name file before)
 
 -- bai2_split
-pub c-split-one : (name file before : Bytes) (x y : Left SplitAnswer)
+pub c-split-one : (name file before : Bytes) (x y : Left Bai2Answer)
     → splitMeant (x .answer) (x .slice) ≡ split name file before → splitMeant (y .answer) (y .slice) ≡ split name file before → x ≡ y
 c-split-one name file before =
-    one-answer (λ (x : Left SplitAnswer). splitMeant (x .answer) (x .slice))
-    (λ (m : combine.Answer). record { answer = record { number = m .number; place = m .place; length = m .len }; slice = m .output })
+    one-answer (λ (x : Left Bai2Answer). splitMeant (x .answer) (x .slice))
+    (λ (m : combine.Answer). record { answer = record { number = m .refusal .number; place = m .refusal .place; length = m .len }; slice = m .output })
     (λ x. refl) (split name file before)
 
 -- ---- combining
@@ -129,15 +143,15 @@ pub combine-one : (a b before : Bytes) (x y : Left Combined)
     → combinedMeant (x .answer) (x .slice) ≡ combine.combine a b before → combinedMeant (y .answer) (y .slice) ≡ combine.combine a b before → x ≡ y
 combine-one a b before =
     one-answer (λ (x : Left Combined). combinedMeant (x .answer) (x .slice))
-    (λ (m : combine.Answer). record { answer = record { number = m .number; place = record { 0 = m .place }; length = m .len; file = m .which }; slice = m .output })
+    (λ (m : combine.Answer). record { answer = record { refusal = refusalFrom (m .refusal); length = m .len; file = m .which }; slice = m .output })
     (λ x. refl) (combine.combine a b before)
 
 -- bai2_combine
-pub c-combine-one : (a b before : Bytes) (x y : Left CombineAnswer)
+pub c-combine-one : (a b before : Bytes) (x y : Left Bai2Combined)
     → combineMeant (x .answer) (x .slice) ≡ combine.combine a b before → combineMeant (y .answer) (y .slice) ≡ combine.combine a b before → x ≡ y
 c-combine-one a b before =
-    one-answer (λ (x : Left CombineAnswer). combineMeant (x .answer) (x .slice))
-    (λ (m : combine.Answer). record { answer = record { number = m .number; place = m .place; length = m .len; file = m .which }; slice = m .output })
+    one-answer (λ (x : Left Bai2Combined). combineMeant (x .answer) (x .slice))
+    (λ (m : combine.Answer). record { answer = record { number = m .refusal .number; place = m .refusal .place; length = m .len; file = m .which }; slice = m .output })
     (λ x. refl) (combine.combine a b before)
 
 -- ---- parts
@@ -149,77 +163,60 @@ slice-one = one-answer (λ (x : Bytes). x) (λ (x : Bytes). x) (λ x. refl)
 -- part_groups::find_group, find_account, find_detail
 pub part-one : (promised : rules.PartAnswer) (x y : Part) → parts.partMeant x ≡ promised → parts.partMeant y ≡ promised → x ≡ y
 part-one =
-    one-answer parts.partMeant (λ (m : rules.PartAnswer). record { number = m .number; place = record { 0 = m .place }; start = m .start; length = m .len })
+    one-answer parts.partMeant (λ (m : rules.PartAnswer). record { refusal = refusalFrom (m .refusal); start = m .start; length = m .len })
     (λ x. refl)
 
 -- bai2_group, bai2_account
-pub c-part-one : (promised : rules.PartAnswer) (x y : PartAnswer) → partMeant x ≡ promised → partMeant y ≡ promised → x ≡ y
+pub c-part-one : (promised : rules.PartAnswer) (x y : Bai2Part) → partMeant x ≡ promised → partMeant y ≡ promised → x ≡ y
 c-part-one =
-    one-answer partMeant (λ (m : rules.PartAnswer). record { number = m .number; place = m .place; start = m .start; length = m .len })
+    one-answer partMeant (λ (m : rules.PartAnswer). record { number = m .refusal .number; place = m .refusal .place; start = m .start; length = m .len })
     (λ x. refl)
 
 -- part_groups::group_refusal, account_refusal
-pub refusal-one : (number place : ℕ) (x y : Refusal) → (x .number ≡ number) × (x .place .0 ≡ place) → (y .number ≡ number) × (y .place .0 ≡ place) → x ≡ y
-refusal-one number place x y (n, p) (m, q) = ap₂ (λ (a b : ℕ). record { number = a; place = record { 0 = b } }) (n ∙ sym m) (p ∙ sym q)
+pub refusal-one : (promised : outcome.Refusal) (x y : Refusal) → refusalMeant x ≡ promised → refusalMeant y ≡ promised → x ≡ y
+refusal-one = one-answer refusalMeant refusalFrom (λ x. refl)
 
-same-given : (b : Bool) → eqb (details.oneIf b) 1 ≡ b
-same-given true = refl
-same-given false = refl
+-- what the rules' answer on a detail gives back: its amount, and 0 where none is given
+abbrev detailOf : rules.DetailAnswer → DetailAnswer
+detailOf m =
+    record {
+      refusal = refusalFrom (m .refusal);
+      «type_code» = m .type;
+      «amount_given» = eqb (isGiven (m .amountGiven)) 1;
+      amount = orZero (m .amountGiven);
+      «text_start» = m .textStart;
+      «text_length» = m .textLength;
+    }
 
-same-detail : (d : DetailAnswer)
-    → _≡_ {A = DetailAnswer}
-    (record {
-      number = d .number;
-      place = d .place;
+same-given : (t : Bool) (n : ℕ) → eqb (isGiven (details.amountMeant t n)) 1 ≡ t
+same-given true n = refl
+same-given false n = refl
+
+same-amount : (t : Bool) (n : ℕ) → (t ≡ false → n ≡ 0) → orZero (details.amountMeant t n) ≡ n
+same-amount true n h = refl
+same-amount false n h = rw (h refl)
+
+same-detail : (d : DetailAnswer) → details.ZeroWithout d → detailOf (details.detailMeant d) ≡ d
+same-detail d z =
+    ap₂
+    (λ (t : Bool) (n : ℕ). record {
+      refusal = d .refusal;
       «type_code» = d .«type_code»;
-      «amount_given» = eqb (details.oneIf (d .«amount_given»)) 1;
-      amount = d .amount;
+      «amount_given» = t;
+      amount = n;
       «text_start» = d .«text_start»;
       «text_length» = d .«text_length»;
     })
-    d
-same-detail d =
-    ap
-    (λ (b : Bool). record {
-      number = d .number;
-      place = d .place;
-      «type_code» = d .«type_code»;
-      «amount_given» = b;
-      amount = d .amount;
-      «text_start» = d .«text_start»;
-      «text_length» = d .«text_length»;
-    })
-    (same-given (d .«amount_given»))
+    (same-given (d .«amount_given») (d .amount)) (same-amount (d .«amount_given») (d .amount) z)
 
 -- part_details::detail
-pub detail-one : (promised : rules.DetailAnswer) (x y : DetailAnswer) → details.detailMeant x ≡ promised → details.detailMeant y ≡ promised → x ≡ y
-detail-one =
-    one-answer details.detailMeant
-    (λ (m : rules.DetailAnswer). record {
-      number = m .number;
-      place = record { 0 = m .place };
-      «type_code» = m .type;
-      «amount_given» = eqb (m .amountGiven) 1;
-      amount = m .amount;
-      «text_start» = m .textStart;
-      «text_length» = m .textLength;
-    })
-    same-detail
+pub detail-one : (promised : rules.DetailAnswer) (x y : DetailAnswer) → details.detailMeant x ≡ promised → details.ZeroWithout x
+    → details.detailMeant y ≡ promised → details.ZeroWithout y → x ≡ y
+detail-one promised x y e z f w = sym (same-detail x z) ∙ ap detailOf (e ∙ sym f) ∙ same-detail y w
 
--- bai2_detail_of
-pub c-detail-one : (promised : rules.DetailAnswer) (x y : DetailFigures) → detailMeant x ≡ promised → detailMeant y ≡ promised → x ≡ y
-c-detail-one =
-    one-answer detailMeant
-    (λ (m : rules.DetailAnswer). record {
-      number = m .number;
-      place = m .place;
-      «type_code» = m .type;
-      «amount_given» = m .amountGiven;
-      amount = m .amount;
-      «text_start» = m .textStart;
-      «text_length» = m .textLength;
-    })
-    (λ x. refl)
+-- bai2_detail_of: the figures are promised themselves
+pub c-detail-one : (promised x y : Bai2Detail) → x ≡ promised → y ≡ promised → x ≡ y
+c-detail-one = one-answer (λ (x : Bai2Detail). x) (λ (x : Bai2Detail). x) (λ x. refl)
 
 -- ---- writing
 
@@ -260,9 +257,9 @@ new-one = one-answer writerMeant writerOf same-writer writing.freshWriter
 
 same-written : (x : Left Written)
     → _≡_ {A = Left Written}
-    (record { answer = record { number = x .answer .number; place = x .answer .place; length = x .answer .length; writer = writerOf (writerMeant (x .answer .writer)) }; slice = x .slice }) x
+    (record { answer = record { refusal = x .answer .refusal; length = x .answer .length; writer = writerOf (writerMeant (x .answer .writer)) }; slice = x .slice }) x
 same-written x =
-    ap (λ (w : Writer). record { answer = record { number = x .answer .number; place = x .answer .place; length = x .answer .length; writer = w }; slice = x .slice })
+    ap (λ (w : Writer). record { answer = record { refusal = x .answer .refusal; length = x .answer .length; writer = w }; slice = x .slice })
     (same-writer (x .answer .writer))
 
 -- Writer::header, group, account, item, detail, end_account, end_group, end_file: each call on each state
@@ -270,16 +267,16 @@ pub write-one : (w : writing.Writer) (call : writing.Call) (before : Bytes) (x y
     → writtenMeant (x .answer) (x .slice) ≡ writing.write w call before → writtenMeant (y .answer) (y .slice) ≡ writing.write w call before → x ≡ y
 write-one w call before =
     one-answer (λ (x : Left Written). writtenMeant (x .answer) (x .slice))
-    (λ (m : writing.Written). record { answer = record { number = m .number; place = record { 0 = m .place }; length = m .len; writer = writerOf (m .writer) }; slice = m .output })
+    (λ (m : writing.Written). record { answer = record { refusal = refusalFrom (m .refusal); length = m .len; writer = writerOf (m .writer) }; slice = m .output })
     same-written (writing.write w call before)
 
 -- bai2_writer_new
-pub c-new-one : (v w : WriterState) → v ≡ numbersOf writing.freshWriter → w ≡ numbersOf writing.freshWriter → v ≡ w
-c-new-one = one-answer (λ (w : WriterState). w) (λ (w : WriterState). w) (λ w. refl) (numbersOf writing.freshWriter)
+pub c-new-one : (v w : Bai2Writer) → v ≡ numbersOf writing.freshWriter → w ≡ numbersOf writing.freshWriter → v ≡ w
+c-new-one = one-answer (λ (w : Bai2Writer). w) (λ (w : Bai2Writer). w) (λ w. refl) (numbersOf writing.freshWriter)
 
 -- bai2_write_header, .._group, .._account, .._item, .._detail, .._end_account, .._end_group, .._end_file: each call on any numbers
-pub c-write-one : (given : WriterState) (call : writing.Call) (before : Bytes) (x y : Left WriteAnswer)
+pub c-write-one : (given : Bai2Writer) (call : writing.Call) (before : Bytes) (x y : Left Bai2Written)
     → replied (x .answer) (x .slice) ≡ replyTo given call before → replied (y .answer) (y .slice) ≡ replyTo given call before → x ≡ y
 c-write-one given call before =
-    one-answer (λ (x : Left WriteAnswer). replied (x .answer) (x .slice)) (λ (m : Reply). record { answer = m .answer; slice = m .output }) (λ x. refl)
+    one-answer (λ (x : Left Bai2Written). replied (x .answer) (x .slice)) (λ (m : Reply). record { answer = m .answer; slice = m .output }) (λ x. refl)
     (replyTo given call before)

@@ -1,2 +1,2 @@
 -- What the answers to C say in document 01's terms.
-pub mod Answers
+pub mod CAnswers

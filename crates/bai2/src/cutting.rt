@@ -2,12 +2,12 @@
 use part_groups::Part;
 ghost use mathlib.Core.Path.{_≡_};
 ghost use Rattle.rules.specs.Answers.{groupPart, accountPart, detailOfFile};
-ghost use Rattle.part_groups.specs.Meanings as parts;
-ghost use Rattle.bai2.specs.Answers.{partMeant, detailMeant};
+ghost use Rattle.part_groups.specs.PartMeaning as parts;
+ghost use Rattle.bai2.specs.CAnswers.{partMeant, detailFigures};
 
 // A refusal's number and place, or where the part starts and its length.
 #[repr(C)]
-pub struct PartAnswer {
+pub struct Bai2Part {
     pub number: u64,
     pub place: u64,
     pub start: u64,
@@ -15,12 +15,13 @@ pub struct PartAnswer {
 }
 
 // A part in figures.
-fn figures_of(part: Part) -> PartAnswer
+fn figures_of(part: Part) -> Bai2Part
     ensures { λ r. ⌜ partMeant r ≡ parts.partMeant part ⌝ }
 {
-    let place = part.place;
-    PartAnswer {
-        number: part.number,
+    let refusal = part.refusal;
+    let place = refusal.place;
+    Bai2Part {
+        number: refusal.number,
         place: place.0 as u64,
         start: part.start as u64,
         length: part.length as u64,
@@ -29,7 +30,7 @@ fn figures_of(part: Part) -> PartAnswer
 
 // The group of this number.
 #[no_mangle]
-pub extern "C" fn bai2_group(file: &[u8], group: u64) -> PartAnswer
+pub extern "C" fn bai2_group(file: &[u8], group: u64) -> Bai2Part
     ensures { λ r. ⌜ partMeant r ≡ groupPart (now (file .entry)) group ⌝ }
 {
     figures_of(part_groups::find_group(file, group))
@@ -37,7 +38,7 @@ pub extern "C" fn bai2_group(file: &[u8], group: u64) -> PartAnswer
 
 // The account of this number in that group.
 #[no_mangle]
-pub extern "C" fn bai2_account(file: &[u8], group: u64, account: u64) -> PartAnswer
+pub extern "C" fn bai2_account(file: &[u8], group: u64, account: u64) -> Bai2Part
     ensures { λ r. ⌜ partMeant r ≡ accountPart (now (file .entry)) group account ⌝ }
 {
     figures_of(part_groups::find_account(file, group, account))
@@ -45,7 +46,7 @@ pub extern "C" fn bai2_account(file: &[u8], group: u64, account: u64) -> PartAns
 
 // A refusal's number and place; or the type, the amount if it is given, and where the first text piece starts, and its length.
 #[repr(C)]
-pub struct DetailFigures {
+pub struct Bai2Detail {
     pub number: u64,
     pub place: u64,
     pub type_code: u64,
@@ -57,18 +58,14 @@ pub struct DetailFigures {
 
 // The detail of this number in that account of that group.
 #[no_mangle]
-pub extern "C" fn bai2_detail_of(
-    file: &[u8],
-    group: u64,
-    account: u64,
-    detail: u64,
-) -> DetailFigures
-    ensures { λ r. ⌜ detailMeant r ≡ detailOfFile (now (file .entry)) group account detail ⌝ }
+pub extern "C" fn bai2_detail_of(file: &[u8], group: u64, account: u64, detail: u64) -> Bai2Detail
+    ensures { λ r. ⌜ r ≡ detailFigures (detailOfFile (now (file .entry)) group account detail) ⌝ }
 {
     let d = part_details::detail(file, group, account, detail);
-    let place = d.place;
-    DetailFigures {
-        number: d.number,
+    let refusal = d.refusal;
+    let place = refusal.place;
+    Bai2Detail {
+        number: refusal.number,
         place: place.0 as u64,
         type_code: d.type_code,
         amount_given: c_writer::flag_of(d.amount_given),

@@ -3,19 +3,20 @@ use base_quantities::Units;
 use read_file::Verdict;
 ghost use mathlib.Core.Path.{_≡_};
 ghost use Prim.Native.Nat.{_+_, _≤_};
-ghost use Rattle.rules.specs.Numbers.{asInteger, most};
-ghost use Rattle.rules.specs.Answers.{read};
-ghost use Rattle.base_quantities.specs.Kinds.{sumMeant};
+ghost use Rattle.rules.specs.Numbers.{asInteger};
+ghost use Rattle.rules.specs.Limits.{most};
+ghost use Rattle.rules.specs.Verdict.{judge};
+ghost use Rattle.base_quantities.specs.QuantityMeanings.{sumMeant};
 ghost use Rattle.rules.specs.Split.{split};
 ghost use Rattle.rules.specs.Combine.{combine};
-ghost use Rattle.bai2.specs.Answers.{readMeant, splitMeant, combineMeant};
+ghost use Rattle.bai2.specs.CAnswers.{summaryFigures, readMeant, splitMeant, combineMeant};
 
 pub mod cutting;
 pub mod writing;
 
 // What reading a file answers.
 #[repr(C)]
-pub struct ReadAnswer {
+pub struct Bai2Summary {
     pub number: u64,
     pub place: u64,
     pub total: i64,
@@ -40,14 +41,14 @@ fn total_of(sum: Units) -> i64
 
 // A file's summary, or its refusal.
 #[no_mangle]
-pub extern "C" fn bai2_read(file: &[u8]) -> ReadAnswer
-    ensures { λ r. ⌜ readMeant r ≡ read (now (file .entry)) ⌝ }
+pub extern "C" fn bai2_read(file: &[u8]) -> Bai2Summary
+    ensures { λ r. ⌜ readMeant r ≡ summaryFigures (judge (now (file .entry))) ⌝ }
 {
     match read_file::read(file) {
         Verdict::Accepted(s) => {
             let total = s.total;
             let records = s.records;
-            return ReadAnswer {
+            return Bai2Summary {
                 number: 0,
                 place: 0,
                 total: total_of(total),
@@ -57,9 +58,10 @@ pub extern "C" fn bai2_read(file: &[u8]) -> ReadAnswer
                 records: records.0,
             };
         }
-        Verdict::Refused(number, place) => {
-            return ReadAnswer {
-                number,
+        Verdict::Refused(why) => {
+            let place = why.place;
+            return Bai2Summary {
+                number: why.number,
                 place: place.0 as u64,
                 total: 0,
                 groups: 0,
@@ -73,7 +75,7 @@ pub extern "C" fn bai2_read(file: &[u8]) -> ReadAnswer
 
 // What splitting a file answers.
 #[repr(C)]
-pub struct SplitAnswer {
+pub struct Bai2Answer {
     pub number: u64,
     pub place: u64,
     pub length: u64,
@@ -81,13 +83,14 @@ pub struct SplitAnswer {
 
 // The file with one receiver's groups alone, at the front of out.
 #[no_mangle]
-pub extern "C" fn bai2_split(name: &[u8], file: &[u8], out: &mut [u8]) -> SplitAnswer
+pub extern "C" fn bai2_split(name: &[u8], file: &[u8], out: &mut [u8]) -> Bai2Answer
     ensures { λ r. ⌜ splitMeant r (now (out .exit)) ≡ split (now (name .entry)) (now (file .entry)) (now (out .entry)) ⌝ }
 {
     let r = join_split::split(name, file, out);
-    let place = r.place;
-    SplitAnswer {
-        number: r.number,
+    let refusal = r.refusal;
+    let place = refusal.place;
+    Bai2Answer {
+        number: refusal.number,
         place: place.0 as u64,
         length: r.length as u64,
     }
@@ -95,7 +98,7 @@ pub extern "C" fn bai2_split(name: &[u8], file: &[u8], out: &mut [u8]) -> SplitA
 
 // What combining two files answers; file: the one that the reader refused, 1 or 2, or 0.
 #[repr(C)]
-pub struct CombineAnswer {
+pub struct Bai2Combined {
     pub number: u64,
     pub place: u64,
     pub length: u64,
@@ -104,13 +107,14 @@ pub struct CombineAnswer {
 
 // The first file's header and groups, then the second's groups, at the front of out.
 #[no_mangle]
-pub extern "C" fn bai2_combine(a: &[u8], b: &[u8], out: &mut [u8]) -> CombineAnswer
+pub extern "C" fn bai2_combine(a: &[u8], b: &[u8], out: &mut [u8]) -> Bai2Combined
     ensures { λ r. ⌜ combineMeant r (now (out .exit)) ≡ combine (now (a .entry)) (now (b .entry)) (now (out .entry)) ⌝ }
 {
     let r = join_combine::combine(a, b, out);
-    let place = r.place;
-    CombineAnswer {
-        number: r.number,
+    let refusal = r.refusal;
+    let place = refusal.place;
+    Bai2Combined {
+        number: refusal.number,
         place: place.0 as u64,
         length: r.length as u64,
         file: r.file,

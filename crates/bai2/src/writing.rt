@@ -1,14 +1,14 @@
 // The writer's calls for C: its state is plain numbers, which each call takes by value and hands back.
-use c_writer::WriteAnswer;
-use c_writer::WriterState;
+use c_writer::Bai2Writer;
+use c_writer::Bai2Written;
 use write_state::Writer;
 ghost use mathlib.Core.Path.{_≡_};
 ghost use Rattle.rules.specs.Writer as rules;
-ghost use Rattle.c_writer.specs.Figures.{numbersOf, replied, replyTo, amountAsked, itemOf, itemAsked};
+ghost use Rattle.c_writer.specs.WriterFigures.{numbersOf, replied, replyTo, amountAsked, itemOf, itemAsked};
 
 // A writer that has written nothing.
 #[no_mangle]
-pub extern "C" fn bai2_writer_new() -> WriterState
+pub extern "C" fn bai2_writer_new() -> Bai2Writer
     ensures { λ r. ⌜ r ≡ numbersOf rules.freshWriter ⌝ }
 {
     c_writer::numbers_of(Writer::new())
@@ -17,15 +17,15 @@ pub extern "C" fn bai2_writer_new() -> WriterState
 // The line 01.
 #[no_mangle]
 pub extern "C" fn bai2_write_header(
-    writer: WriterState,
+    writer: Bai2Writer,
     sender: &[u8],
     receiver: &[u8],
     date: &[u8],
     time: &[u8],
     file_number: &[u8],
     out: &mut [u8],
-) -> WriteAnswer
-    ensures { λ r. ⌜ replied r (now (out .exit)) ≡ replyTo writer (rules.header (now (sender .entry)) (now (receiver .entry)) (now (date .entry)) (now (time .entry)) (now («file_number» .entry))) (now (out .entry)) ⌝ }
+) -> Bai2Written
+    ensures { λ r. ⌜ replied r (now (out .exit)) ≡ replyTo writer (rules.writeHeader (now (sender .entry)) (now (receiver .entry)) (now (date .entry)) (now (time .entry)) (now («file_number» .entry))) (now (out .entry)) ⌝ }
 {
     let w = c_writer::state_of(writer);
     let r = write_calls::header(w, sender, receiver, date, time, file_number, out);
@@ -35,7 +35,7 @@ pub extern "C" fn bai2_write_header(
 // The line 02.
 #[no_mangle]
 pub extern "C" fn bai2_write_group(
-    writer: WriterState,
+    writer: Bai2Writer,
     receiver: &[u8],
     originator: &[u8],
     status: &[u8],
@@ -44,8 +44,8 @@ pub extern "C" fn bai2_write_group(
     currency: &[u8],
     modifier: &[u8],
     out: &mut [u8],
-) -> WriteAnswer
-    ensures { λ r. ⌜ replied r (now (out .exit)) ≡ replyTo writer (rules.group (now (receiver .entry)) (now (originator .entry)) (now (status .entry)) (now (date .entry)) (now (time .entry)) (now (currency .entry)) (now (modifier .entry))) (now (out .entry)) ⌝ }
+) -> Bai2Written
+    ensures { λ r. ⌜ replied r (now (out .exit)) ≡ replyTo writer (rules.writeGroup (now (receiver .entry)) (now (originator .entry)) (now (status .entry)) (now (date .entry)) (now (time .entry)) (now (currency .entry)) (now (modifier .entry))) (now (out .entry)) ⌝ }
 {
     let w = c_writer::state_of(writer);
     let r = write_calls::group(
@@ -65,7 +65,7 @@ pub extern "C" fn bai2_write_group(
 // The line 03, with an item where item_given is not 0.
 #[no_mangle]
 pub extern "C" fn bai2_write_account(
-    writer: WriterState,
+    writer: Bai2Writer,
     account: &[u8],
     currency: &[u8],
     item_given: u64,
@@ -75,8 +75,8 @@ pub extern "C" fn bai2_write_account(
     count_given: u64,
     count: u64,
     out: &mut [u8],
-) -> WriteAnswer
-    ensures { λ r. ⌜ replied r (now (out .exit)) ≡ replyTo writer (rules.account (now (account .entry)) (now (currency .entry)) (itemAsked «item_given» (itemOf (now («type_code» .entry)) «amount_given» amount «count_given» count))) (now (out .entry)) ⌝ }
+) -> Bai2Written
+    ensures { λ r. ⌜ replied r (now (out .exit)) ≡ replyTo writer (rules.writeAccount (now (account .entry)) (now (currency .entry)) (itemAsked «item_given» (itemOf (now («type_code» .entry)) «amount_given» amount «count_given» count))) (now (out .entry)) ⌝ }
 {
     let w = c_writer::state_of(writer);
     let a = c_writer::amount_asked(amount_given, amount);
@@ -88,15 +88,15 @@ pub extern "C" fn bai2_write_account(
 // A further item of the account: a line 88.
 #[no_mangle]
 pub extern "C" fn bai2_write_item(
-    writer: WriterState,
+    writer: Bai2Writer,
     type_code: &[u8],
     amount_given: u64,
     amount: i64,
     count_given: u64,
     count: u64,
     out: &mut [u8],
-) -> WriteAnswer
-    ensures { λ r. ⌜ replied r (now (out .exit)) ≡ replyTo writer (rules.further (itemOf (now («type_code» .entry)) «amount_given» amount «count_given» count)) (now (out .entry)) ⌝ }
+) -> Bai2Written
+    ensures { λ r. ⌜ replied r (now (out .exit)) ≡ replyTo writer (rules.writeItem (itemOf (now («type_code» .entry)) «amount_given» amount «count_given» count)) (now (out .entry)) ⌝ }
 {
     let w = c_writer::state_of(writer);
     let a = c_writer::amount_asked(amount_given, amount);
@@ -108,7 +108,7 @@ pub extern "C" fn bai2_write_item(
 // The line 16.
 #[no_mangle]
 pub extern "C" fn bai2_write_detail(
-    writer: WriterState,
+    writer: Bai2Writer,
     type_code: &[u8],
     amount_given: u64,
     amount: i64,
@@ -116,8 +116,8 @@ pub extern "C" fn bai2_write_detail(
     customer_reference: &[u8],
     text: &[u8],
     out: &mut [u8],
-) -> WriteAnswer
-    ensures { λ r. ⌜ replied r (now (out .exit)) ≡ replyTo writer (rules.transaction (now («type_code» .entry)) (amountAsked «amount_given» amount) (now («bank_reference» .entry)) (now («customer_reference» .entry)) (now (text .entry))) (now (out .entry)) ⌝ }
+) -> Bai2Written
+    ensures { λ r. ⌜ replied r (now (out .exit)) ≡ replyTo writer (rules.writeDetail (now («type_code» .entry)) (amountAsked «amount_given» amount) (now («bank_reference» .entry)) (now («customer_reference» .entry)) (now (text .entry))) (now (out .entry)) ⌝ }
 {
     let w = c_writer::state_of(writer);
     let a = c_writer::amount_asked(amount_given, amount);
@@ -135,8 +135,8 @@ pub extern "C" fn bai2_write_detail(
 
 // The line 49.
 #[no_mangle]
-pub extern "C" fn bai2_write_end_account(writer: WriterState, out: &mut [u8]) -> WriteAnswer
-    ensures { λ r. ⌜ replied r (now (out .exit)) ≡ replyTo writer rules.accountEnd (now (out .entry)) ⌝ }
+pub extern "C" fn bai2_write_end_account(writer: Bai2Writer, out: &mut [u8]) -> Bai2Written
+    ensures { λ r. ⌜ replied r (now (out .exit)) ≡ replyTo writer rules.endAccount (now (out .entry)) ⌝ }
 {
     let w = c_writer::state_of(writer);
     let r = write_calls::end_account(w, out);
@@ -145,8 +145,8 @@ pub extern "C" fn bai2_write_end_account(writer: WriterState, out: &mut [u8]) ->
 
 // The line 98.
 #[no_mangle]
-pub extern "C" fn bai2_write_end_group(writer: WriterState, out: &mut [u8]) -> WriteAnswer
-    ensures { λ r. ⌜ replied r (now (out .exit)) ≡ replyTo writer rules.groupEnd (now (out .entry)) ⌝ }
+pub extern "C" fn bai2_write_end_group(writer: Bai2Writer, out: &mut [u8]) -> Bai2Written
+    ensures { λ r. ⌜ replied r (now (out .exit)) ≡ replyTo writer rules.endGroup (now (out .entry)) ⌝ }
 {
     let w = c_writer::state_of(writer);
     let r = write_calls::end_group(w, out);
@@ -155,8 +155,8 @@ pub extern "C" fn bai2_write_end_group(writer: WriterState, out: &mut [u8]) -> W
 
 // The line 99.
 #[no_mangle]
-pub extern "C" fn bai2_write_end_file(writer: WriterState, out: &mut [u8]) -> WriteAnswer
-    ensures { λ r. ⌜ replied r (now (out .exit)) ≡ replyTo writer rules.fileEnd (now (out .entry)) ⌝ }
+pub extern "C" fn bai2_write_end_file(writer: Bai2Writer, out: &mut [u8]) -> Bai2Written
+    ensures { λ r. ⌜ replied r (now (out .exit)) ≡ replyTo writer rules.endFile (now (out .entry)) ⌝ }
 {
     let w = c_writer::state_of(writer);
     let r = write_calls::end_file(w, out);

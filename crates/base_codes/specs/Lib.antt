@@ -1,2 +1,2 @@
 -- What the codes stand for.
-pub mod Meanings
+pub mod CodeMeaning

@@ -11,7 +11,7 @@ use lib.Dec.{ltb}
 use borrow.Author.Tests.{lt-ltb, le-ltb, ltb-false}
 use Rattle.rules.specs.Bytes.{Bytes, all}
 use Rattle.rules.specs.Numbers.{isDigit, digits, numberFrom, number, decimalWithin, decimal}
-use Rattle.base_digits.proofs.Tests.{below-or-from, and-left, and-right, within, at-least, at-most}
+use Rattle.base_digits.proofs.DigitTests.{below-or-from, and-left, and-right, within, at-least, at-most}
 
 -- ---- a number's digits, by tenths
 
@@ -54,7 +54,7 @@ module _ {ℓ} (P : ℕ → Type ℓ) (small : (n : ℕ) → n < 10 → P n) (st
 
 -- ---- the number that digits stand for
 
--- digits behind others go on from the number of those
+-- digits after others go on from the number of those
 pub number-append : (n : ℕ) (xs ys : Bytes) → numberFrom n (xs ++ ys) ≡ numberFrom (numberFrom n xs) ys
 unfolding numberFrom
 number-append n [] ys = refl
@@ -91,7 +91,7 @@ unfolding all
 all-append test [] ys = refl
 all-append test (x ∷ xs) ys = rw (all-append test xs ys) (sym (and-assoc (test x) (all test xs) (all test ys)))
 
--- of some digits the first is one, and those behind it are
+-- of some digits the first is one, and those after it are
 module _ (x : ℕ) (xs : Bytes) (e : all isDigit (x ∷ xs) ≡ true) where
   first-is : isDigit x ≡ true
   unfolding all
@@ -103,9 +103,9 @@ module _ (x : ℕ) (xs : Bytes) (e : all isDigit (x ∷ xs) ≡ true) where
   pub first-high : x ≤ 57
   first-high = at-most 48 57 x first-is
 
-  pub behind-are : all isDigit xs ≡ true
+  pub after-are : all isDigit xs ≡ true
   unfolding all
-  behind-are = and-right (isDigit x) (all isDigit xs) e
+  after-are = and-right (isDigit x) (all isDigit xs) e
 
 -- a number below 10 as a digit
 digit-of : (n : ℕ) → n < 10 → all isDigit ((48 + n) ∷ []) ≡ true
@@ -144,6 +144,10 @@ decimal-at-most (suc (suc k)) n one h =
     omega (arith, decimal-longer n g, decimal-at-most (suc k) (n / 10) (omega arith) (omega arith)))
     (below-or-from n 10)
 
+-- a number of 64 bits has at most 20
+pub decimal-short : (n : ℕ) → n < 18_446_744_073_709_551_616 → length (decimal n) ≤ 20
+decimal-short n h = decimal-at-most 20 n (omega arith) (omega arith)
+
 -- a number from 10^k on has at least k + 1
 pub decimal-at-least : (k n : ℕ) → 10 ^ k ≤ n → k + 1 ≤ length (decimal n)
 decimal-at-least zero n h = decimal-some n
@@ -173,14 +177,14 @@ decimal-no-leading-zero (suc n) e = absurd (omega (arith, decimal-first (suc n) 
 
 -- ---- how large the number is
 
--- behind those that stand for n, the number of k digits is below (n + 1) * 10^k
+-- after those that stand for n, the number of k digits is below (n + 1) * 10^k
 below-power : (n : ℕ) (xs : Bytes) → all isDigit xs ≡ true → numberFrom n xs < (n + 1) * 10 ^ length xs
 unfolding numberFrom
 below-power n [] e = rw (pow-zero 10, mul-one (n + 1)) (omega arith)
 below-power n (x ∷ xs) e =
     let up : n * 10 + (x - 48) + 1 ≤ (n + 1) * 10 = omega (arith, first-high x xs e) in
     rw (pow-suc 10 (length xs), mul-comm (10 ^ length xs) 10, ← mul-assoc (n + 1) 10 (10 ^ length xs))
-    (lt-of-lt-of-le (below-power (n * 10 + (x - 48)) xs (behind-are x xs e)) (mul-le-mul-right (10 ^ length xs) up))
+    (lt-of-lt-of-le (below-power (n * 10 + (x - 48)) xs (after-are x xs e)) (mul-le-mul-right (10 ^ length xs) up))
 
 -- the number of k digits is below 10^k
 pub number-below : (xs : Bytes) → all isDigit xs ≡ true → number xs < 10 ^ length xs
@@ -188,7 +192,7 @@ number-below xs e = omega (arith, below-power 0 xs e)
 
 -- ---- the digits of the number that digits stand for
 
--- behind those of a number other than 0, digits are the whole number's
+-- after those of a number other than 0, digits are the whole number's
 decimal-from : (n : ℕ) (xs : Bytes) → 0 < n → all isDigit xs ≡ true → decimal (numberFrom n xs) ≡ decimal n ++ xs
 unfolding numberFrom
 decimal-from n [] h e = sym (append-nil (decimal n))
@@ -197,7 +201,7 @@ decimal-from n (x ∷ xs) h e =
     let hi = first-high x xs e in
     let tenth : (n * 10 + (x - 48)) / 10 ≡ n = omega arith in
     let last : 48 + (n * 10 + (x - 48)) % 10 ≡ x = omega arith in
-    decimal-from (n * 10 + (x - 48)) xs (omega arith) (behind-are x xs e)
+    decimal-from (n * 10 + (x - 48)) xs (omega arith) (after-are x xs e)
     ∙ rw (decimal-step (n * 10 + (x - 48)) (omega arith), tenth, last) (append-assoc (decimal n) (x ∷ []) xs)
 
 -- digits that start with no zero are their number's
@@ -208,4 +212,4 @@ decimal-number x xs e h =
     let first : 0 * 10 + (x - 48) ≡ x - 48 = omega arith in
     let digit : 48 + (x - 48) ≡ x = omega arith in
     rw first
-    (decimal-from (x - 48) xs (omega arith) (behind-are x xs e) ∙ rw (decimal-small (x - 48) (omega arith), digit))
+    (decimal-from (x - 48) xs (omega arith) (after-are x xs e) ∙ rw (decimal-small (x - 48) (omega arith), digit))

@@ -1,6 +1,6 @@
 -- Laws that belong to no one function. Read in this order.
-pub mod Tests
+pub mod DigitTests
 pub mod DigitStrings
-pub mod Reading
-pub mod Signs
-pub mod Totals
+pub mod ReadingLaws
+pub mod SignLaws
+pub mod TotalStrings

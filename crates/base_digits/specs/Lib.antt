@@ -1,2 +1,2 @@
 -- What the code's structs and answers mean in the rules' terms.
-pub mod Reading
+pub mod NumbersRead

@@ -2,9 +2,10 @@
 ghost use mathlib.Core.Path.{_≡_};
 ghost use Prim.Native.Nat.{_≤_};
 ghost use Rattle.rules.specs.Bytes.{all, between, minus, startsWith};
-ghost use Rattle.rules.specs.Numbers.{digits, most, withoutSign};
+ghost use Rattle.rules.specs.Numbers.{digits, withoutSign};
+ghost use Rattle.rules.specs.Limits.{most};
 ghost use Rattle.rules.specs.Grammar.{isSigned, isUnsigned};
-ghost use Rattle.base_digits.specs.Reading.{valueOf, amountMeant, amountIn};
+ghost use Rattle.base_digits.specs.NumbersRead.{valueOf, amountMeant, amountIn};
 
 // An amount or total has no more digits.
 const MOST_DIGITS: usize = 18;
@@ -84,7 +85,7 @@ pub fn is_negative(f: &[u8]) -> bool
 }
 
 // The bytes less a plus or minus in front.
-pub fn behind_sign(f: &[u8]) -> &[u8]
+pub fn without_sign(f: &[u8]) -> &[u8]
     ensures { λ r. ⌜ now r ≡ withoutSign (now (f .entry)) ⌝ }
 {
     if f.len() == 0 {
@@ -103,7 +104,7 @@ pub fn behind_sign(f: &[u8]) -> &[u8]
 pub fn is_signed(f: &[u8]) -> bool
     ensures { λ r. ⌜ r ≡ isSigned (now (f .entry)) ⌝ }
 {
-    is_digits(behind_sign(f), 1, MOST_DIGITS)
+    is_digits(without_sign(f), 1, MOST_DIGITS)
 }
 
 // 1 to 18 digits, with at most a plus.
@@ -128,6 +129,6 @@ pub fn amount_in(f: &[u8]) -> Amount
 {
     Amount {
         negative: is_negative(f),
-        magnitude: value(behind_sign(f)),
+        magnitude: value(without_sign(f)),
     }
 }

@@ -1,2 +1,2 @@
 -- Digits put one by one, and bytes put at the front of a slice.
-pub mod Putting
+pub mod PutLaws

@@ -1,2 +1,2 @@
 -- Bytes put at the front of a slice.
-pub mod Put
+pub mod PutBytes

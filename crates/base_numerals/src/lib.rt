@@ -4,8 +4,8 @@ ghost use mathlib.Core.Path.{_≡_};
 ghost use Prim.Native.Nat.{_≤_};
 ghost use lib.ListN.{length};
 ghost use Rattle.rules.specs.Numbers.{decimal, totalBytes};
-ghost use Rattle.base_quantities.specs.Kinds.{sumMeant};
-ghost use Rattle.base_numerals.specs.Put.{Put};
+ghost use Rattle.base_quantities.specs.QuantityMeanings.{sumMeant};
+ghost use Rattle.base_numerals.specs.PutBytes.{Put};
 
 // How many digits n has.
 pub fn digit_count(n: u64) -> usize

@@ -1,2 +1,2 @@
 -- When a sum stays within its bound.
-pub mod Sums
+pub mod UnitsLaws

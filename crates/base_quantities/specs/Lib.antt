@@ -1,2 +1,2 @@
 -- What sums, counts and places mean.
-pub mod Kinds
+pub mod QuantityMeanings

@@ -1,11 +1,9 @@
-// Three kinds of number that must not mix: sums of minor units, counts of records, and places of bytes.
+// Three quantities that must not mix: sums of minor units, counts of records, and places of bytes.
+use base_limits::MOST;
 ghost use mathlib.Core.Path.{_≡_};
 ghost use Prim.Native.Nat.{_+_, min};
 ghost use Rattle.rules.specs.Numbers.{zeroSum, asSum, _⊕_};
-ghost use Rattle.base_quantities.specs.Kinds.{sumMeant, unitsWithin, mostRecords};
-
-// The largest sum of magnitudes.
-pub const MOST: u64 = 999_999_999_999_999_999;
+ghost use Rattle.base_quantities.specs.QuantityMeanings.{sumMeant, wrappedSum, unitsWithin, mostRecords};
 
 // The largest count that can be kept.
 pub const MOST_RECORDS: u64 = 18_446_744_073_709_551_615;
@@ -33,9 +31,29 @@ impl Units {
         Units(0, 0)
     }
 
-    // The sum with one amount more.
-    pub fn add(self, minus: bool, n: u64) -> UnitsSum
-        ensures { λ r. ⌜ r ≡ unitsWithin (sumMeant self ⊕ asSum (record { negative = minus; magnitude = n })) ⌝ }
+    // A magnitude with its sign, as a sum: a debit is a plus like a credit, and only a minus sign counts as a minus.
+    pub fn of(negative: bool, magnitude: u64) -> Units
+        ensures { λ r. ⌜ sumMeant r ≡ asSum (record { negative = negative; magnitude = magnitude }) ⌝ }
+    {
+        if negative {
+            return Units(0, magnitude);
+        }
+        Units(magnitude, 0)
+    }
+
+    // Both sums in one, pluses to pluses and minuses to minuses; a side past the largest number of 64 bits wraps.
+    pub fn add(self, other: Units) -> Units
+        ensures { λ r. ⌜ sumMeant r ≡ wrappedSum (sumMeant self ⊕ sumMeant other) ⌝ }
+    {
+        Units(
+            std::num::wrapping_add_u64(self.0, other.0),
+            std::num::wrapping_add_u64(self.1, other.1),
+        )
+    }
+
+    // Both sums in one, unless the magnitudes pass the largest sum.
+    pub fn join(self, other: Units) -> UnitsSum
+        ensures { λ r. ⌜ r ≡ unitsWithin (sumMeant self ⊕ sumMeant other) ⌝ }
     {
         let pluses = self.0;
         let minuses = self.1;
@@ -45,23 +63,14 @@ impl Units {
         if MOST - pluses < minuses {
             return UnitsSum::Beyond;
         }
-        if MOST - pluses - minuses < n {
+        let room = MOST - pluses - minuses;
+        if room < other.0 {
             return UnitsSum::Beyond;
         }
-        if minus {
-            return UnitsSum::Within(Units(pluses, minuses + n));
+        if room - other.0 < other.1 {
+            return UnitsSum::Beyond;
         }
-        UnitsSum::Within(Units(pluses + n, minuses))
-    }
-
-    // Two sums in one.
-    pub fn join(self, other: Units) -> UnitsSum
-        ensures { λ r. ⌜ r ≡ unitsWithin (sumMeant self ⊕ sumMeant other) ⌝ }
-    {
-        match self.add(false, other.0) {
-            UnitsSum::Within(sum) => sum.add(true, other.1),
-            UnitsSum::Beyond => UnitsSum::Beyond,
-        }
+        UnitsSum::Within(Units(pluses + other.0, minuses + other.1))
     }
 }
 
@@ -76,22 +85,5 @@ impl Records {
             return Records(MOST_RECORDS);
         }
         Records(a + b)
-    }
-}
-
-impl Place {
-    // The place n bytes on, and the end where that is past it.
-    pub fn after(self, n: usize, end: Place) -> Place
-        ensures { λ r. ⌜ r .0 ≡ min (self .0 + n) (end .0) ⌝ }
-    {
-        let at = self.0;
-        let last = end.0;
-        if last < at {
-            return Place(last);
-        }
-        if last - at < n {
-            return Place(last);
-        }
-        Place(at + n)
     }
 }

@@ -1,3 +1,3 @@
 -- Laws that belong to no one function. Read in this order.
-pub mod Comparing
-pub mod Writing
+pub mod CompareLaws
+pub mod WroteLaws

@@ -1,2 +1,2 @@
--- What it means that a result is written piece by piece.
-pub mod Wrote
+-- What it means that a result is written part by part.
+pub mod WroteBytes

@@ -1,7 +1,9 @@
-// Bytes compared, and bytes put into a lent slice.
+// Bytes compared, the first bytes of a slice, and bytes put into a lent slice.
 ghost use mathlib.Core.Path.{_≡_};
+ghost use Prim.Native.Nat.{min};
+ghost use lib.ListN.{take};
 ghost use Rattle.rules.specs.Bytes.{sameBytes};
-ghost use Rattle.base_numerals.specs.Put.{Put};
+ghost use Rattle.base_numerals.specs.PutBytes.{Put};
 
 // Equal byte for byte.
 pub fn same_bytes(a: &[u8], b: &[u8]) -> bool
@@ -18,6 +20,26 @@ pub fn same_bytes(a: &[u8], b: &[u8]) -> bool
         i += 1;
     }
     true
+}
+
+// The smaller of two bytes.
+pub fn smaller(a: u8, b: u8) -> u8
+    ensures { λ r. ⌜ r ≡ min a b ⌝ }
+{
+    if a < b {
+        return a;
+    }
+    b
+}
+
+// The first `size` bytes, or all.
+pub fn front(s: &[u8], size: usize) -> &[u8]
+    ensures { λ r. ⌜ now r ≡ take size (now (s .entry)) ⌝ }
+{
+    if s.len() <= size {
+        return s;
+    }
+    &s[0..size]
 }
 
 // The bytes of src at the front of out: how many; or 0, and nothing changed, where they don't fit.

@@ -1,2 +1,2 @@
 -- What a summary says.
-pub mod Summaries
+pub mod SummaryMeaning

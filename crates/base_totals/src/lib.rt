@@ -1,14 +1,14 @@
-// What records add up to, for the reader and the writer: a file's summary, a group's, an account's, and what each record adds.
+// What records add up to, for the reader and the writer: a file's summary, a group's, an account's; what each record adds, and two summaries in one.
 use base_codes::Code;
 use base_quantities::Records;
 use base_quantities::Units;
 ghost use mathlib.Core.Path.{_≡_};
 ghost use mathlib.Core.Bool.{cond};
-ghost use Rattle.rules.specs.Totals.{noSummary};
+ghost use Rattle.rules.specs.Totals.{noSummary, _⊞_};
 ghost use Rattle.rules.specs.Totals as totals;
-ghost use Rattle.base_codes.specs.Meanings.{codeMeant};
-ghost use Rattle.base_quantities.specs.Kinds.{sumMeant};
-ghost use Rattle.base_totals.specs.Summaries.{nothingYet, summaryMeant};
+ghost use Rattle.base_codes.specs.CodeMeaning.{codeMeant};
+ghost use Rattle.base_quantities.specs.QuantityMeanings.{sumMeant};
+ghost use Rattle.base_totals.specs.SummaryMeaning.{nothingYet, summaryMeant, wrappedSummary};
 
 // A file's total and its numbers of groups, accounts, details and records; likewise a group's, an account's, a record's.
 pub struct Summary {
@@ -36,7 +36,7 @@ pub fn no_summary() -> Summary
 fn one(code: Code, of: Code) -> u64
     ensures { λ r. ⌜ r ≡ totals.one (codeMeant code) (codeMeant of) ⌝ }
 {
-    if read_order::same_code(code, of) {
+    if base_codes::same_code(code, of) {
         return 1;
     }
     0
@@ -52,6 +52,22 @@ pub fn adding(code: Code, total: Units, records: Records) -> Summary
         accounts: one(code, Code::AccountHeader),
         details: one(code, Code::Detail),
         records,
+    }
+}
+
+// Both summaries in one; a number past the largest of 64 bits wraps.
+pub fn add(a: Summary, b: Summary) -> Summary
+    ensures { λ r. ⌜ summaryMeant r ≡ wrappedSummary (summaryMeant a ⊞ summaryMeant b) ⌝ }
+{
+    let total = a.total;
+    let m = a.records;
+    let n = b.records;
+    Summary {
+        total: total.add(b.total),
+        groups: std::num::wrapping_add_u64(a.groups, b.groups),
+        accounts: std::num::wrapping_add_u64(a.accounts, b.accounts),
+        details: std::num::wrapping_add_u64(a.details, b.details),
+        records: Records(std::num::wrapping_add_u64(m.0, n.0)),
     }
 }
 

@@ -1,2 +1,2 @@
 -- What the writer's numbers and answers to C say in document 01's terms.
-pub mod Figures
+pub mod WriterFigures

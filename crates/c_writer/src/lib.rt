@@ -1,5 +1,6 @@
 // The writer's state and its answers as plain numbers, which C hands from call to call; amounts and counts that C gives or leaves out.
 use base_digits::Amount;
+use base_limits::LONGEST_FILE;
 use base_quantities::Place;
 use base_quantities::Records;
 use base_quantities::Units;
@@ -11,11 +12,11 @@ use write_state::Writer;
 use write_state::Written;
 ghost use mathlib.Core.Path.{_≡_};
 ghost use mathlib.Core.List.{[]};
-ghost use Rattle.base_digits.specs.Reading.{amountMeant};
-ghost use Rattle.write_line.specs.Drafts.{amountGiven, countGiven};
-ghost use Rattle.base_totals.specs.Summaries.{summaryMeant};
-ghost use Rattle.write_state.specs.States.{phaseMeant, writerMeant, writtenMeant};
-ghost use Rattle.c_writer.specs.Figures.{summaryOf, figuresOf, phaseOf, phaseFigure, flag, sizeOf, stateOf, numbersOf, numbersBehind, answerOf, signedOf, amountAsked, countAsked};
+ghost use Rattle.base_digits.specs.NumbersRead.{amountMeant};
+ghost use Rattle.write_line.specs.DraftMeaning.{amountGiven, countGiven};
+ghost use Rattle.base_totals.specs.SummaryMeaning.{summaryMeant};
+ghost use Rattle.write_state.specs.WriterMeaning.{phaseMeant, writerMeant, writtenMeant};
+ghost use Rattle.c_writer.specs.WriterFigures.{summaryOf, figuresOf, phaseOf, phaseNumber, flag, sizeOf, stateOf, numbersOf, numbersAfter, answerOf, signedOf, amountAsked, countAsked};
 
 // A summary in figures.
 #[repr(C)]
@@ -30,7 +31,7 @@ pub struct Figures {
 
 // Where the writer stands: the bytes so far, what was written last, whether a further item may come, and the summaries.
 #[repr(C)]
-pub struct WriterState {
+pub struct Bai2Writer {
     pub size: u64,
     pub phase: u64,
     pub items: u64,
@@ -41,11 +42,11 @@ pub struct WriterState {
 
 // What a call of the writer answers.
 #[repr(C)]
-pub struct WriteAnswer {
+pub struct Bai2Written {
     pub number: u64,
     pub place: u64,
     pub length: u64,
-    pub writer: WriterState,
+    pub writer: Bai2Writer,
 }
 
 // ---- the state
@@ -79,7 +80,7 @@ fn figures_of(s: Summary) -> Figures
     }
 }
 
-// The phase of this number.
+// The phase of this number of include/bai2.h; any other is taken for the last, and `size_of` refuses it.
 fn phase_of(n: u64) -> Phase
     ensures { λ r. ⌜ phaseMeant r ≡ phaseOf n ⌝ }
 {
@@ -94,8 +95,8 @@ fn phase_of(n: u64) -> Phase
 }
 
 // A phase's number in include/bai2.h.
-fn phase_figure(p: Phase) -> u64
-    ensures { λ r. ⌜ r ≡ phaseFigure (phaseMeant p) ⌝ }
+fn phase_number(p: Phase) -> u64
+    ensures { λ r. ⌜ r ≡ phaseNumber (phaseMeant p) ⌝ }
 {
     match p {
         Phase::Fresh => 0,
@@ -118,20 +119,20 @@ pub fn flag_of(holds: bool) -> u64
 }
 
 // The bytes so far; more than any file has where phase or items have no meaning.
-fn size_of(w: WriterState) -> usize
+fn size_of(w: Bai2Writer) -> usize
     ensures { λ r. ⌜ r ≡ sizeOf w ⌝ }
 {
     if 5 < w.phase {
-        return write_state::MOST_BYTES + 1;
+        return LONGEST_FILE + 1;
     }
     if 1 < w.items {
-        return write_state::MOST_BYTES + 1;
+        return LONGEST_FILE + 1;
     }
     w.size as usize
 }
 
 // The state that the numbers say.
-pub fn state_of(w: WriterState) -> Writer
+pub fn state_of(w: Bai2Writer) -> Writer
     ensures { λ r. ⌜ writerMeant r ≡ stateOf w ⌝ }
 {
     Writer {
@@ -145,14 +146,14 @@ pub fn state_of(w: WriterState) -> Writer
 }
 
 // A state's numbers.
-pub fn numbers_of(w: Writer) -> WriterState
+pub fn numbers_of(w: Writer) -> Bai2Writer
     ensures { λ r. ⌜ r ≡ numbersOf (writerMeant w) ⌝ }
 {
     let size = w.size;
     let phase = w.phase;
-    WriterState {
+    Bai2Writer {
         size: size.0 as u64,
-        phase: phase_figure(phase),
+        phase: phase_number(phase),
         items: flag_of(w.items),
         file: figures_of(w.file),
         group: figures_of(w.group),
@@ -160,26 +161,28 @@ pub fn numbers_of(w: Writer) -> WriterState
     }
 }
 
-// The numbers behind a call: the new state's where it was accepted, those given where it was refused.
-fn numbers_behind(given: WriterState, r: Written) -> WriterState
-    ensures { λ n. ⌜ n ≡ numbersBehind given (writtenMeant r []) ⌝ }
+// The numbers after a call: the new state's where it was accepted, those given where it was refused.
+fn numbers_after(given: Bai2Writer, r: Written) -> Bai2Writer
+    ensures { λ n. ⌜ n ≡ numbersAfter given (writtenMeant r []) ⌝ }
 {
-    if r.number != 0 {
+    let why = r.refusal;
+    if why.number != 0 {
         return given;
     }
     numbers_of(r.writer)
 }
 
 // The answer for C.
-pub fn answered(given: WriterState, r: Written) -> WriteAnswer
+pub fn answered(given: Bai2Writer, r: Written) -> Bai2Written
     ensures { λ a. ⌜ a ≡ answerOf given (writtenMeant r []) ⌝ }
 {
-    let place = r.place;
-    WriteAnswer {
-        number: r.number,
+    let why = r.refusal;
+    let place = why.place;
+    Bai2Written {
+        number: why.number,
         place: place.0 as u64,
         length: r.length as u64,
-        writer: numbers_behind(given, r),
+        writer: numbers_after(given, r),
     }
 }
 

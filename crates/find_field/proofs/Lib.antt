@@ -1,5 +1,5 @@
 -- Laws that belong to no one function. Read in this order.
-pub mod Asking
-pub mod Sighting
-pub mod Agreeing
-pub mod Reading
+pub mod SoughtLaws
+pub mod SightLaws
+pub mod SearchAgrees
+pub mod DetailFields

@@ -1,3 +1,3 @@
--- The search for a field of a kind, and what the answers of src/ say of it.
-pub mod Seeking
-pub mod Meanings
+-- The search for a field of a kind, and what the answers of the code say of it.
+pub mod FieldSearch
+pub mod SoughtKinds

@@ -1,6 +1,6 @@
 // The first field of a kind in a record: where it stands, and its length; and what a detail's type and amount say.
 use base_codes::Code;
-use read_field_ends::Cut;
+use read_field_ends::Extent;
 use read_wanted::Taken;
 use read_wanted::want;
 use read_wanted::want::Want;
@@ -10,10 +10,10 @@ ghost use Rattle.rules.specs.Bytes.{isEmpty};
 ghost use Rattle.rules.specs.Numbers.{number, withoutSign};
 ghost use Rattle.rules.specs.Lines.{linesOf};
 ghost use Rattle.rules.specs.Grammar.{detailType, amount, sameKind, nextKind, fieldsOf};
-ghost use Rattle.base_codes.specs.Meanings.{codeMeant};
+ghost use Rattle.base_codes.specs.CodeMeaning.{codeMeant};
 ghost use Rattle.read_wanted.specs.Wants.{wantedOf};
-ghost use Rattle.find_field.specs.Seeking.{inDetail, seekLines};
-ghost use Rattle.find_field.specs.Meanings.{kindMeant, Sights, Spots};
+ghost use Rattle.find_field.specs.FieldSearch.{inDetail, seekLines};
+ghost use Rattle.find_field.specs.SoughtKinds.{kindMeant, Sights, Spots};
 
 // The kinds of field that can be sought: a detail's type, its amount, and its first text piece; a group's receiver; a trailer's total and its number of records.
 pub enum Sought {
@@ -37,7 +37,7 @@ pub struct Given {
     pub amount: u64,
 }
 
-// In a line: the field, by its start and length; or what is wanted behind the line; or the line is not as it was wanted.
+// In a line: the field, by its start and length; or what is wanted after the line; or the line is not as it was wanted.
 enum Seen {
     At(usize, usize),
     Next(Want),
@@ -78,7 +78,7 @@ fn is_sought(want: Want, sought: Sought) -> bool
     }
 }
 
-// The field sought among those of a line behind its code, where this is wanted first.
+// The field sought among those of a line after its code, where this is wanted first.
 fn seek_line(rest: &[u8], first: Want, sought: Sought) -> Seen
     ensures { λ r. ⌜ Sights (now (rest .entry)) first sought r ⌝ }
 {
@@ -86,7 +86,7 @@ fn seek_line(rest: &[u8], first: Want, sought: Sought) -> Seen
     let mut a: usize = 0;
     loop {
         let text = want::is_text(want);
-        let Cut::Field(n) = read_field_ends::cut_field(text, &rest[a..]) else {
+        let Extent::Field(n) = read_field_ends::field_extent(text, &rest[a..]) else {
             return Seen::Lost;
         };
         let f = a + n;
@@ -115,7 +115,7 @@ pub fn seek(rec: &[u8], first: Want, sought: Sought) -> Spot
     let mut at: usize = 0;
     while at < rec.len() {
         let e = read_lines::body_end(rec, at);
-        let next = read_lines::next_line(rec, at);
+        let next = e + read_lines::end_len(rec, e);
         let a = at + 3;
         if e < a {
             return Spot {
@@ -125,10 +125,8 @@ pub fn seek(rec: &[u8], first: Want, sought: Sought) -> Spot
         }
         match seek_line(&rec[a..e], want, sought) {
             Seen::At(i, n) => {
-                return Spot {
-                    start: a + i,
-                    length: n,
-                };
+                let start = a + i;
+                return Spot { start, length: n };
             }
             Seen::Next(w) => want = w,
             Seen::Lost => {
@@ -170,6 +168,6 @@ pub fn amount_of(rec: &[u8]) -> Given
     let f = field(rec, Code::Detail, Sought::Amount);
     Given {
         given: !read_values::is_empty(f),
-        amount: base_digits::value(base_digits::behind_sign(f)),
+        amount: base_digits::value(base_digits::without_sign(f)),
     }
 }

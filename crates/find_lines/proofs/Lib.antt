@@ -1,2 +1,2 @@
 -- Where lines of a code begin, block by block and byte by byte.
-pub mod Marking
+pub mod LineSearch

@@ -1,2 +1,2 @@
 -- Lines of two codes in bytes and in lines.
-pub mod Marks
+pub mod LinesOfCode

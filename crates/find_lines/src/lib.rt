@@ -1,48 +1,21 @@
 // Where lines of given codes stand, found by their codes alone: blocks without one are passed by vector code.
 use base_codes::Code;
+use base_codes::Digits;
 ghost use mathlib.Core.Path.{_≡_};
 ghost use mathlib.Core.Bool.{false, cond};
-ghost use Prim.Native.Nat.{suc, _+_, _-_, _≤_, _<_, min};
+ghost use Prim.Native.Nat.{suc, _+_, _-_, _≤_, _<_};
 ghost use lib.Dec.{eqb};
-ghost use lib.ListN.{length, take, drop, getD};
-ghost use Rattle.rules.specs.Bytes.{sameBytes};
-ghost use Rattle.rules.specs.Lines.{codeBytes, linesOf};
-ghost use Rattle.base_codes.specs.Meanings.{codeMeant};
-ghost use Rattle.find_lines.specs.Marks.{bytesMeant, mayMark, NoEnd, Quiet, marked, lineEnds, aheadLen, EndIs, markLen};
+ghost use lib.ListN.{length, drop, getD};
+ghost use Rattle.rules.specs.Lines.{linesOf};
+ghost use Rattle.base_codes.specs.CodeMeaning.{codeMeant, bytesMeant};
+ghost use Rattle.find_lines.specs.LinesOfCode.{mayBegin, NoEnd, Quiet, beginsEither, lineEnds, aheadLen, EndIs, bytesBefore};
 
 // So many bytes are tested at once.
 const BLOCK: usize = 128;
 
-// The two digits of a code.
-struct Digits(u8, u8);
-
-// A code's digits.
-fn digits_of(code: Code) -> Digits
-    ensures { λ r. ⌜ bytesMeant r ≡ codeBytes (codeMeant code) ⌝ }
-{
-    match code {
-        Code::FileHeader => Digits(b'0', b'1'),
-        Code::GroupHeader => Digits(b'0', b'2'),
-        Code::AccountHeader => Digits(b'0', b'3'),
-        Code::Detail => Digits(b'1', b'6'),
-        Code::AccountTrailer => Digits(b'4', b'9'),
-        Code::GroupTrailer => Digits(b'9', b'8'),
-        Code::FileTrailer => Digits(b'9', b'9'),
-        Code::Continuation => Digits(b'8', b'8'),
-    }
-}
-
-// This code and a comma stand at `at`.
-pub fn begins_at(s: &[u8], at: usize, code: Code) -> bool
-    ensures { λ r. ⌜ r ≡ sameBytes (codeBytes (codeMeant code)) (take 3 (drop at (now (s .entry)))) ⌝ }
-{
-    let d = digits_of(code);
-    read_lines::begins_with(s, at, d.0, d.1)
-}
-
 // One of the two codes stands at `at`.
-fn is_marked(s: &[u8], at: usize, x: Digits, y: Digits) -> bool
-    ensures { λ r. ⌜ r ≡ marked (bytesMeant x) (bytesMeant y) (drop at (now (s .entry))) ⌝ }
+fn begins_either(s: &[u8], at: usize, x: Digits, y: Digits) -> bool
+    ensures { λ r. ⌜ r ≡ beginsEither (bytesMeant x) (bytesMeant y) (drop at (now (s .entry))) ⌝ }
 {
     if read_lines::begins_with(s, at, x.0, x.1) {
         return true;
@@ -60,16 +33,6 @@ fn same(a: u8, b: u8) -> u8
     0
 }
 
-// The smaller of two.
-fn smaller(a: u8, b: u8) -> u8
-    ensures { λ r. ⌜ r ≡ min a b ⌝ }
-{
-    if a < b {
-        return a;
-    }
-    b
-}
-
 // The larger of two.
 fn larger(a: u8, b: u8) -> u8
     ensures { λ r. ⌜ (a ≤ r) × (b ≤ r) ⌝ }
@@ -82,16 +45,16 @@ fn larger(a: u8, b: u8) -> u8
 
 // Above 0 where something was found before, or where these two bytes end a line and begin one with x or y.
 fn meets(found: u8, a: u8, b: u8, x: u8, y: u8) -> u8
-    ensures { λ r. ⌜ (r ≡ 0 → (found ≡ 0) × (mayMark x y a b ≡ false)) ⌝ }
+    ensures { λ r. ⌜ (r ≡ 0 → (found ≡ 0) × (mayBegin x y a b ≡ false)) ⌝ }
 {
     larger(
         found,
-        smaller(same(a, b'\n'), larger(same(b, x), same(b, y))),
+        base_slices::smaller(same(a, b'\n'), larger(same(b, x), same(b, y))),
     )
 }
 
-// Behind some byte of the block at `at` such a line may begin; no test leaves the block early, so it compiles to vector code.
-fn block_marked(s: &[u8], at: usize, x: Digits, y: Digits) -> bool
+// After some byte of the block at `at` such a line may begin; no test leaves the block early, so it compiles to vector code.
+fn block_meets(s: &[u8], at: usize, x: Digits, y: Digits) -> bool
     requires { ⌜ at + 128 < length (now s) ⌝ }
     ensures { λ r. ⌜ (r ≡ false → Quiet (bytesMeant x) (bytesMeant y) (now (s .entry)) at 128) ⌝ }
 {
@@ -113,42 +76,42 @@ fn block_ends(s: &[u8], at: usize) -> bool
     let mut lowest: u8 = 255;
     let mut i: usize = 0;
     while i < BLOCK {
-        lowest = smaller(lowest, s[at + i]);
+        lowest = base_slices::smaller(lowest, s[at + i]);
         i += 1;
     }
     lowest <= b'\n'
 }
 
-// Behind some byte of the block at `at` such a line may begin: the lesser test comes first, and mostly suffices where lines are long.
-fn may_be_marked(s: &[u8], at: usize, x: Digits, y: Digits) -> bool
+// After some byte of the block at `at` such a line may begin: the lesser test comes first, and mostly suffices where lines are long.
+fn may_meet(s: &[u8], at: usize, x: Digits, y: Digits) -> bool
     requires { ⌜ at + 128 < length (now s) ⌝ }
     ensures { λ r. ⌜ (r ≡ false → Quiet (bytesMeant x) (bytesMeant y) (now (s .entry)) at 128) ⌝ }
 {
     if block_ends(s, at) {
-        return block_marked(s, at, x, y);
+        return block_meets(s, at, x, y);
     }
     false
 }
 
-// The byte at `at` ends a line, and such a line begins behind it.
-fn ends_before_mark(s: &[u8], at: usize, x: Digits, y: Digits) -> bool
+// The byte at `at` ends a line, and such a line begins after it.
+fn ends_before_line(s: &[u8], at: usize, x: Digits, y: Digits) -> bool
     requires { ⌜ at < length (now s) ⌝ }
     ensures { λ r. ⌜ r ≡ lineEnds (bytesMeant x) (bytesMeant y) (getD (now (s .entry)) at 0) (drop (suc at) (now (s .entry))) ⌝ }
 {
     if s[at] != b'\n' {
         return false;
     }
-    is_marked(s, at + 1, x, y)
+    begins_either(s, at + 1, x, y)
 }
 
 // The first byte from `at` on that ends a line before such a line, of those before e; or e.
-fn end_before_mark(s: &[u8], at: usize, e: usize, x: Digits, y: Digits) -> usize
+fn end_before_line(s: &[u8], at: usize, e: usize, x: Digits, y: Digits) -> usize
     requires { ⌜ (at ≤ e) × (e ≤ length (now s)) ⌝ }
     ensures { λ r. ⌜ EndIs (bytesMeant x) (bytesMeant y) (now (s .entry)) at e r ⌝ }
 {
     let mut i = at;
     while i < e {
-        if ends_before_mark(s, i, x, y) {
+        if ends_before_line(s, i, x, y) {
             return i;
         }
         i += 1;
@@ -156,23 +119,23 @@ fn end_before_mark(s: &[u8], at: usize, e: usize, x: Digits, y: Digits) -> usize
     i
 }
 
-// Where the next such line behind this one starts, or the end.
-fn mark_behind(s: &[u8], at: usize, x: Digits, y: Digits) -> usize
+// Where the next such line after this one starts, or the end.
+fn line_after(s: &[u8], at: usize, x: Digits, y: Digits) -> usize
     requires { ⌜ at ≤ length (now s) ⌝ }
     ensures { λ r. ⌜ (r ≡ at + aheadLen (bytesMeant x) (bytesMeant y) (drop at (now (s .entry)))) × (r ≤ length (now (s .entry))) ⌝ }
 {
     let mut i = at;
     while BLOCK < s.len() - i {
-        let behind = i + BLOCK;
-        if may_be_marked(s, i, x, y) {
-            let e = end_before_mark(s, i, behind, x, y);
-            if e < behind {
+        let after = i + BLOCK;
+        if may_meet(s, i, x, y) {
+            let e = end_before_line(s, i, after, x, y);
+            if e < after {
                 return e + 1;
             }
         }
-        i = behind;
+        i = after;
     }
-    let e = end_before_mark(s, i, s.len(), x, y);
+    let e = end_before_line(s, i, s.len(), x, y);
     if e < s.len() {
         return e + 1;
     }
@@ -180,16 +143,16 @@ fn mark_behind(s: &[u8], at: usize, x: Digits, y: Digits) -> usize
 }
 
 // Where the first line of one of the two codes starts, from the line at `at` on; or the end.
-pub fn next_mark(s: &[u8], at: usize, one: Code, other: Code) -> usize
-    ensures { λ r. ⌜ (r ≡ at + markLen (codeMeant one) (codeMeant other) (linesOf (drop at (now (s .entry))))) × (r ≤ length (now (s .entry)) + (at - length (now (s .entry)))) ⌝ }
+pub fn next_line_of(s: &[u8], at: usize, one: Code, other: Code) -> usize
+    ensures { λ r. ⌜ (r ≡ at + bytesBefore (codeMeant one) (codeMeant other) (linesOf (drop at (now (s .entry))))) × (r ≤ length (now (s .entry)) + (at - length (now (s .entry)))) ⌝ }
 {
-    let x = digits_of(one);
-    let y = digits_of(other);
+    let x = base_codes::digits_of(one);
+    let y = base_codes::digits_of(other);
     if s.len() <= at {
         return at;
     }
-    if is_marked(s, at, x, y) {
+    if begins_either(s, at, x, y) {
         return at;
     }
-    mark_behind(s, at, x, y)
+    line_after(s, at, x, y)
 }

@@ -1,3 +1,3 @@
 -- Laws that belong to no one function. Read in this order.
-pub mod Limits
-pub mod Combining
+pub mod LimitLaws
+pub mod CombineLaws

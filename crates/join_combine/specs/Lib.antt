@@ -1,2 +1,2 @@
 -- What the call's answer means.
-pub mod Answers
+pub mod CombineAnswers

@@ -1,11 +1,15 @@
 // Two files combined: A's header and groups, then B's groups, then a fresh 99; measured first, then written.
+use base_limits::LONGEST_FILE;
 use base_quantities::Place;
 use base_quantities::Records;
 use base_quantities::Units;
 use base_quantities::UnitsSum;
+use base_refusals::AMOUNTS_TOO_LARGE;
+use base_refusals::NO_ROOM;
+use base_refusals::RESULT_TOO_LONG;
+use base_refusals::Refusal;
 use read_file::GoodFile;
 use read_file::Judged;
-use read_file::MOST_BYTES;
 use read_line_checks::Checked;
 ghost use mathlib.Core.Path.{_≡_};
 ghost use mathlib.Core.List.{_++_};
@@ -15,35 +19,47 @@ ghost use lib.ListN.{length};
 ghost use Rattle.rules.specs.Bytes.{Bytes};
 ghost use Rattle.rules.specs.Numbers.{_⊕_};
 ghost use Rattle.rules.specs.Lines.{linesOf, recordSize};
-ghost use Rattle.rules.specs.Verdict.{mostBytes};
-ghost use Rattle.rules.specs.Outcome.{refused};
+ghost use Rattle.rules.specs.Limits.{longestFile};
+ghost use Rattle.rules.specs.Outcome.{refused, refuse};
 ghost use Rattle.rules.specs.Combine.{answered, linesWithin};
 ghost use Rattle.rules.specs.Combine as rules;
-ghost use Rattle.base_quantities.specs.Kinds.{sumMeant};
-ghost use Rattle.base_numerals.specs.Put.{Put};
-ghost use Rattle.read_lines.specs.Cut.{firstRecord};
-ghost use Rattle.base_totals.specs.Summaries.{summaryMeant};
-ghost use Rattle.read_file.specs.Answers.{IsGood};
-ghost use Rattle.join_combine.specs.Answers.{combinedMeant, combinedAccepted, combinedFitting};
+ghost use Rattle.base_quantities.specs.QuantityMeanings.{sumMeant};
+ghost use Rattle.base_refusals.specs.RefusalMeaning.{refusalMeant};
+ghost use Rattle.base_numerals.specs.PutBytes.{Put};
+ghost use Rattle.read_lines.specs.LineLengths.{firstRecord};
+ghost use Rattle.base_totals.specs.SummaryMeaning.{summaryMeant};
+ghost use Rattle.read_file.specs.FileAnswers.{IsGood};
+ghost use Rattle.join_combine.specs.CombineAnswers.{combinedMeant, combinedAccepted, combinedFitting};
 
-// A refusal's number and place, or 0 and 0; the result's length, or 0; and the file that the reader refused, 1 or 2, or 0.
+// The refusal, by number 0 at place 0 where there is none; the result's length, or 0; and the file that the reader refused, 1 or 2, or 0.
 pub struct Combined {
-    pub number: u64,
-    pub place: Place,
+    pub refusal: Refusal,
     pub length: usize,
     pub file: u64,
 }
 
 // Refused, with nothing written.
-fn refused(number: u64, place: Place, file: u64) -> Combined
-    ensures { λ r. ⌜ ((out : Bytes) → combinedMeant r out ≡ answered (refused number (place .0)) file out) ⌝ }
+fn refused(why: Refusal, file: u64) -> Combined
+    ensures { λ r. ⌜ ((out : Bytes) → combinedMeant r out ≡ answered (refused (refusalMeant why)) file out) ⌝ }
 {
     Combined {
-        number,
-        place,
+        refusal: why,
         length: 0,
         file,
     }
+}
+
+// Refused by this number, at place 0: neither file shows it alone.
+fn refused_by(number: u64) -> Combined
+    ensures { λ r. ⌜ ((out : Bytes) → combinedMeant r out ≡ answered (refuse number 0) 0 out) ⌝ }
+{
+    refused(
+        Refusal {
+            number,
+            place: Place(0),
+        },
+        0,
+    )
 }
 
 // The count without some of it; none is left where these are more.
@@ -68,13 +84,13 @@ fn within(s: &[u8], known: usize, limit: usize) -> bool
     }
     match read_line_checks::none_longer(s, limit) {
         Checked::Fine => true,
-        Checked::Refused(_, _) => false,
+        Checked::Refused(_) => false,
     }
 }
 
 // How many records two files of so many have without those in these three parts.
 fn records_left(m: Records, n: Records, x: &[u8], y: &[u8], z: &[u8]) -> Records
-    requires { ⌜ (m .0 ≤ mostBytes) × (n .0 ≤ mostBytes) × (length (now x) ≤ mostBytes) × (length (now y) ≤ mostBytes) × (length (now z) ≤ mostBytes) ⌝ }
+    requires { ⌜ (m .0 ≤ longestFile) × (n .0 ≤ longestFile) × (length (now x) ≤ longestFile) × (length (now y) ≤ longestFile) × (length (now z) ≤ longestFile) ⌝ }
     ensures { λ r. ⌜ r .0 ≡ (m .0 + n .0) - (length (linesOf (now (x .entry))) + length (linesOf (now (y .entry))) + length (linesOf (now (z .entry)))) ⌝ }
 {
     let gone = join_trailer::count_lines(x)
@@ -94,7 +110,7 @@ fn put_three(x: &[u8], y: &[u8], z: &[u8], out: &mut [u8]) -> usize
     o
 }
 
-// A up to its 99, B from behind its header up to its 99, and a fresh 99 with this total: 18, 15.
+// A up to its 99, B from after its header up to its 99, and a fresh 99 with this total: 18, 15.
 fn combine_fitting(
     a: &[u8],
     b: &[u8],
@@ -115,16 +131,18 @@ fn combine_fitting(
     let last = join_trailer::fresh_trailer(total, s.groups + t.groups, records.add(Records(1)));
     let size = last.length;
     let length = a99 + (b99 - header) + size;
-    if MOST_BYTES < length {
-        return refused(18, Place(0), 0);
+    if LONGEST_FILE < length {
+        return refused_by(RESULT_TOO_LONG);
     }
     if out.len() < length {
-        return refused(15, Place(0), 0);
+        return refused_by(NO_ROOM);
     }
     let bytes = last.bytes;
     Combined {
-        number: 0,
-        place: Place(0),
+        refusal: Refusal {
+            number: 0,
+            place: Place(0),
+        },
         length: put_three(&a[0..a99], &b[header..b99], &bytes[0..size], out),
         file: 0,
     }
@@ -145,12 +163,12 @@ fn combine_accepted(
     let t = second.summary;
     let sum = s.total;
     match sum.join(t.total) {
-        UnitsSum::Beyond => refused(10, Place(0), 0),
+        UnitsSum::Beyond => refused_by(AMOUNTS_TOO_LARGE),
         UnitsSum::Within(total) => {
             let header = read_lines::record_end(b, 0);
             let b99 = second.last;
             if !within(&b[header..b99], second.limit, first.limit) {
-                return refused(18, Place(0), 0);
+                return refused_by(RESULT_TOO_LONG);
             }
             combine_fitting(a, b, first, second, header, total, out)
         }
@@ -162,9 +180,9 @@ pub fn combine(a: &[u8], b: &[u8], out: &mut [u8]) -> Combined
     ensures { λ r. ⌜ combinedMeant r (now (out .exit)) ≡ rules.combine (now (a .entry)) (now (b .entry)) (now (out .entry)) ⌝ }
 {
     match read_file::judge_file(a) {
-        Judged::Refused(n, p) => refused(n, p, 1),
+        Judged::Refused(why) => refused(why, 1),
         Judged::Accepted(first) => match read_file::judge_file(b) {
-            Judged::Refused(n, p) => refused(n, p, 2),
+            Judged::Refused(why) => refused(why, 2),
             Judged::Accepted(second) => combine_accepted(a, b, first, second, out),
         },
     }

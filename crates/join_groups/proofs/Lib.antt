@@ -1,7 +1,8 @@
 -- Laws that belong to no one function. Read in this order.
-pub mod Records
-pub mod Extents
-pub mod Receivers
-pub mod Tallies
-pub mod Turns
-pub mod Opening
+pub mod GroupRecords
+pub mod GroupExtents
+pub mod ReceiverLaws
+pub mod StatedLaws
+pub mod GroupTallies
+pub mod GroupTurns
+pub mod GroupOpens

@@ -1,2 +1,3 @@
--- What is known of the groups ahead, and what the code reads of one group.
-pub mod Ahead
+-- What a group's 98 states, and what is known of the groups ahead.
+pub mod StatedNumbers
+pub mod GroupsAhead

@@ -2,12 +2,12 @@
 use base_codes::Code;
 use base_quantities::Records;
 use base_quantities::Units;
-use base_quantities::UnitsSum;
+use find_field::Sought;
 ghost use mathlib.Core.Path.{_≡_};
-ghost use Prim.Native.Nat.{_≤_};
-ghost use Rattle.rules.specs.Numbers.{_⊕_, magnitudes, most};
-ghost use Rattle.base_quantities.specs.Kinds.{sumMeant};
-ghost use Rattle.join_groups.specs.Ahead.{Takes};
+ghost use Rattle.rules.specs.Lines.{linesOf};
+ghost use Rattle.base_quantities.specs.QuantityMeanings.{sumMeant};
+ghost use Rattle.join_groups.specs.StatedNumbers.{statedTotal, statedRecords};
+ghost use Rattle.join_groups.specs.GroupsAhead.{Takes};
 
 // What groups add: how many they are, their bytes, their total and their records.
 pub struct Tally {
@@ -17,13 +17,21 @@ pub struct Tally {
     pub records: Records,
 }
 
-// Both sums in one; the first alone where their magnitudes pass the largest.
-fn added(a: Units, b: Units) -> Units
-    ensures { λ r. ⌜ (magnitudes (sumMeant a ⊕ sumMeant b) ≤ most → sumMeant r ≡ sumMeant a ⊕ sumMeant b) ⌝ }
+// What a group's 98 states: its total and its number of records.
+struct GroupTrailer {
+    total: Units,
+    records: Records,
+}
+
+// What the 98 in these bytes states; 0 where no such field is found. The search for its total ends at its first field, so that the 98 is passed over once.
+fn read_trailer(rec: &[u8]) -> GroupTrailer
+    ensures { λ r. ⌜ (sumMeant (r .total) ≡ statedTotal (linesOf (now (rec .entry)))) × (r .records .0 ≡ statedRecords (linesOf (now (rec .entry)))) ⌝ }
 {
-    match a.join(b) {
-        UnitsSum::Within(sum) => sum,
-        UnitsSum::Beyond => a,
+    let total = base_digits::amount_in(find_field::field(rec, Code::GroupTrailer, Sought::Total));
+    let records = base_digits::value(find_field::field(rec, Code::GroupTrailer, Sought::Records));
+    GroupTrailer {
+        total: Units::of(total.negative, total.magnitude),
+        records: Records(records),
     }
 }
 
@@ -37,14 +45,15 @@ pub fn take_groups(name: &[u8], file: &[u8], from: usize, out: &mut [u8]) -> Tal
     let mut bytes: usize = 0;
     let mut total = Units(0, 0);
     let mut records = Records(0);
-    while find_lines::begins_at(file, at, Code::GroupHeader) {
-        let last = find_lines::next_mark(file, at, Code::GroupTrailer, Code::FileTrailer);
+    while read_lines::begins(file, at, Code::GroupHeader) {
+        let last = find_lines::next_line_of(file, at, Code::GroupTrailer, Code::FileTrailer);
         let e = read_lines::record_end(file, last);
         let header = read_lines::record_end(file, at);
         if join_receivers::is_for(name, &file[at..header]) {
             o += base_slices::put(&mut out[o..], &file[at..e]);
-            total = added(total, join_receivers::stated_total(&file[last..e]));
-            records = records.add(join_receivers::stated_records(&file[last..e]));
+            let trailer = read_trailer(&file[last..e]);
+            total = total.add(trailer.total);
+            records = records.add(trailer.records);
             groups += 1;
             bytes += e - at;
         }

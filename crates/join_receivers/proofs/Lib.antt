@@ -1,2 +1,2 @@
--- What is read of a group's 02 and 98 is what the rules read there.
-pub mod Reading
+-- The receiver that is found in a 02 is the one that the rules read there.
+pub mod NamedLaws

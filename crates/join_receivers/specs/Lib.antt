@@ -1,2 +1,2 @@
--- What the code reads of a group's 02 and 98.
-pub mod Frames
+-- Whether a 02 names a receiver.
+pub mod NamedReceiver

@@ -1,4 +1,4 @@
 -- Laws that belong to no one function. Read in this order.
-pub mod Misfits
-pub mod Naming
-pub mod Splitting
+pub mod MisfitLaws
+pub mod NameLaws
+pub mod SplitLaws

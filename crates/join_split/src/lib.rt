@@ -1,60 +1,47 @@
 // A file split for one receiver: measured first, then written.
+use base_limits::LONGEST_FILE;
 use base_quantities::Place;
 use base_quantities::Records;
+use base_refusals::NO_ROOM;
+use base_refusals::NOT_A_NAME;
+use base_refusals::RESULT_TOO_LONG;
+use base_refusals::Refusal;
 use join_trailer::Trailer;
-use read_file::MOST_BYTES;
 use read_file::Verdict;
 ghost use mathlib.Core.Path.{_≡_};
 ghost use Prim.Native.Nat.{_≤_};
 ghost use lib.ListN.{length};
-ghost use Rattle.rules.specs.Bytes.{Bytes, inField};
+ghost use Rattle.rules.specs.Bytes.{Bytes};
 ghost use Rattle.rules.specs.Outcome.{refused};
 ghost use Rattle.rules.specs.Combine.{answered};
 ghost use Rattle.rules.specs.Split as rules;
-ghost use Rattle.base_numerals.specs.Put.{Put};
-ghost use Rattle.join_split.specs.Answers.{answerMeant, Accepts, Opens, RestIs, splitResult, misfitOf, splitFitting};
+ghost use Rattle.base_refusals.specs.RefusalMeaning.{refusalMeant};
+ghost use Rattle.base_numerals.specs.PutBytes.{Put};
+ghost use Rattle.join_split.specs.SplitAnswers.{answerMeant, Accepts, Opens, RestIs, splitResult, misfitOf, splitFitting};
 
 // No fresh 99 of a file is longer.
 const MOST_LAST: usize = 64;
 
-// A refusal's number and place, or 0 and 0; and the result's length, or 0.
+// The refusal, by number 0 at place 0 where there is none; and the result's length, or 0.
 pub struct Answer {
-    pub number: u64,
-    pub place: Place,
+    pub refusal: Refusal,
     pub length: usize,
 }
 
-// What stands behind the header of a split: so many bytes of groups, and a 99.
+// What stands after the header of a split: so many bytes of groups, and a 99.
 struct Rest {
     bytes: usize,
     last: Trailer,
 }
 
 // Refused, with nothing written.
-fn refused(number: u64, place: Place) -> Answer
-    ensures { λ r. ⌜ ((out : Bytes) → answerMeant r out ≡ answered (refused number (place .0)) 0 out) ⌝ }
+fn refused(why: Refusal) -> Answer
+    ensures { λ r. ⌜ ((out : Bytes) → answerMeant r out ≡ answered (refused (refusalMeant why)) 0 out) ⌝ }
 {
     Answer {
-        number,
-        place,
+        refusal: why,
         length: 0,
     }
-}
-
-// The byte may stand in a field.
-fn in_field(b: u8) -> bool
-    ensures { λ r. ⌜ r ≡ inField b ⌝ }
-{
-    if b < b' ' {
-        return false;
-    }
-    if b'~' < b {
-        return false;
-    }
-    if b == b',' {
-        return false;
-    }
-    b != b'/'
 }
 
 // The name may be asked for.
@@ -64,17 +51,10 @@ fn is_asked(name: &[u8]) -> bool
     if !read_values::is_name(name) {
         return false;
     }
-    let mut i: usize = 0;
-    while i < name.len() {
-        if !in_field(name[i]) {
-            return false;
-        }
-        i += 1;
-    }
-    true
+    read_values::is_clean(name)
 }
 
-// The groups for this name at the front of out, where it has room for them, and the 99 behind them.
+// The groups for this name at the front of out, where it has room for them, and the 99 after them.
 fn take_rest(name: &[u8], file: &[u8], header: usize, out: &mut [u8]) -> Rest
     requires { ⌜ Opens (now file) header ⌝ }
     ensures { λ r. ⌜ RestIs (now (name .entry)) (now (file .entry)) (now (out .entry)) (r .bytes) (r .last) (now (out .exit)) ⌝ }
@@ -104,15 +84,15 @@ fn misfit(name: &[u8], file: &[u8], header: usize, room: usize) -> u64
     ensures { λ r. ⌜ r ≡ misfitOf (splitResult (now (name .entry)) (now (file .entry))) room ⌝ }
 {
     let most = file.len() + MOST_LAST;
-    if most <= room && most <= MOST_BYTES {
+    if most <= room && most <= LONGEST_FILE {
         return 0;
     }
     let length = split_length(name, file, header);
-    if MOST_BYTES < length {
-        return 18;
+    if LONGEST_FILE < length {
+        return RESULT_TOO_LONG;
     }
     if room < length {
-        return 15;
+        return NO_ROOM;
     }
     0
 }
@@ -140,11 +120,16 @@ fn split_accepted(name: &[u8], file: &[u8], out: &mut [u8]) -> Answer
     let header = read_lines::record_end(file, 0);
     let number = misfit(name, file, header, out.len());
     if number != 0 {
-        return refused(number, Place(0));
+        return refused(Refusal {
+            number,
+            place: Place(0),
+        });
     }
     Answer {
-        number: 0,
-        place: Place(0),
+        refusal: Refusal {
+            number: 0,
+            place: Place(0),
+        },
         length: write_split(name, file, header, out),
     }
 }
@@ -154,10 +139,13 @@ pub fn split(name: &[u8], file: &[u8], out: &mut [u8]) -> Answer
     ensures { λ r. ⌜ answerMeant r (now (out .exit)) ≡ rules.split (now (name .entry)) (now (file .entry)) (now (out .entry)) ⌝ }
 {
     if !is_asked(name) {
-        return refused(16, Place(0));
+        return refused(Refusal {
+            number: NOT_A_NAME,
+            place: Place(0),
+        });
     }
     match read_file::read(file) {
-        Verdict::Refused(n, p) => refused(n, p),
+        Verdict::Refused(why) => refused(why),
         Verdict::Accepted(_) => split_accepted(name, file, out),
     }
 }

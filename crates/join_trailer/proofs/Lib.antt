@@ -1,3 +1,4 @@
--- Laws that belong to no one function.
-pub mod Lengths
-pub mod Fitting
+-- Laws that belong to no one function. Read in this order.
+pub mod FreshLaws
+pub mod TrailerLengths
+pub mod FitsLaws

@@ -1,2 +1,2 @@
 -- The bytes of a fresh 99.
-pub mod Fresh
+pub mod FreshTrailer

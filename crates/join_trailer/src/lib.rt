@@ -8,9 +8,9 @@ ghost use lib.ListN.{length, take};
 ghost use Rattle.rules.specs.Bytes.{comma};
 ghost use Rattle.rules.specs.Numbers.{decimal};
 ghost use Rattle.rules.specs.Lines.{linesOf};
-ghost use Rattle.base_quantities.specs.Kinds.{sumMeant};
-ghost use Rattle.base_numerals.specs.Put.{Put};
-ghost use Rattle.join_trailer.specs.Fresh.{lastLine};
+ghost use Rattle.base_quantities.specs.QuantityMeanings.{sumMeant};
+ghost use Rattle.base_numerals.specs.PutBytes.{Put};
+ghost use Rattle.join_trailer.specs.FreshTrailer.{lastLine};
 
 // A fresh 99: its bytes and how many they are.
 pub struct Trailer {

@@ -9,18 +9,19 @@ use lib.ListN.{length, take, drop}
 use Rattle.rules.specs.Bytes.{Bytes}
 use Rattle.rules.specs.Outcome.{fine}
 use Rattle.rules.specs.Lines.{Record, recordBytes}
-use Rattle.rules.specs.Numbers.{magnitudes, most}
+use Rattle.rules.specs.Numbers.{magnitudes}
+use Rattle.rules.specs.Limits.{most, longestFile}
 use Rattle.rules.specs.Totals.{Summary, _⊞_}
-use Rattle.rules.specs.Verdict.{judge, mostBytes}
+use Rattle.rules.specs.Verdict.{judge}
 use Rattle.rules.specs.Parts.{headerIn, groupsIn}
-use Rattle.rules.specs.Combine.{summaryOfAll, freshTrailer, withTrailer, limitOf, linesWithin, joined, answered, combine}
+use Rattle.rules.specs.Combine.{summaryOfAll, freshTrailer, withTrailer, limitOf, linesWithin, concat, answered, combine}
 use Rattle.rules.specs.Split.{isName, groupsFor, splitOut, split}
 use Rattle.rules.proofs.Tests.{not-false}
 use Rattle.rules.proofs.Binds.{fine-same}
-use Rattle.laws.specs.Words.{NotRefused, written, partsOf, headerLines, groupParts, groupPartsFor, All, onlyLines, Assembled, CombinedParts, CombinedSummary, Exactly, SplitParts}
-use Rattle.laws.proofs.Kept.{kept-same, parts-append}
+use Rattle.laws.specs.LawWords.{NotRefused, written, partsOf, headerLines, groupParts, groupPartsFor, All, onlyLines, Assembled, CombinedParts, CombinedSummary, Exactly, SplitParts}
+use Rattle.laws.proofs.KeptBytes.{kept-same, parts-append}
 use Rattle.laws.proofs.Groups.{GoodGroup, Decomposed, decomposed, good-for}
-use Rattle.laws.proofs.Calls.{combine-says, split-call-says}
+use Rattle.laws.proofs.CallAnswers.{combine-says, split-call-says}
 use Rattle.laws.proofs.CombineSplit.{assembled, headerCount, combined-made, combined-summary, split-made, exactly}
 use Rattle.laws.proofs.Demand3.{split-combine-says, combine-thrice-says, same-parts, same-split, same-combine}
 use Rattle.laws.proofs.ForCode.{freshNumbers, by-slices}
@@ -30,12 +31,12 @@ use Rattle.laws.proofs.ForCode.{freshNumbers, by-slices}
 -- an accepted file's header, good groups of any files (`groups-good`), and a fresh 99 are an accepted file with this header, these groups and the summary that
 -- they give, where their lines respect the header's limit, their magnitudes are within the largest, and the whole is not too long
 pub assembly : (file : Bytes) (s : Summary) (gs : List (List Record)) → judge file ≡ fine s → All GoodGroup gs
-    → T (linesWithin (limitOf (headerIn file)) (joined (joined gs)))
-    → magnitudes (summaryOfAll (headerIn file ++ joined gs) .sum) ≤ most
-    → length (withTrailer (headerIn file ++ joined gs)) ≤ mostBytes
-    → Assembled file gs (withTrailer (headerIn file ++ joined gs))
+    → T (linesWithin (limitOf (headerIn file)) (concat (concat gs)))
+    → magnitudes (summaryOfAll (headerIn file ++ concat gs) .sum) ≤ most
+    → length (withTrailer (headerIn file ++ concat gs)) ≤ longestFile
+    → Assembled file gs (withTrailer (headerIn file ++ concat gs))
 assembly file s gs h good within bounded not-long =
-    assembled file (decomposed file s h) gs (withTrailer (headerIn file ++ joined gs)) refl good within bounded not-long
+    assembled file (decomposed file s h) gs (withTrailer (headerIn file ++ concat gs)) refl good within bounded not-long
 
 -- ---- what combine and split write
 
@@ -69,7 +70,7 @@ pub combine-accepted : (a b before : Bytes) (s t : Summary) → judge a ≡ fine
     → (u : Summary) × (judge (written (combine a b before)) ≡ fine u) × CombinedSummary a b s t u
 combine-accepted a b before s t p q h =
     let c = combine-says a b before h in
-    let u = summaryOfAll (headerIn a ++ joined (groupsIn a ++ groupsIn b)) ⊞ onlyLines 1 in
+    let u = summaryOfAll (headerIn a ++ concat (groupsIn a ++ groupsIn b)) ⊞ onlyLines 1 in
     let same-s : c .first ≡ s = fine-same (c .first) s (sym (c .accepts-a) ∙ p) in
     let same-t : c .second ≡ t = fine-same (c .second) t (sym (c .accepts-b) ∙ q) in (
       u,
@@ -81,7 +82,7 @@ combine-accepted a b before s t p q h =
 -- what split wrote is accepted; its summary is what the header and the groups for the name add, and one record more
 pub split-accepted : (name file before : Bytes)
     → NotRefused (split name file before)
-    → judge (written (split name file before)) ≡ fine (summaryOfAll (headerIn file ++ joined (groupsFor name (groupsIn file))) ⊞ onlyLines 1)
+    → judge (written (split name file before)) ≡ fine (summaryOfAll (headerIn file ++ concat (groupsFor name (groupsIn file))) ⊞ onlyLines 1)
 split-accepted name file before h = split-made name file (written (split name file before)) (split-call-says name file before h) .accepted
 
 -- ---- the laws of demand 3
@@ -140,16 +141,16 @@ split-by-name name a b before s t p q h g =
     rw (p, q, header, groups)
 
 -- a name that is not valid is refused by 16, whatever the file, and the output slice stays
-pub split-bad-name : (name file before : Bytes) → T (not (isName name)) → split name file before ≡ record { number = 16; place = 0; which = 0; len = 0; output = before }
+pub split-bad-name : (name file before : Bytes) → T (not (isName name)) → split name file before ≡ record { refusal = record { number = 16; place = 0 }; which = 0; len = 0; output = before }
 unfolding split splitOut answered
 split-bad-name name file before n = rw (not-false (isName name) n)
 
 -- ---- for the code
 
--- the combined file is A up to its 99, B from behind its header up to its 99, and a fresh 99 with these numbers: totals and groups of both, and
+-- the combined file is A up to its 99, B from after its header up to its 99, and a fresh 99 with these numbers: totals and groups of both, and
 -- the lines of both less those of A's 99 and of B's 01 and 99
 pub combined-by-slices : (a b : Bytes) (s t : Summary) → judge a ≡ fine s → judge b ≡ fine t → (d : Decomposed a) (e : Decomposed b)
-    → withTrailer (headerIn a ++ (joined (groupsIn a) ++ joined (groupsIn b)))
-    ≡ take (length (headerLines a) + length (joined (groupParts a))) a
-    ++ (take (length (joined (groupParts b))) (drop (length (headerLines b)) b) ++ freshTrailer (freshNumbers s t (length (d .trailer)) (headerCount b + length (e .trailer))))
+    → withTrailer (headerIn a ++ (concat (groupsIn a) ++ concat (groupsIn b)))
+    ≡ take (length (headerLines a) + length (concat (groupParts a))) a
+    ++ (take (length (concat (groupParts b))) (drop (length (headerLines b)) b) ++ freshTrailer (freshNumbers s t (length (d .trailer)) (headerCount b + length (e .trailer))))
 combined-by-slices a b s t p q d e = by-slices a b s t p q d e

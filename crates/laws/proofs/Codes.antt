@@ -15,7 +15,7 @@ use Rattle.rules.specs.Verdict.{coded, inOrder}
 use Rattle.rules.specs.Parts.{heads}
 use Rattle.rules.proofs.Tests.{Known, holds, fails, known, is-true, not-false, both, same-eq}
 use Rattle.rules.proofs.Binds.{refused-fine, from-bind, then-fine, check-fine, or-fine, fine-same}
-use Rattle.laws.specs.Words.{All}
+use Rattle.laws.specs.LawWords.{All, Of}
 
 -- ---- a record has one code
 
@@ -90,19 +90,13 @@ among-own c cs = rw (is-true (sameCode c c) (same-refl (codeBytes c))) tt
 -- a record in order begins with its code, and that was expected
 pub order-fine : (cs : List Code) (r : Record) (c : Code) → inOrder cs r ≡ fine c → T (heads c r) × T (among c cs)
 unfolding inOrder coded codeOf
-order-fine cs [] c h = absurd (refused-fine 6 0 c h)
+order-fine cs [] c h = absurd (refused-fine _ c h)
 order-fine cs (l ∷ ls) c h =
     from-bind (coded 0 l) _ c h (λ d first rest.
     let q : d ≡ c = fine-same d c (then-fine (check (among d cs) 6 0) (fine d) c rest) in
     (rw (← q) (code-begins d allCodes l (or-fine (codeOf l) 5 0 d first)), rw (← q) (check-fine (among d cs) 6 0 (fine d) c rest)))
 
 -- ---- records of some codes
-
--- the record has one of these codes
-pub record Of (cs : List Code) (r : Record) : Type 0 where
-  pub code : Code
-  pub is-code : T (heads code r)
-  pub is-among : T (among code cs)
 
 pub of-own : (c : Code) (cs : List Code) (r : Record) → T (heads c r) → Of (c ∷ cs) r
 of-own c cs r h = record { code = c; is-code = h; is-among = among-own c cs }
@@ -114,8 +108,3 @@ not-of cs d r n o =
 
 pub of-more : (cs ds : List Code) → ((c : Code) → T (among c cs) → T (among c ds)) → (r : Record) → Of cs r → Of ds r
 of-more cs ds f r o = record { code = o .code; is-code = o .is-code; is-among = f (o .code) (o .is-among) }
-
--- records of which the first has code c, the others one of cs
-abbrev pub Begins : Code → List Code → List Record → Type 0
-Begins c cs [] = ⊥
-Begins c cs (r ∷ rs) = T (heads c r) × All (Of cs) rs

@@ -9,34 +9,35 @@ use lib.ListN.{length, length-append}
 use Rattle.rules.specs.Bytes.{Bytes, sameBytes}
 use Rattle.rules.specs.Outcome.{fine}
 use Rattle.rules.specs.Lines.{Line, Record, recordBytes, fileRecords}
-use Rattle.rules.specs.Numbers.{_⊕_, magnitudes, most}
+use Rattle.rules.specs.Numbers.{_⊕_, magnitudes}
+use Rattle.rules.specs.Limits.{most, longestFile}
 use Rattle.rules.specs.Totals.{Summary, _⊞_}
-use Rattle.rules.specs.Verdict.{judge, mostBytes}
+use Rattle.rules.specs.Verdict.{judge}
 use Rattle.rules.specs.Parts.{headerIn, groupsIn, receiverOf}
-use Rattle.rules.specs.Combine.{summaryOf, summaryOfAll, freshTrailer, withTrailer, linesWithin, limitOf, joined}
+use Rattle.rules.specs.Combine.{summaryOf, summaryOfAll, freshTrailer, withTrailer, linesWithin, limitOf, concat}
 use Rattle.rules.specs.Split.{groupsFor}
 use Rattle.rules.proofs.Tests.{Known, holds, fails, known, same-eq}
-use Rattle.laws.specs.Words.{All, partsOf, headerLines, onlyLines, Assembled, CombinedSummary, Exactly, nothing, kept, leftOut}
-use Rattle.laws.proofs.Lists.{all-both, joined-append}
+use Rattle.laws.specs.LawWords.{All, partsOf, headerLines, onlyLines, Assembled, CombinedSummary, Exactly, nothing, kept, leftOut}
+use Rattle.laws.proofs.Lists.{all-both, concat-append}
 use Rattle.laws.proofs.Codes.{same-refl}
-use Rattle.laws.proofs.Summaries.{same-sum, same-summary, add-none, summary-append, within-left, within-right, within-both}
-use Rattle.laws.proofs.Kept.{bytes-append, bytes-of-parts}
+use Rattle.laws.proofs.SummarySums.{same-sum, same-summary, add-none, summary-append, within-left, within-right, within-both}
+use Rattle.laws.proofs.KeptBytes.{bytes-append, bytes-of-parts}
 use Rattle.laws.proofs.Groups.{GoodGroup, Decomposed, decomposed, summary-is, good-for}
 use Rattle.laws.proofs.Assembly.{assembled-header, assembled-groups, assembled-accepted}
-use Rattle.laws.proofs.Calls.{Combined, SplitOff}
+use Rattle.laws.proofs.CallAnswers.{Combined, SplitOff}
 
 -- ---- a header, groups and a fresh 99
 
 pub trailer-bytes : (hs : List Record) (gs : List (List Record))
-    → withTrailer (hs ++ joined gs) ≡ recordBytes hs ++ (joined (partsOf gs) ++ freshTrailer (summaryOfAll (hs ++ joined gs)))
+    → withTrailer (hs ++ concat gs) ≡ recordBytes hs ++ (concat (partsOf gs) ++ freshTrailer (summaryOfAll (hs ++ concat gs)))
 unfolding withTrailer
 trailer-bytes hs gs =
-    rw (bytes-append hs (joined gs), bytes-of-parts gs) (append-assoc (recordBytes hs) (joined (partsOf gs)) (freshTrailer (summaryOfAll (hs ++ joined gs))))
+    rw (bytes-append hs (concat gs), bytes-of-parts gs) (append-assoc (recordBytes hs) (concat (partsOf gs)) (freshTrailer (summaryOfAll (hs ++ concat gs))))
 
-pub assembled : (file : Bytes) (d : Decomposed file) (gs : List (List Record)) (out : Bytes) → out ≡ withTrailer (headerIn file ++ joined gs) → All GoodGroup gs
-    → T (linesWithin (limitOf (headerIn file)) (joined (joined gs)))
-    → magnitudes (summaryOfAll (headerIn file ++ joined gs) .sum) ≤ most
-    → length out ≤ mostBytes
+pub assembled : (file : Bytes) (d : Decomposed file) (gs : List (List Record)) (out : Bytes) → out ≡ withTrailer (headerIn file ++ concat gs) → All GoodGroup gs
+    → T (linesWithin (limitOf (headerIn file)) (concat (concat gs)))
+    → magnitudes (summaryOfAll (headerIn file ++ concat gs) .sum) ≤ most
+    → length out ≤ longestFile
     → Assembled file gs out
 unfolding headerLines
 assembled file d gs out whole good within bounded not-long =
@@ -44,24 +45,24 @@ assembled file d gs out whole good within bounded not-long =
       header = ap headerIn whole ∙ assembled-header (headerIn file) gs (d .header) good;
       groups = ap groupsIn whole ∙ assembled-groups (headerIn file) gs (d .header) good;
       bytes = whole ∙ trailer-bytes (headerIn file) gs;
-      accepted = ap judge whole ∙ assembled-accepted (headerIn file) gs (d .header) good within bounded (subst (λ (bs : Bytes). length bs ≤ mostBytes) whole not-long);
+      accepted = ap judge whole ∙ assembled-accepted (headerIn file) gs (d .header) good within bounded (subst (λ (bs : Bytes). length bs ≤ longestFile) whole not-long);
     }
 
 -- ---- summaries: what groups add, and the lines of header and 99
 
 -- what a file's groups add; the lines of its header, and with those of its 99
 abbrev pub groupsAdd : Bytes → Summary
-groupsAdd file = summaryOfAll (joined (groupsIn file))
+groupsAdd file = summaryOfAll (concat (groupsIn file))
 
 abbrev pub headerCount : Bytes → ℕ
-headerCount file = length (joined (headerIn file))
+headerCount file = length (concat (headerIn file))
 
 abbrev pub endsCount : {file : Bytes} → Decomposed file → ℕ
 endsCount {file} d = headerCount file + length (d .trailer)
 
 pub fresh-summary : (file : Bytes) (d : Decomposed file) (gs : List (List Record))
-    → summaryOfAll (headerIn file ++ joined gs) ≡ onlyLines (headerCount file) ⊞ summaryOfAll (joined gs)
-fresh-summary file d gs = summary-append (headerIn file) (joined gs) ∙ ap (λ (s : Summary). s ⊞ summaryOfAll (joined gs)) (d .header .adds)
+    → summaryOfAll (headerIn file ++ concat gs) ≡ onlyLines (headerCount file) ⊞ summaryOfAll (concat gs)
+fresh-summary file d gs = summary-append (headerIn file) (concat gs) ∙ ap (λ (s : Summary). s ⊞ summaryOfAll (concat gs)) (d .header .adds)
 
 between-lines : (m n : ℕ) (g : Summary) → onlyLines m ⊞ (g ⊞ onlyLines n) ≡ g ⊞ onlyLines (m + n)
 unfolding _⊞_
@@ -72,8 +73,8 @@ all-summary : (file : Bytes) (d : Decomposed file) → summaryOfAll (fileRecords
 unfolding summaryOfAll
 all-summary file d =
     ap summaryOfAll (d .records)
-    ∙ summary-append (headerIn file) (joined (groupsIn file) ++ (d .trailer ∷ []))
-    ∙ rw (d .header .adds, summary-append (joined (groupsIn file)) (d .trailer ∷ []), add-none (summaryOf (d .trailer)), d .trailer-adds)
+    ∙ summary-append (headerIn file) (concat (groupsIn file) ++ (d .trailer ∷ []))
+    ∙ rw (d .header .adds, summary-append (concat (groupsIn file)) (d .trailer ∷ []), add-none (summaryOf (d .trailer)), d .trailer-adds)
     (between-lines (headerCount file) (length (d .trailer)) (groupsAdd file))
 
 pub summary-of-groups : (file : Bytes) (s : Summary) → judge file ≡ fine s → (d : Decomposed file) → s ≡ groupsAdd file ⊞ onlyLines (endsCount d)
@@ -83,7 +84,7 @@ summary-of-groups file s h d = summary-is file s h ∙ all-summary file d
 
 combined-numbers : (s t g h u : Summary) (m n k : ℕ) → s ≡ g ⊞ onlyLines m → t ≡ h ⊞ onlyLines n → u ≡ (onlyLines k ⊞ (g ⊞ h)) ⊞ onlyLines 1
     → (u .sum ≡ s .sum ⊕ t .sum) × (u .groups ≡ s .groups + t .groups) × (u .accounts ≡ s .accounts + t .accounts)
-    × (u .details ≡ s .details + t .details) × (u .lines ≡ k + g .lines + h .lines + 1)
+    × (u .details ≡ s .details + t .details) × (u .records ≡ k + g .records + h .records + 1)
 unfolding _⊞_
 combined-numbers s t g h u m n k p q r =
     rw (p, q, r) (
@@ -108,18 +109,18 @@ module _ (a b out : Bytes) (c : Combined a b out) where
   b-parts : Decomposed b
   b-parts = decomposed b (c .second) (c .accepts-b)
 
-  both-within : T (linesWithin (limitOf (headerIn a)) (joined (joined (groupsIn a ++ groupsIn b))))
+  both-within : T (linesWithin (limitOf (headerIn a)) (concat (concat (groupsIn a ++ groupsIn b))))
   both-within =
       subst (λ (ls : List Line). T (linesWithin (limitOf (headerIn a)) ls))
-      (sym (ap joined (joined-append (groupsIn a) (groupsIn b)) ∙ joined-append (joined (groupsIn a)) (joined (groupsIn b))))
-      (within-both (limitOf (headerIn a)) (joined (joined (groupsIn a))) (joined (joined (groupsIn b))) (a-parts .within) (c .within))
+      (sym (ap concat (concat-append (groupsIn a) (groupsIn b)) ∙ concat-append (concat (groupsIn a)) (concat (groupsIn b))))
+      (within-both (limitOf (headerIn a)) (concat (concat (groupsIn a))) (concat (concat (groupsIn b))) (a-parts .within) (c .within))
 
-  both-summary : summaryOfAll (headerIn a ++ joined (groupsIn a ++ groupsIn b)) ≡ onlyLines (headerCount a) ⊞ (groupsAdd a ⊞ groupsAdd b)
+  both-summary : summaryOfAll (headerIn a ++ concat (groupsIn a ++ groupsIn b)) ≡ onlyLines (headerCount a) ⊞ (groupsAdd a ⊞ groupsAdd b)
   both-summary =
       fresh-summary a a-parts (groupsIn a ++ groupsIn b)
-      ∙ ap (λ (s : Summary). onlyLines (headerCount a) ⊞ s) (ap summaryOfAll (joined-append (groupsIn a) (groupsIn b)) ∙ summary-append (joined (groupsIn a)) (joined (groupsIn b)))
+      ∙ ap (λ (s : Summary). onlyLines (headerCount a) ⊞ s) (ap summaryOfAll (concat-append (groupsIn a) (groupsIn b)) ∙ summary-append (concat (groupsIn a)) (concat (groupsIn b)))
 
-  both-bounded : magnitudes (summaryOfAll (headerIn a ++ joined (groupsIn a ++ groupsIn b)) .sum) ≤ most
+  both-bounded : magnitudes (summaryOfAll (headerIn a ++ concat (groupsIn a ++ groupsIn b)) .sum) ≤ most
   both-bounded =
       rw both-summary
       (combined-room (c .first) (c .second) (groupsAdd a) (groupsAdd b) (headerCount a) (endsCount a-parts) (endsCount b-parts)
@@ -130,36 +131,36 @@ module _ (a b out : Bytes) (c : Combined a b out) where
       assembled a a-parts (groupsIn a ++ groupsIn b) out (c .whole)
       (all-both GoodGroup (groupsIn a) (groupsIn b) (a-parts .groups) (b-parts .groups)) both-within both-bounded (c .not-long)
 
-  pub combined-summary : CombinedSummary a b (c .first) (c .second) (summaryOfAll (headerIn a ++ joined (groupsIn a ++ groupsIn b)) ⊞ onlyLines 1)
+  pub combined-summary : CombinedSummary a b (c .first) (c .second) (summaryOfAll (headerIn a ++ concat (groupsIn a ++ groupsIn b)) ⊞ onlyLines 1)
   combined-summary =
-      let u = summaryOfAll (headerIn a ++ joined (groupsIn a ++ groupsIn b)) ⊞ onlyLines 1 in
+      let u = summaryOfAll (headerIn a ++ concat (groupsIn a ++ groupsIn b)) ⊞ onlyLines 1 in
       let numbers = combined-numbers (c .first) (c .second) (groupsAdd a) (groupsAdd b) u (endsCount a-parts) (endsCount b-parts) (headerCount a)
       (summary-of-groups a (c .first) (c .accepts-a) a-parts) (summary-of-groups b (c .second) (c .accepts-b) b-parts) (ap (λ (s : Summary). s ⊞ onlyLines 1) both-summary) in
-      let header-lines : summaryOfAll (headerIn a) .lines ≡ headerCount a = ap (λ (s : Summary). s .lines) (a-parts .header .adds) in
-      record { sum = numbers .0; groups = numbers .1; accounts = numbers .2; details = numbers .3; lines = numbers .4 ∙ omega (arith, header-lines) }
+      let header-lines : summaryOfAll (headerIn a) .records ≡ headerCount a = ap (λ (s : Summary). s .records) (a-parts .header .adds) in
+      record { sum = numbers .0; groups = numbers .1; accounts = numbers .2; details = numbers .3; records = numbers .4 ∙ omega (arith, header-lines) }
 
 -- ---- split
 
-lines-of : (g : List Record) (gs : List (List Record)) → joined (joined (g ∷ gs)) ≡ joined g ++ joined (joined gs)
-unfolding joined
-lines-of g gs = joined-append g (joined gs)
+lines-of : (g : List Record) (gs : List (List Record)) → concat (concat (g ∷ gs)) ≡ concat g ++ concat (concat gs)
+unfolding concat
+lines-of g gs = concat-append g (concat gs)
 
-sum-of : (g : List Record) (gs : List (List Record)) → summaryOfAll (joined (g ∷ gs)) ≡ summaryOfAll g ⊞ summaryOfAll (joined gs)
-unfolding joined
-sum-of g gs = summary-append g (joined gs)
+sum-of : (g : List Record) (gs : List (List Record)) → summaryOfAll (concat (g ∷ gs)) ≡ summaryOfAll g ⊞ summaryOfAll (concat gs)
+unfolding concat
+sum-of g gs = summary-append g (concat gs)
 
-bytes-of : (g : List Record) (gs : List (List Record)) → length (recordBytes (joined (g ∷ gs))) ≡ length (recordBytes g) + length (recordBytes (joined gs))
-unfolding joined
-bytes-of g gs = ap length (bytes-append g (joined gs)) ∙ length-append (recordBytes g) (recordBytes (joined gs))
+bytes-of : (g : List Record) (gs : List (List Record)) → length (recordBytes (concat (g ∷ gs))) ≡ length (recordBytes g) + length (recordBytes (concat gs))
+unfolding concat
+bytes-of g gs = ap length (bytes-append g (concat gs)) ∙ length-append (recordBytes g) (recordBytes (concat gs))
 
 -- fewer groups: their lines are within the limit, their magnitudes no more, and their bytes no more
 pub record Fewer (limit : ℕ) (gs hs : List (List Record)) : Type 0 where
-  pub lines-within : T (linesWithin limit (joined (joined gs))) → T (linesWithin limit (joined (joined hs)))
-  pub no-more : magnitudes (summaryOfAll (joined hs) .sum) ≤ magnitudes (summaryOfAll (joined gs) .sum)
-  pub no-longer : length (recordBytes (joined hs)) ≤ length (recordBytes (joined gs))
+  pub lines-within : T (linesWithin limit (concat (concat gs))) → T (linesWithin limit (concat (concat hs)))
+  pub no-more : magnitudes (summaryOfAll (concat hs) .sum) ≤ magnitudes (summaryOfAll (concat gs) .sum)
+  pub no-longer : length (recordBytes (concat hs)) ≤ length (recordBytes (concat gs))
 
 module _ (limit : ℕ) (g : List Record) (gs hs : List (List Record)) (f : Fewer limit gs hs) where
-  lines-apart : T (linesWithin limit (joined (joined (g ∷ gs)))) → T (linesWithin limit (joined g ++ joined (joined gs)))
+  lines-apart : T (linesWithin limit (concat (concat (g ∷ gs)))) → T (linesWithin limit (concat g ++ concat (concat gs)))
   lines-apart w = subst (λ (ls : List Line). T (linesWithin limit ls)) (lines-of g gs) w
 
   fewer-next : (t : Bool) → Fewer limit (g ∷ gs) (cond t (g ∷ hs) hs)
@@ -168,14 +169,14 @@ module _ (limit : ℕ) (g : List Record) (gs hs : List (List Record)) (f : Fewer
       record {
         lines-within = λ w.
             subst (λ (ls : List Line). T (linesWithin limit ls)) (sym (lines-of g hs))
-            (within-both limit (joined g) (joined (joined hs)) (within-left limit (joined g) (joined (joined gs)) (lines-apart w))
-            (f .lines-within (within-right limit (joined g) (joined (joined gs)) (lines-apart w))));
+            (within-both limit (concat g) (concat (concat hs)) (within-left limit (concat g) (concat (concat gs)) (lines-apart w))
+            (f .lines-within (within-right limit (concat g) (concat (concat gs)) (lines-apart w))));
         no-more = rw (sum-of g gs, sum-of g hs) (omega (arith, f .no-more));
         no-longer = omega (arith, bytes-of g gs, bytes-of g hs, f .no-longer);
       }
   fewer-next false =
       record {
-        lines-within = λ w. f .lines-within (within-right limit (joined g) (joined (joined gs)) (lines-apart w));
+        lines-within = λ w. f .lines-within (within-right limit (concat g) (concat (concat gs)) (lines-apart w));
         no-more = rw (sum-of g gs) (omega (arith, f .no-more));
         no-longer = omega (arith, bytes-of g gs, f .no-longer);
       }
@@ -199,7 +200,7 @@ split-made name file out c =
     let f = fewer (limitOf (headerIn file)) name (groupsIn file) in
     assembled file d gs out (c .whole) (good-for name (groupsIn file) (d .groups)) (f .lines-within (d .within))
     (rw (fresh-summary file d gs)
-    (fewer-bounded (groupsAdd file) (summaryOfAll (joined gs)) (summaryOfAll (fileRecords file)) (headerCount file) (endsCount d) (all-summary file d) (f .no-more) (d .bounded)))
+    (fewer-bounded (groupsAdd file) (summaryOfAll (concat gs)) (summaryOfAll (fileRecords file)) (headerCount file) (endsCount d) (all-summary file d) (f .no-more) (d .bounded)))
     (c .not-long)
 
 -- ---- groups for a name

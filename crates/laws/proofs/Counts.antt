@@ -10,13 +10,13 @@ use Rattle.rules.specs.Lines.{Code, fileHeader, groupHeader, accountHeader, det
 use Rattle.rules.specs.Records.{Field}
 use Rattle.rules.specs.Totals.{Summary, noSummary, _⊞_, one, adding, ofRecord}
 use Rattle.rules.specs.Parts.{heads, fieldsIn, groupsIn}
-use Rattle.rules.specs.Combine.{summaryOf, summaryOfAll, joined}
-use Rattle.laws.specs.Words.{All, addUp, accountsIn, detailsIn, Enclosed, IsAccount, IsGroup, IsFile}
+use Rattle.rules.specs.Combine.{summaryOf, summaryOfAll, concat}
+use Rattle.laws.specs.LawWords.{All, addUp, accountsIn, detailsIn, Enclosed, IsAccount, IsGroup, IsFile, Begins, Of}
 use Rattle.laws.proofs.Lists.{all-from, add-ones}
-use Rattle.laws.proofs.Codes.{of-each, Of, Begins}
-use Rattle.laws.proofs.Pieces.{accountCodes, groupCodes}
+use Rattle.laws.proofs.Codes.{of-each}
+use Rattle.laws.proofs.PartCuts.{accountCodes, groupCodes}
 use Rattle.laws.proofs.Envelopes.{details-begin, accounts-begin, groups-begin}
-use Rattle.laws.proofs.Summaries.{summary-append, summary-envelope, summary-as}
+use Rattle.laws.proofs.SummarySums.{summary-append, summary-envelope, summary-as}
 
 -- a number in summaries that counts the records of code c
 record Tally (c : Code) : Type 0 where
@@ -47,22 +47,22 @@ module _ {c : Code} (t : Tally c) where
   once-in cs (r ∷ rs) own n b = t .adds (summaryOf r) (summaryOfAll rs) ∙ rw (in-record c r (b .0), own, none-in cs rs n (b .1))
 
   -- of parts, the sum of those of each
-  in-parts : (f : List Record → ℕ) (ps : List (List Record)) → All (λ p. tally t p ≡ f p) ps → tally t (joined ps) ≡ addUp f ps
-  unfolding joined addUp summaryOfAll
+  in-parts : (f : List Record → ℕ) (ps : List (List Record)) → All (λ p. tally t p ≡ f p) ps → tally t (concat ps) ≡ addUp f ps
+  unfolding concat addUp summaryOfAll
   in-parts f [] a = t .nothing
-  in-parts f (p ∷ ps) a = ap (t .get) (summary-append p (joined ps)) ∙ t .adds (summaryOfAll p) (summaryOfAll (joined ps)) ∙ rw (a .0, in-parts f ps (a .1))
+  in-parts f (p ∷ ps) a = ap (t .get) (summary-append p (concat ps)) ∙ t .adds (summaryOfAll p) (summaryOfAll (concat ps)) ∙ rw (a .0, in-parts f ps (a .1))
 
   -- of parts that begin with code c and have it nowhere else, their number
-  number-of : (cs : List Code) (ps : List (List Record)) → one c c ≡ 1 → All (λ d. one d c ≡ 0) cs → All (Begins c cs) ps → tally t (joined ps) ≡ length ps
+  number-of : (cs : List Code) (ps : List (List Record)) → one c c ≡ 1 → All (λ d. one d c ≡ 0) cs → All (Begins c cs) ps → tally t (concat ps) ≡ length ps
   number-of cs ps own n a = in-parts (λ p. 1) ps (all-from (λ p. tally t p ≡ 1) (Begins c cs) (λ p. once-in cs p own n) ps a) ∙ add-ones ps
 
   -- an envelope has what its parts have
-  in-envelope : (a d : Code) (ps : List (List Record)) (rs : List Record) → one a c ≡ 0 → one d c ≡ 0 → Enclosed a d ps rs → tally t rs ≡ tally t (joined ps)
+  in-envelope : (a d : Code) (ps : List (List Record)) (rs : List Record) → one a c ≡ 0 → one d c ≡ 0 → Enclosed a d ps rs → tally t rs ≡ tally t (concat ps)
   in-envelope a d ps rs p q e =
       ap (tally t) (e .whole)
-      ∙ ap (t .get) (summary-envelope (e .header) (joined ps) (e .trailer))
-      ∙ t .adds (summaryOf (e .header) ⊞ summaryOfAll (joined ps)) (summaryOf (e .trailer))
-      ∙ rw (t .adds (summaryOf (e .header)) (summaryOfAll (joined ps)), in-record a (e .header) (e .is-header), in-record d (e .trailer) (e .is-trailer), p, q) (omega arith)
+      ∙ ap (t .get) (summary-envelope (e .header) (concat ps) (e .trailer))
+      ∙ t .adds (summaryOf (e .header) ⊞ summaryOfAll (concat ps)) (summaryOf (e .trailer))
+      ∙ rw (t .adds (summaryOf (e .header)) (summaryOfAll (concat ps)), in-record a (e .header) (e .is-header), in-record d (e .trailer) (e .is-trailer), p, q) (omega arith)
 
 -- ---- groups, accounts and details
 

@@ -7,18 +7,19 @@ use lib.Dec.{T, leb, le→leb}
 use lib.ListN.{length}
 use Rattle.rules.specs.Bytes.{Bytes}
 use Rattle.rules.specs.Lines.{Line, Record, recordBytes}
-use Rattle.rules.specs.Numbers.{_⊕_, magnitudes, most}
+use Rattle.rules.specs.Numbers.{_⊕_, magnitudes}
+use Rattle.rules.specs.Limits.{most}
 use Rattle.rules.specs.Totals.{Summary, _⊞_}
 use Rattle.rules.specs.Parts.{headerIn, groupsIn}
-use Rattle.rules.specs.Combine.{summaryOfAll, joined, limitOf, linesWithin, combined, whichFile, combine}
+use Rattle.rules.specs.Combine.{summaryOfAll, concat, limitOf, linesWithin, combined, whichFile, combine}
 use Rattle.rules.specs.Split.{isName, groupsFor, splitOut, split}
 use Rattle.rules.proofs.Tests.{is-true, and-left, and-right}
 use Rattle.rules.proofs.Binds.{fine-same}
-use Rattle.laws.specs.Words.{All, partsOf, onlyLines}
-use Rattle.laws.proofs.Lists.{joined-append}
-use Rattle.laws.proofs.Kept.{kept-same}
+use Rattle.laws.specs.LawWords.{All, partsOf, onlyLines}
+use Rattle.laws.proofs.Lists.{concat-append}
+use Rattle.laws.proofs.KeptBytes.{kept-same}
 use Rattle.laws.proofs.Groups.{GoodGroup, decomposed}
-use Rattle.laws.proofs.Calls.{Combined, SplitOff}
+use Rattle.laws.proofs.CallAnswers.{Combined, SplitOff}
 use Rattle.laws.proofs.CombineSplit.{groupsAdd, headerCount, endsCount, fresh-summary, summary-of-groups, combined-made, combined-summary, fewer, split-made, for-append}
 
 -- ---- the bytes
@@ -70,10 +71,10 @@ same-split name a b ab y z o c p q =
     let v = split-made name b z q in
     let fa = fewer (limitOf (headerIn a)) name (groupsIn a) in
     let fb = fewer (limitOf (headerIn a)) name (groupsIn b) in
-    let sa = summaryOfAll (headerIn a ++ joined ga) in
-    let sb = summaryOfAll (headerIn b ++ joined gb) in
+    let sa = summaryOfAll (headerIn a ++ concat ga) in
+    let sb = summaryOfAll (headerIn b ++ concat gb) in
     let room : magnitudes ((sa ⊞ onlyLines 1) .sum) + magnitudes ((sb ⊞ onlyLines 1) .sum) ≤ most =
-    fewer-room (c .first) (c .second) (groupsAdd a) (groupsAdd b) (summaryOfAll (joined ga)) (summaryOfAll (joined gb)) sa sb
+    fewer-room (c .first) (c .second) (groupsAdd a) (groupsAdd b) (summaryOfAll (concat ga)) (summaryOfAll (concat gb)) sa sb
     (endsCount da) (endsCount db) (headerCount a) (headerCount b)
     (summary-of-groups a (c .first) (c .accepts-a) da) (summary-of-groups b (c .second) (c .accepts-b) db)
     (fresh-summary a da ga) (fresh-summary b db gb) (fa .no-more) (fb .no-more) (c .room) in
@@ -88,9 +89,9 @@ same-split name a b ab y z o c p q =
       u .header,
       u .groups,
       v .groups,
-      is-true (linesWithin (limitOf (headerIn a)) (joined (joined gb))) (fb .lines-within (c .within)),
+      is-true (linesWithin (limitOf (headerIn a)) (concat (concat gb))) (fb .lines-within (c .within)),
       for-append name (groupsIn a) (groupsIn b),
-      joined-append ga gb,
+      concat-append ga gb,
     )
 
 -- ---- the whole answers of (ii)
@@ -108,16 +109,16 @@ same-room s b t u v p q = rw (p, q) (omega arith)
 pub same-combine : (a b c ab bc o : Bytes) → Combined a b ab → Combined b c bc → combine ab c o ≡ combine a bc o
 unfolding combine combined whichFile
 same-combine a b c ab bc o p q =
-    let u = summaryOfAll (headerIn a ++ joined (groupsIn a ++ groupsIn b)) ⊞ onlyLines 1 in
-    let v = summaryOfAll (headerIn b ++ joined (groupsIn b ++ groupsIn c)) ⊞ onlyLines 1 in
+    let u = summaryOfAll (headerIn a ++ concat (groupsIn a ++ groupsIn b)) ⊞ onlyLines 1 in
+    let v = summaryOfAll (headerIn b ++ concat (groupsIn b ++ groupsIn c)) ⊞ onlyLines 1 in
     let m = combined-made a b ab p in
     let n = combined-made b c bc q in
     let same : q .first ≡ p .second = fine-same (q .first) (p .second) (sym (q .accepts-a) ∙ p .accepts-b) in
     let room : magnitudes (u .sum) + magnitudes (q .second .sum) ≡ magnitudes (p .first .sum) + magnitudes (v .sum) =
     same-room (p .first) (p .second) (q .second) u v (combined-summary a b ab p .sum) (combined-summary b c bc q .sum ∙ ap (λ (x : Summary). x .sum ⊕ q .second .sum) same) in
-    let lines : linesWithin (limitOf (headerIn a)) (joined (joined (groupsIn b ++ groupsIn c))) ≡ linesWithin (limitOf (headerIn a)) (joined (joined (groupsIn c))) =
-    ap (linesWithin (limitOf (headerIn a))) (ap joined (joined-append (groupsIn b) (groupsIn c)) ∙ joined-append (joined (groupsIn b)) (joined (groupsIn c)))
-    ∙ within-append (limitOf (headerIn a)) (joined (joined (groupsIn b))) (joined (joined (groupsIn c))) (p .within) in
+    let lines : linesWithin (limitOf (headerIn a)) (concat (concat (groupsIn b ++ groupsIn c))) ≡ linesWithin (limitOf (headerIn a)) (concat (concat (groupsIn c))) =
+    ap (linesWithin (limitOf (headerIn a))) (ap concat (concat-append (groupsIn b) (groupsIn c)) ∙ concat-append (concat (groupsIn b)) (concat (groupsIn c)))
+    ∙ within-append (limitOf (headerIn a)) (concat (concat (groupsIn b))) (concat (concat (groupsIn c))) (p .within) in
     rw (
       m .accepted,
       n .accepted,
@@ -128,7 +129,7 @@ same-combine a b c ab bc o p q =
       m .groups,
       n .groups,
       lines,
-      joined-append (groupsIn a) (groupsIn b),
-      joined-append (groupsIn b) (groupsIn c),
-      append-assoc (joined (groupsIn a)) (joined (groupsIn b)) (joined (groupsIn c)),
+      concat-append (groupsIn a) (groupsIn b),
+      concat-append (groupsIn b) (groupsIn c),
+      append-assoc (concat (groupsIn a)) (concat (groupsIn b)) (concat (groupsIn c)),
     )

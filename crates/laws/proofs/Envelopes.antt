@@ -7,12 +7,11 @@ use lib.ListN.{length}
 use Rattle.rules.specs.Bytes.{sameBytes}
 use Rattle.rules.specs.Lines.{groupHeader, accountHeader, detail, accountTrailer, groupTrailer, Record}
 use Rattle.rules.specs.Order.{among}
-use Rattle.rules.specs.Parts.{heads, Pieces, accountPieces, detailPieces}
-use Rattle.rules.specs.Combine.{joined}
-use Rattle.laws.specs.Words.{All, accountsIn, detailsIn, IsDetail, IsAccount, IsGroup}
+use Rattle.rules.specs.Parts.{heads, Parts, inAccounts, inDetails}
+use Rattle.rules.specs.Combine.{concat}
+use Rattle.laws.specs.LawWords.{All, accountsIn, detailsIn, IsDetail, IsAccount, IsGroup, Begins, Of}
 use Rattle.laws.proofs.Lists.{all-from}
-use Rattle.laws.proofs.Codes.{Of, Begins}
-use Rattle.laws.proofs.Pieces.{part-of, within-envelope, accountCodes, groupCodes, cut-accounts, cut-details}
+use Rattle.laws.proofs.PartCuts.{part-of, within-envelope, accountCodes, groupCodes, cut-accounts, cut-details}
 
 -- ---- how parts begin, and the codes of their records
 
@@ -56,28 +55,28 @@ unfolding among sameBytes
 group-codes g i = part-of groupHeader groupCodes (groupHeader ∷ groupCodes) (tt, (tt, (tt, (tt, (tt, tt))))) g (group-begins g i)
 
 -- cut at their parts
-pub account-cut : (a : List Record) (i : IsAccount a) → detailPieces a ≡ record { waiting = i .enclosed .header ∷ []; cut = detailsIn a }
+pub account-cut : (a : List Record) (i : IsAccount a) → inDetails a ≡ record { waiting = i .enclosed .header ∷ []; parts = detailsIn a }
 account-cut a i =
     let e = i .enclosed in
-    ap detailPieces (e .whole) ∙ cut-details (e .header) (detailsIn a) (e .trailer) (e .is-header) (details-begin (detailsIn a) (i .details)) (e .is-trailer)
+    ap inDetails (e .whole) ∙ cut-details (e .header) (detailsIn a) (e .trailer) (e .is-header) (details-begin (detailsIn a) (i .details)) (e .is-trailer)
 
-pub group-cut : (g : List Record) (i : IsGroup g) → accountPieces g ≡ record { waiting = i .enclosed .header ∷ []; cut = accountsIn g }
+pub group-cut : (g : List Record) (i : IsGroup g) → inAccounts g ≡ record { waiting = i .enclosed .header ∷ []; parts = accountsIn g }
 group-cut g i =
     let e = i .enclosed in
-    ap accountPieces (e .whole) ∙ cut-accounts (e .header) (accountsIn g) (e .trailer) (e .is-header) (accounts-begin (accountsIn g) (i .accounts)) (e .is-trailer)
+    ap inAccounts (e .whole) ∙ cut-accounts (e .header) (accountsIn g) (e .trailer) (e .is-header) (accounts-begin (accountsIn g) (i .accounts)) (e .is-trailer)
 
 -- ---- made of their parts
 
 pub make-account : (r : Record) → T (heads accountHeader r) → (ds : List (List Record)) (t : Record) → 0 ≤ length ds → All IsDetail ds → T (heads accountTrailer t)
-    → IsAccount (r ∷ (joined ds ++ (t ∷ [])))
+    → IsAccount (r ∷ (concat ds ++ (t ∷ [])))
 unfolding detailsIn
 make-account r h ds t few a k =
-    let cut : detailsIn (r ∷ (joined ds ++ (t ∷ []))) ≡ ds = ap (λ (p : Pieces). p .cut) (cut-details r ds t h (details-begin ds a) k) in
+    let cut : detailsIn (r ∷ (concat ds ++ (t ∷ []))) ≡ ds = ap (λ (p : Parts). p .parts) (cut-details r ds t h (details-begin ds a) k) in
     record { enclosed = record { header = r; trailer = t; is-header = h; is-trailer = k; whole = rw cut }; details = rw cut a }
 
 pub make-group : (r : Record) → T (heads groupHeader r) → (ps : List (List Record)) (t : Record) → 1 ≤ length ps → All IsAccount ps → T (heads groupTrailer t)
-    → IsGroup (r ∷ (joined ps ++ (t ∷ [])))
+    → IsGroup (r ∷ (concat ps ++ (t ∷ [])))
 unfolding accountsIn
 make-group r h ps t few a k =
-    let cut : accountsIn (r ∷ (joined ps ++ (t ∷ []))) ≡ ps = ap (λ (p : Pieces). p .cut) (cut-accounts r ps t h (accounts-begin ps a) k) in
+    let cut : accountsIn (r ∷ (concat ps ++ (t ∷ []))) ≡ ps = ap (λ (p : Parts). p .parts) (cut-accounts r ps t h (accounts-begin ps a) k) in
     record { enclosed = record { header = r; trailer = t; is-header = h; is-trailer = k; whole = rw cut }; one-or-more = rw cut few; accounts = rw cut a }

@@ -1,26 +1,28 @@
 -- The theorems on accepted files: their shape, what their trailers state, their numbers and their parts; and the reader's refusals. Assumes nothing.
 use Prim.Native.Nat.{ℕ, _≤_, _<_}
+use native.Mathlib.Omega.{arith}
 use mathlib.Core.Path.{_≡_, ap, subst, _∙_}
 use lib.Dec.{T, leb, leb→le}
 use lib.ListN.{length, take, drop}
 use Rattle.rules.specs.Bytes.{Bytes}
-use Rattle.rules.specs.Outcome.{refused, fine}
+use Rattle.rules.specs.Outcome.{refused, Refusal, refuse, fine}
 use Rattle.rules.specs.Lines.{recordBytes, fileRecords}
-use Rattle.rules.specs.Numbers.{magnitudes, most}
+use Rattle.rules.specs.Numbers.{magnitudes}
+use Rattle.rules.specs.Limits.{most}
 use Rattle.rules.specs.Totals.{Summary}
 use Rattle.rules.specs.Verdict.{judge}
-use Rattle.rules.specs.Parts.{groupsIn, groupPieces, accountPieces, detailPieces, Piece, groupAt, accountAt, detailPieceAt, Detail, detailIn, detailAt}
-use Rattle.rules.specs.Combine.{summaryOfAll, joined}
+use Rattle.rules.specs.Parts.{groupsIn, inGroups, inAccounts, inDetails, Placed, groupAt, accountAt, detailPartAt, Detail, detailIn, detailAt}
+use Rattle.rules.specs.Combine.{summaryOfAll, concat}
 use Rattle.rules.proofs.Tests.{and-left, and-right}
-use Rattle.laws.specs.Words.{All, addUp, headerLines, groupParts, accountsIn, detailsIn, IsGroup, IsFile, FileParts, FileControlled, TotalsNest, ReadAnywhere, RunsAnywhere}
+use Rattle.laws.specs.LawWords.{All, addUp, headerLines, groupParts, accountsIn, detailsIn, IsGroup, IsFile, FileParts, FileControlled, TotalsNest, ReadAnywhere, RunsAnywhere}
 use Rattle.laws.proofs.Lists.{all-from}
 use Rattle.laws.proofs.Shape.{is-file}
 use Rattle.laws.proofs.Counts.{file-groups, file-accounts, file-details}
-use Rattle.laws.proofs.Controls.{file-controlled}
-use Rattle.laws.proofs.Sums.{totals-of}
-use Rattle.laws.proofs.Kept.{kept-stay}
+use Rattle.laws.proofs.ControlTotals.{file-controlled}
+use Rattle.laws.proofs.SplitSums.{totals-of}
+use Rattle.laws.proofs.KeptBytes.{kept-stay}
 use Rattle.laws.proofs.Groups.{GoodGroup, decomposed, summary-is}
-use Rattle.laws.proofs.Slices.{located-slice, no-piece-in, some-piece-in, group-part, account-part, detail-part}
+use Rattle.laws.proofs.PartSlices.{located-slice, no-part-in, some-part-in, group-part, account-part, detail-part}
 use Rattle.laws.proofs.Refusals.{By, byReader, judge-by}
 use Rattle.laws.proofs.ForCode.{parts-of, header-bytes, groups-bytes}
 
@@ -74,46 +76,46 @@ details-counted file s h = ap (λ (u : Summary). u .details) (summary-is file s 
 -- ---- 17
 
 -- 17 is given for a group exactly from the file's number of groups on
-pub no-such-group : (file : Bytes) (s : Summary) (i : ℕ) → judge file ≡ fine s → s .groups ≤ i → groupAt file i ≡ refused 17 0
+pub no-such-group : (file : Bytes) (s : Summary) (i : ℕ) → judge file ≡ fine s → s .groups ≤ i → groupAt file i ≡ refuse 17 0
 unfolding groupAt groupsIn
-no-such-group file s i h n = rw h (no-piece-in 0 (groupPieces (fileRecords file)) i (subst (λ (k : ℕ). k ≤ i) (groups-counted file s h) n))
+no-such-group file s i h n = rw h (no-part-in 0 (inGroups (fileRecords file)) i (subst (λ (k : ℕ). k ≤ i) (groups-counted file s h) n))
 
-pub such-group : (file : Bytes) (s : Summary) (i : ℕ) → judge file ≡ fine s → i < s .groups → (x : Piece) × (groupAt file i ≡ fine x)
+pub such-group : (file : Bytes) (s : Summary) (i : ℕ) → judge file ≡ fine s → i < s .groups → (x : Placed) × (groupAt file i ≡ fine x)
 unfolding groupAt groupsIn
-such-group file s i h n = rw h (some-piece-in 0 (groupPieces (fileRecords file)) i (subst (λ (k : ℕ). i < k) (groups-counted file s h) n))
+such-group file s i h n = rw h (some-part-in 0 (inGroups (fileRecords file)) i (subst (λ (k : ℕ). i < k) (groups-counted file s h) n))
 
 -- for an account exactly from its group's number of accounts on
-pub no-such-account : (file : Bytes) (g a : ℕ) (x : Piece) → groupAt file g ≡ fine x → length (accountsIn (x .records)) ≤ a → accountAt file g a ≡ refused 17 0
+pub no-such-account : (file : Bytes) (g a : ℕ) (x : Placed) → groupAt file g ≡ fine x → length (accountsIn (x .records)) ≤ a → accountAt file g a ≡ refuse 17 0
 unfolding accountAt accountsIn
-no-such-account file g a x h n = rw h (no-piece-in (x .place) (accountPieces (x .records)) a n)
+no-such-account file g a x h n = rw h (no-part-in (x .place) (inAccounts (x .records)) a n)
 
-pub such-account : (file : Bytes) (g a : ℕ) (x : Piece) → groupAt file g ≡ fine x → a < length (accountsIn (x .records)) → (y : Piece) × (accountAt file g a ≡ fine y)
+pub such-account : (file : Bytes) (g a : ℕ) (x : Placed) → groupAt file g ≡ fine x → a < length (accountsIn (x .records)) → (y : Placed) × (accountAt file g a ≡ fine y)
 unfolding accountAt accountsIn
-such-account file g a x h n = rw h (some-piece-in (x .place) (accountPieces (x .records)) a n)
+such-account file g a x h n = rw h (some-part-in (x .place) (inAccounts (x .records)) a n)
 
 -- for a detail exactly from its account's number of details on
-pub no-such-detail : (file : Bytes) (g a d : ℕ) (x : Piece) → accountAt file g a ≡ fine x → length (detailsIn (x .records)) ≤ d → detailAt file g a d ≡ refused 17 0
-unfolding detailAt detailPieceAt detailsIn
-no-such-detail file g a d x h n = rw (h, no-piece-in (x .place) (detailPieces (x .records)) d n)
+pub no-such-detail : (file : Bytes) (g a d : ℕ) (x : Placed) → accountAt file g a ≡ fine x → length (detailsIn (x .records)) ≤ d → detailAt file g a d ≡ refuse 17 0
+unfolding detailAt detailPartAt detailsIn
+no-such-detail file g a d x h n = rw (h, no-part-in (x .place) (inDetails (x .records)) d n)
 
-pub such-detail : (file : Bytes) (g a d : ℕ) (x : Piece) → accountAt file g a ≡ fine x → d < length (detailsIn (x .records)) → (y : Detail) × (detailAt file g a d ≡ fine y)
-unfolding detailAt detailPieceAt detailsIn
+pub such-detail : (file : Bytes) (g a d : ℕ) (x : Placed) → accountAt file g a ≡ fine x → d < length (detailsIn (x .records)) → (y : Detail) × (detailAt file g a d ≡ fine y)
+unfolding detailAt detailPartAt detailsIn
 such-detail file g a d x h n =
-    let (y, e) = some-piece-in (x .place) (detailPieces (x .records)) d n in
+    let (y, e) = some-part-in (x .place) (inDetails (x .records)) d n in
     (detailIn y, rw (h, e))
 
 -- ---- parts are slices of the file
 
 -- the part that a group call hands out is the slice of the file at the place that it answers; so with an account and with a detail
-pub group-is-slice : (file : Bytes) (g : ℕ) (x : Piece) → groupAt file g ≡ fine x
+pub group-is-slice : (file : Bytes) (g : ℕ) (x : Placed) → groupAt file g ≡ fine x
     → take (length (recordBytes (x .records))) (drop (x .place) file) ≡ recordBytes (x .records)
 group-is-slice file g x h = located-slice file (x .place) (recordBytes (x .records)) (group-part file g x h .located)
 
-pub account-is-slice : (file : Bytes) (g a : ℕ) (x : Piece) → accountAt file g a ≡ fine x
+pub account-is-slice : (file : Bytes) (g a : ℕ) (x : Placed) → accountAt file g a ≡ fine x
     → take (length (recordBytes (x .records))) (drop (x .place) file) ≡ recordBytes (x .records)
 account-is-slice file g a x h = located-slice file (x .place) (recordBytes (x .records)) (account-part file g a x h .located)
 
-pub detail-is-slice : (file : Bytes) (g a d : ℕ) (x : Piece) → detailPieceAt file g a d ≡ fine x
+pub detail-is-slice : (file : Bytes) (g a d : ℕ) (x : Placed) → detailPartAt file g a d ≡ fine x
     → take (length (recordBytes (x .records))) (drop (x .place) file) ≡ recordBytes (x .records)
 detail-is-slice file g a d x h = located-slice file (x .place) (recordBytes (x .records)) (detail-part file g a d x h .located)
 
@@ -122,7 +124,7 @@ pub header-slice : (file : Bytes) (s : Summary) → judge file ≡ fine s → ta
 header-slice file s h = header-bytes file s h
 
 pub groups-slice : (file : Bytes) (s : Summary) → judge file ≡ fine s
-    → take (length (joined (groupParts file))) (drop (length (headerLines file)) file) ≡ joined (groupParts file)
+    → take (length (concat (groupParts file))) (drop (length (headerLines file)) file) ≡ concat (groupParts file)
 groups-slice file s h = groups-bytes file s h
 
 -- ---- groups are good anywhere
@@ -131,7 +133,7 @@ groups-slice file s h = groups-bytes file s h
 pub groups-read-anywhere : (file : Bytes) (s : Summary) → judge file ≡ fine s → All ReadAnywhere (groupsIn file)
 groups-read-anywhere file s h = all-from ReadAnywhere GoodGroup (λ g a bs f. kept-stay g bs (a .kept) f) (groupsIn file) (decomposed file s h .groups)
 
--- and it is accepted behind the 01 of any other file, or behind any group, where its lines respect the limit and the magnitudes leave room
+-- and it is accepted after the 01 of any other file, or after any group, where its lines respect the limit and the magnitudes leave room
 pub groups-run-anywhere : (file : Bytes) (s : Summary) → judge file ≡ fine s → All RunsAnywhere (groupsIn file)
 groups-run-anywhere file s h = all-from RunsAnywhere GoodGroup (λ g a. a .runs-anywhere) (groupsIn file) (decomposed file s h .groups)
 
@@ -142,11 +144,11 @@ groups-good file s h = decomposed file s h .groups
 -- ---- the reader's refusals
 
 -- the reader refuses by the numbers 1 to 13 only
-pub reader-numbers : (file : Bytes) (n p : ℕ) → judge file ≡ refused n p → (1 ≤ n) × (n ≤ 13)
-reader-numbers file n p h =
-    let b : T (byReader n) = subst (By byReader) h (judge-by file) in
-    (leb→le 1 n (and-left (leb 1 n) (leb n 13) b), leb→le n 13 (and-right (leb 1 n) (leb n 13) b))
+pub reader-numbers : (file : Bytes) (why : Refusal) → judge file ≡ refused why → (1 ≤ why .number) × (why .number ≤ 13)
+reader-numbers file why h =
+    let b : T (byReader (why .number)) = subst (By byReader) h (judge-by file) in
+    (leb→le 1 (why .number) (and-left (leb 1 (why .number)) _ b), leb→le (why .number) 13 (and-right (leb 1 (why .number)) _ b))
 
 -- 14 is given by no input: the bound on magnitudes, 10, comes first
-pub never-14 : (file : Bytes) (p : ℕ) → ¬ (judge file ≡ refused 14 p)
-never-14 file p h = subst (By byReader) h (judge-by file)
+pub never-14 : (file : Bytes) (why : Refusal) → judge file ≡ refused why → ¬ (why .number ≡ 14)
+never-14 file why h e = let n = reader-numbers file why h in omega (arith, n .1)

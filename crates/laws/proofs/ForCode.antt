@@ -13,16 +13,16 @@ use Rattle.rules.specs.Numbers.{_⊕_}
 use Rattle.rules.specs.Totals.{Summary, _⊞_}
 use Rattle.rules.specs.Verdict.{judge}
 use Rattle.rules.specs.Parts.{headerIn, groupsIn}
-use Rattle.rules.specs.Combine.{summaryOfAll, freshTrailer, withTrailer, joined}
-use Rattle.rules.proofs.LineLaws.{endsInLF, file-bytes}
-use Rattle.laws.specs.Words.{All, partsOf, headerLines, groupParts, onlyLines, FileParts}
-use Rattle.laws.proofs.Lists.{joined-append}
-use Rattle.laws.proofs.Summaries.{same-sum, summary-append}
-use Rattle.laws.proofs.Kept.{Kept, kept-end, bytes-append, bytes-of-parts, parts-append}
+use Rattle.rules.specs.Combine.{summaryOfAll, freshTrailer, withTrailer, concat}
+use Rattle.rules.proofs.LineLaws.{file-bytes}
+use Rattle.laws.specs.LawWords.{All, partsOf, headerLines, groupParts, onlyLines, FileParts, endsInLF, Kept}
+use Rattle.laws.proofs.Lists.{concat-append}
+use Rattle.laws.proofs.SummarySums.{same-sum, summary-append}
+use Rattle.laws.proofs.KeptBytes.{kept-end, bytes-append, bytes-of-parts, parts-append}
 use Rattle.laws.proofs.Envelopes.{group-begins}
 use Rattle.laws.proofs.Shape.{is-file, one-header}
 use Rattle.laws.proofs.Groups.{GoodGroup, OneHeader, Decomposed, decomposed}
-use Rattle.laws.proofs.Slices.{middle}
+use Rattle.laws.proofs.PartSlices.{middle}
 use Rattle.laws.proofs.CombineSplit.{trailer-bytes, headerCount, fresh-summary, summary-of-groups}
 
 -- ---- a file's bytes by its parts
@@ -56,8 +56,8 @@ parts-of file s h =
       bytes =
           sym (file-bytes file)
           ∙ ap recordBytes (d .records)
-          ∙ bytes-append (headerIn file) (joined (groupsIn file) ++ (d .trailer ∷ []))
-          ∙ rw (bytes-append (joined (groupsIn file)) (d .trailer ∷ []), bytes-of-parts (groupsIn file), append-nil (lineBytes (d .trailer)));
+          ∙ bytes-append (headerIn file) (concat (groupsIn file) ++ (d .trailer ∷ []))
+          ∙ rw (bytes-append (concat (groupsIn file)) (d .trailer ∷ []), bytes-of-parts (groupsIn file), append-nil (lineBytes (d .trailer)));
       header-ends = header-ends (headerIn file) (d .header .one) (d .header .kept);
       groups-end = groups-end (groupsIn file) (d .groups);
     }
@@ -66,28 +66,28 @@ module _ (file : Bytes) (s : Summary) (h : judge file ≡ fine s) where
   pub header-bytes : take (length (headerLines file)) file ≡ headerLines file
   header-bytes =
       let p = parts-of file s h in
-      ap (λ (bs : Bytes). take (length (headerLines file)) bs) (p .bytes) ∙ take-append-seam (headerLines file) (joined (groupParts file) ++ lineBytes (p .trailer))
+      ap (λ (bs : Bytes). take (length (headerLines file)) bs) (p .bytes) ∙ take-append-seam (headerLines file) (concat (groupParts file) ++ lineBytes (p .trailer))
 
-  pub groups-bytes : take (length (joined (groupParts file))) (drop (length (headerLines file)) file) ≡ joined (groupParts file)
+  pub groups-bytes : take (length (concat (groupParts file))) (drop (length (headerLines file)) file) ≡ concat (groupParts file)
   groups-bytes =
       let p = parts-of file s h in
-      ap (λ (bs : Bytes). take (length (joined (groupParts file))) (drop (length (headerLines file)) bs)) (p .bytes)
-      ∙ middle (headerLines file) (joined (groupParts file)) (lineBytes (p .trailer))
+      ap (λ (bs : Bytes). take (length (concat (groupParts file))) (drop (length (headerLines file)) bs)) (p .bytes)
+      ∙ middle (headerLines file) (concat (groupParts file)) (lineBytes (p .trailer))
 
   -- all but the 99
-  pub body-bytes : take (length (headerLines file) + length (joined (groupParts file))) file ≡ headerLines file ++ joined (groupParts file)
+  pub body-bytes : take (length (headerLines file) + length (concat (groupParts file))) file ≡ headerLines file ++ concat (groupParts file)
   body-bytes =
       let p = parts-of file s h in
-      let body = headerLines file ++ joined (groupParts file) in
-      let whole : file ≡ body ++ lineBytes (p .trailer) = p .bytes ∙ sym (append-assoc (headerLines file) (joined (groupParts file)) (lineBytes (p .trailer))) in
-      ap (λ (n : ℕ). take n file) (sym (length-append (headerLines file) (joined (groupParts file))))
+      let body = headerLines file ++ concat (groupParts file) in
+      let whole : file ≡ body ++ lineBytes (p .trailer) = p .bytes ∙ sym (append-assoc (headerLines file) (concat (groupParts file)) (lineBytes (p .trailer))) in
+      ap (λ (n : ℕ). take n file) (sym (length-append (headerLines file) (concat (groupParts file))))
       ∙ ap (λ (bs : Bytes). take (length body) bs) whole
       ∙ take-append-seam body (lineBytes (p .trailer))
 
 -- ---- the numbers of combine's fresh 99
 
 -- a fresh 99 is written by total, groups and records alone
-fresh-same : (a b : Summary) → a .sum ≡ b .sum → a .groups ≡ b .groups → a .lines ≡ b .lines → freshTrailer a ≡ freshTrailer b
+fresh-same : (a b : Summary) → a .sum ≡ b .sum → a .groups ≡ b .groups → a .records ≡ b .records → freshTrailer a ≡ freshTrailer b
 unfolding freshTrailer
 fresh-same a b s g l = rw (s, g, l)
 
@@ -99,7 +99,7 @@ freshNumbers s t m n =
       groups = s .groups + t .groups;
       accounts = s .accounts + t .accounts;
       details = s .details + t .details;
-      lines = (s .lines - m) + (t .lines - n);
+      records = (s .records - m) + (t .records - n);
     }
 
 numbers-same : (s t g h : Summary) (k m n : ℕ) → s ≡ g ⊞ onlyLines (k + m) → t ≡ h ⊞ onlyLines n → freshTrailer (onlyLines k ⊞ (g ⊞ h)) ≡ freshTrailer (freshNumbers s t m n)
@@ -110,26 +110,26 @@ numbers-same s t g h k m n p q =
     (same-sum ((onlyLines k ⊞ (g ⊞ h)) .sum) ((g ⊞ onlyLines (k + m)) .sum ⊕ (h ⊞ onlyLines n) .sum) (omega arith) (omega arith)) (omega arith) (omega arith))
 
 sliced : (a b : Bytes) (s t : Summary) → judge a ≡ fine s → judge b ≡ fine t → (end : Bytes)
-    → recordBytes (headerIn a) ++ ((joined (partsOf (groupsIn a)) ++ joined (partsOf (groupsIn b))) ++ end)
-    ≡ take (length (headerLines a) + length (joined (groupParts a))) a ++ (take (length (joined (groupParts b))) (drop (length (headerLines b)) b) ++ end)
+    → recordBytes (headerIn a) ++ ((concat (partsOf (groupsIn a)) ++ concat (partsOf (groupsIn b))) ++ end)
+    ≡ take (length (headerLines a) + length (concat (groupParts a))) a ++ (take (length (concat (groupParts b))) (drop (length (headerLines b)) b) ++ end)
 unfolding headerLines groupParts
 sliced a b s t p q end = rw (body-bytes a s p, groups-bytes b t q) (simp append-assoc)
 
 pub by-slices : (a b : Bytes) (s t : Summary) → judge a ≡ fine s → judge b ≡ fine t → (d : Decomposed a) (e : Decomposed b)
-    → withTrailer (headerIn a ++ (joined (groupsIn a) ++ joined (groupsIn b)))
-    ≡ take (length (headerLines a) + length (joined (groupParts a))) a
-    ++ (take (length (joined (groupParts b))) (drop (length (headerLines b)) b) ++ freshTrailer (freshNumbers s t (length (d .trailer)) (headerCount b + length (e .trailer))))
+    → withTrailer (headerIn a ++ (concat (groupsIn a) ++ concat (groupsIn b)))
+    ≡ take (length (headerLines a) + length (concat (groupParts a))) a
+    ++ (take (length (concat (groupParts b))) (drop (length (headerLines b)) b) ++ freshTrailer (freshNumbers s t (length (d .trailer)) (headerCount b + length (e .trailer))))
 by-slices a b s t p q d e =
     let gs = groupsIn a ++ groupsIn b in
-    let ga = summaryOfAll (joined (groupsIn a)) in
-    let gb = summaryOfAll (joined (groupsIn b)) in
+    let ga = summaryOfAll (concat (groupsIn a)) in
+    let gb = summaryOfAll (concat (groupsIn b)) in
     let n = headerCount b + length (e .trailer) in
-    let joins : joined gs ≡ joined (groupsIn a) ++ joined (groupsIn b) = joined-append (groupsIn a) (groupsIn b) in
-    let adds : summaryOfAll (headerIn a ++ joined gs) ≡ onlyLines (headerCount a) ⊞ (ga ⊞ gb) =
-    fresh-summary a d gs ∙ rw (joins, summary-append (joined (groupsIn a)) (joined (groupsIn b))) in
-    let numbers : freshTrailer (summaryOfAll (headerIn a ++ joined gs)) ≡ freshTrailer (freshNumbers s t (length (d .trailer)) n) =
+    let joins : concat gs ≡ concat (groupsIn a) ++ concat (groupsIn b) = concat-append (groupsIn a) (groupsIn b) in
+    let adds : summaryOfAll (headerIn a ++ concat gs) ≡ onlyLines (headerCount a) ⊞ (ga ⊞ gb) =
+    fresh-summary a d gs ∙ rw (joins, summary-append (concat (groupsIn a)) (concat (groupsIn b))) in
+    let numbers : freshTrailer (summaryOfAll (headerIn a ++ concat gs)) ≡ freshTrailer (freshNumbers s t (length (d .trailer)) n) =
     ap freshTrailer adds ∙ numbers-same s t ga gb (headerCount a) (length (d .trailer)) n (summary-of-groups a s p d) (summary-of-groups b t q e) in
     ap (λ (rs : List Record). withTrailer (headerIn a ++ rs)) (sym joins)
     ∙ trailer-bytes (headerIn a) gs
-    ∙ rw (numbers, parts-append (groupsIn a) (groupsIn b), joined-append (partsOf (groupsIn a)) (partsOf (groupsIn b)))
+    ∙ rw (numbers, parts-append (groupsIn a) (groupsIn b), concat-append (partsOf (groupsIn a)) (partsOf (groupsIn b)))
     (sliced a b s t p q (freshTrailer (freshNumbers s t (length (d .trailer)) n)))

@@ -1,4 +1,4 @@
--- The fresh 99: its bytes are one line, and the reader accepts it behind the records that it was written for. Assumes nothing.
+-- The fresh 99: its bytes are one line, and the reader accepts it after the records that it was written for. Assumes nothing.
 use Prim.Native.Nat.{ℕ, suc, _+_, _-_, _^_, _≤_, _<_}
 use mathlib.Core.Path.{_≡_, refl, sym, ap, _∙_}
 use mathlib.Core.Logic.{⊎-elim}
@@ -11,27 +11,28 @@ use borrow.Author.Tests.{eq-eqb, ne-eqb, eqb-true}
 use lib.ListN.{length, length-append}
 use Rattle.rules.specs.Bytes.{Bytes, LF, CR, comma, slash, allowed, inField, all, clean, sameBytes}
 use Rattle.rules.specs.Outcome.{fine}
-use Rattle.rules.specs.Lines.{lf, Line, linesOf, codeBytes, begins, codeIn, codeOf, fileTrailer, recordsOf, fileRecords}
+use Rattle.rules.specs.Lines.{lf, Line, linesOf, codeBytes, begins, codeIn, codeOf, fileTrailer, continuation, recordsOf, fileRecords}
 use Rattle.rules.specs.Cells.{atComma, atSlash, cellsFrom, cellsOf, leadingBlanks}
-use Rattle.rules.specs.Numbers.{Sum, isDigit, digits, signed, asSum, equals, magnitudes, most, withinMost, decimal, totalBytes}
+use Rattle.rules.specs.Numbers.{Sum, isDigit, digits, signed, asSum, equals, magnitudes, withinMost, decimal, totalBytes}
+use Rattle.rules.specs.Limits.{most}
 use Rattle.rules.specs.Grammar.{total, count, records, judged, andThen, takeNext, fieldsOf, isSigned}
-use Rattle.rules.specs.Records.{Field, behind, taken, pastSlash, takenTo, walkCells, walkLines, walkRecord, the}
+use Rattle.rules.specs.Records.{Field, walkAfter, taken, pastSlash, takenTo, walkCells, walkLines, walkRecord, the}
 use Rattle.rules.specs.Totals.{Summary, noSummary, _⊞_, amountOf, sumOf, adding, ofRecord, rightTotal, rightCount, rightRecords, sumWithin, balanced}
 use Rattle.rules.specs.Order.{among}
-use Rattle.rules.specs.Verdict.{State, notLonger, allAllowed, coded, goodLine, goodLines, inOrder, limitBehind, ownLines, stateBehind, step}
+use Rattle.rules.specs.Verdict.{State, notLonger, allAllowed, coded, goodLine, goodLines, inOrder, limitAfter, ownLines, stateAfter, step}
 use Rattle.rules.specs.Parts.{heads}
 use Rattle.rules.specs.Combine.{freshTrailer}
 use Rattle.rules.proofs.Tests.{is-true, and-left, and-right, both}
 use Rattle.rules.proofs.Binds.{check-true}
-use Rattle.rules.proofs.LineLaws.{inLine, noCR, lines-lf, freshStart}
+use Rattle.rules.proofs.LineLaws.{inLine, noCR, lines-lf}
 use Rattle.rules.proofs.CellLaws.{plainByte, cells-comma, cells-slash}
 use Rattle.rules.proofs.RunLaws.{within}
 use Rattle.rules.proofs.Accepted.{step-again}
-use Rattle.base_digits.proofs.Tests.{below-or-from}
+use Rattle.base_digits.proofs.DigitTests.{below-or-from}
 use Rattle.base_digits.proofs.DigitStrings.{all-append, number-decimal, decimal-digits, decimal-at-most, decimal-fits}
-use Rattle.base_digits.proofs.Totals.{total-below-zero, total-from-zero, total-equals, total-signed}
-use Rattle.laws.specs.Words.{between, onlyLines}
-use Rattle.laws.proofs.Steps.{bounded-room}
+use Rattle.base_digits.proofs.TotalStrings.{total-below-zero, total-from-zero, total-equals, total-signed}
+use Rattle.laws.specs.LawWords.{between, onlyLines}
+use Rattle.laws.proofs.RecordsTaken.{bounded-room}
 
 -- ---- the bytes of written numbers
 
@@ -112,7 +113,7 @@ module _ (v g n : Bytes) (cv : T (clean v)) (cg : T (clean g)) (cn : T (clean n)
 
   walk-three : isSigned v ≡ true → digits 1 9 g ≡ true → digits 1 9 n ≡ true
       → walkRecord fileTrailer (record { body = threeFields v g n; lineEnd = lf } ∷ []) ≡ fine (fieldsRead v g n)
-  unfolding walkRecord walkLines walkCells takenTo pastSlash taken behind takeNext andThen judged fieldsOf cellsOf leadingBlanks
+  unfolding walkRecord walkLines walkCells takenTo pastSlash taken walkAfter takeNext andThen judged fieldsOf cellsOf leadingBlanks
   walk-three sv sg sn = rw (three-cells, sv, sg, sn)
 
 -- allowed bytes end no line
@@ -138,24 +139,24 @@ equals-back a b e = let same = eqb-true (b .pluses + a .minuses) (a .pluses + b 
 -- ---- the fresh 99 is one line, a 99
 
 abbrev pub trailerLine : Summary → Line
-trailerLine s = record { body = threeFields (totalBytes (s .sum)) (decimal (s .groups)) (decimal (s .lines + 1)); lineEnd = lf }
+trailerLine s = record { body = threeFields (totalBytes (s .sum)) (decimal (s .groups)) (decimal (s .records + 1)); lineEnd = lf }
 
 trailer-allowed : (s : Summary) → T (all allowed (trailerLine s .body))
 trailer-allowed s =
-    line-allowed (totalBytes (s .sum)) (decimal (s .groups)) (decimal (s .lines + 1)) (total-clean (s .sum)) (decimal-in (s .groups)) (decimal-in (s .lines + 1))
+    line-allowed (totalBytes (s .sum)) (decimal (s .groups)) (decimal (s .records + 1)) (total-clean (s .sum)) (decimal-in (s .groups)) (decimal-in (s .records + 1))
 
 trailer-lines : (s : Summary) → linesOf (freshTrailer s) ≡ trailerLine s ∷ []
 unfolding freshTrailer linesOf
 trailer-lines s =
     let body = trailerLine s .body in
-    ap linesOf (sym (append-assoc (codeBytes fileTrailer ++ totalBytes (s .sum) ++ (comma ∷ decimal (s .groups)) ++ (comma ∷ decimal (s .lines + 1))) (slash ∷ []) (LF ∷ [])))
+    ap linesOf (sym (append-assoc (codeBytes fileTrailer ++ totalBytes (s .sum) ++ (comma ∷ decimal (s .groups)) ++ (comma ∷ decimal (s .records + 1))) (slash ∷ []) (LF ∷ [])))
     ∙ lines-lf body [] (all-more allowed inLine (λ b h. allowed-in-line b h .0) body (trailer-allowed s)) (allowed-no-cr body (trailer-allowed s))
 
 pub trailer-record : (s : Summary) → fileRecords (freshTrailer s) ≡ (trailerLine s ∷ []) ∷ []
 unfolding fileRecords recordsOf
 trailer-record s = rw trailer-lines
 
-pub trailer-fresh : (s : Summary) → T (freshStart (linesOf (freshTrailer s)))
+pub trailer-fresh : (s : Summary) → T (not (heads continuation (linesOf (freshTrailer s))))
 unfolding begins sameBytes
 trailer-fresh s = rw trailer-lines tt
 
@@ -165,19 +166,19 @@ trailer-heads s = tt
 
 -- ---- the reader accepts it
 
--- the state behind the 99
-abbrev pub behindTrailer : ℕ → Summary → State
-behindTrailer limit file = record { expected = []; limit = limit; file = file; group = noSummary; account = noSummary }
+-- the state after the 99
+abbrev pub afterTrailer : ℕ → Summary → State
+afterTrailer limit file = record { expected = []; limit = limit; file = file; group = noSummary; account = noSummary }
 
-module _ (limit : ℕ) (s : Summary) (roomy : 48 ≤ limit) (bounded : magnitudes (s .sum) ≤ most) (few-groups : s .groups < 10 ^ 9) (few-lines : s .lines + 1 < 10 ^ 9) where
+module _ (limit : ℕ) (s : Summary) (roomy : 48 ≤ limit) (bounded : magnitudes (s .sum) ≤ most) (few-groups : s .groups < 10 ^ 9) (few-lines : s .records + 1 < 10 ^ 9) where
   abbrev read : List Field
-  read = fieldsRead (totalBytes (s .sum)) (decimal (s .groups)) (decimal (s .lines + 1))
+  read = fieldsRead (totalBytes (s .sum)) (decimal (s .groups)) (decimal (s .records + 1))
 
   trailer-short : length (trailerLine s .body) ≤ limit
   trailer-short =
       let v : length (totalBytes (s .sum)) ≤ 19 = total-short (s .sum) bounded in
       let g : length (decimal (s .groups)) ≤ 9 = decimal-at-most 9 (s .groups) (omega arith) few-groups in
-      let n : length (decimal (s .lines + 1)) ≤ 9 = decimal-at-most 9 (s .lines + 1) (omega arith) few-lines in
+      let n : length (decimal (s .records + 1)) ≤ 9 = decimal-at-most 9 (s .records + 1) (omega arith) few-lines in
       simp length-append (omega arith)
 
   trailer-good : goodLines 0 limit (trailerLine s ∷ []) ≡ fine tt
@@ -190,9 +191,9 @@ module _ (limit : ℕ) (s : Summary) (roomy : 48 ≤ limit) (bounded : magnitude
 
   trailer-walked : walkRecord fileTrailer (trailerLine s ∷ []) ≡ fine read
   trailer-walked =
-      walk-three (totalBytes (s .sum)) (decimal (s .groups)) (decimal (s .lines + 1)) (total-clean (s .sum)) (decimal-in (s .groups)) (decimal-in (s .lines + 1))
+      walk-three (totalBytes (s .sum)) (decimal (s .groups)) (decimal (s .records + 1)) (total-clean (s .sum)) (decimal-in (s .groups)) (decimal-in (s .records + 1))
       (total-signed (s .sum) (is-true (withinMost (s .sum)) (within (s .sum) bounded)))
-      (decimal-fits 9 (s .groups) (omega arith) few-groups) (decimal-fits 9 (s .lines + 1) (omega arith) few-lines)
+      (decimal-fits 9 (s .groups) (omega arith) few-groups) (decimal-fits 9 (s .records + 1) (omega arith) few-lines)
 
   -- it adds one record, and nothing else
   trailer-adds : ofRecord fileTrailer (trailerLine s ∷ []) read ≡ onlyLines 1
@@ -210,14 +211,14 @@ module _ (limit : ℕ) (s : Summary) (roomy : 48 ≤ limit) (bounded : magnitude
         equals-back (s .sum) (asSum (signed (totalBytes (s .sum)))) (total-equals (s .sum)),
         number-decimal (s .groups),
         eq-eqb (s .groups) (s .groups) refl,
-        number-decimal (s .lines + 1),
-        eq-eqb (s .lines + 1) (s .lines + 1) refl,
+        number-decimal (s .records + 1),
+        eq-eqb (s .records + 1) (s .records + 1) refl,
       )
 
-  pub trailer-step : step (between limit s) (trailerLine s ∷ []) ≡ fine (behindTrailer limit (s ⊞ onlyLines 1))
-  unfolding inOrder coded codeOf codeIn begins sameBytes among limitBehind ownLines stateBehind sumOf amountOf
+  pub trailer-step : step (between limit s) (trailerLine s ∷ []) ≡ fine (afterTrailer limit (s ⊞ onlyLines 1))
+  unfolding inOrder coded codeOf codeIn begins sameBytes among limitAfter ownLines stateAfter sumOf amountOf
   trailer-step =
-      step-again (between limit s) (trailerLine s ∷ []) (behindTrailer limit (s ⊞ onlyLines 1))
+      step-again (between limit s) (trailerLine s ∷ []) (afterTrailer limit (s ⊞ onlyLines 1))
       (record {
         code = fileTrailer;
         fields = read;

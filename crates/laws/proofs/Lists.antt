@@ -4,8 +4,8 @@ use mathlib.Core.Path.{_≡_, refl, sym}
 use mathlib.Core.List.{List, [], _∷_, _++_, append-assoc}
 use native.Mathlib.Omega.{arith}
 use lib.ListN.{length}
-use Rattle.rules.specs.Combine.{joined}
-use Rattle.laws.specs.Words.{All, addUp}
+use Rattle.rules.specs.Combine.{concat}
+use Rattle.laws.specs.LawWords.{All, addUp}
 
 -- ---- a property of every element
 
@@ -22,10 +22,10 @@ module _ {A : Type 0} (P : A → Type 0) where
   all-both [] ys h k = k
   all-both (x ∷ xs) ys h k = (h .0, all-both xs ys (h .1) k)
 
-  pub all-joined : (xss : List (List A)) → All (All P) xss → All P (joined xss)
-  unfolding joined
+  pub all-joined : (xss : List (List A)) → All (All P) xss → All P (concat xss)
+  unfolding concat
   all-joined [] h = tt
-  all-joined (xs ∷ xss) h = all-both xs (joined xss) (h .0) (all-joined xss (h .1))
+  all-joined (xs ∷ xss) h = all-both xs (concat xss) (h .0) (all-joined xss (h .1))
 
   pub all-from : (Q : A → Type 0) → ((x : A) → Q x → P x) → (xs : List A) → All Q xs → All P xs
   all-from Q f [] h = tt
@@ -33,10 +33,10 @@ module _ {A : Type 0} (P : A → Type 0) where
 
 -- ---- lists put together
 
-pub joined-append : {A : Type 0} (xss yss : List (List A)) → joined (xss ++ yss) ≡ joined xss ++ joined yss
-unfolding joined
-joined-append [] yss = refl
-joined-append (xs ∷ xss) yss = rw (joined-append xss yss) (sym (append-assoc xs (joined xss) (joined yss)))
+pub concat-append : {A : Type 0} (xss yss : List (List A)) → concat (xss ++ yss) ≡ concat xss ++ concat yss
+unfolding concat
+concat-append [] yss = refl
+concat-append (xs ∷ xss) yss = rw (concat-append xss yss) (sym (append-assoc xs (concat xss) (concat yss)))
 
 -- one of each is as many as there are
 pub add-ones : {A : Type 0} (xs : List A) → addUp (λ x. 1) xs ≡ length xs

@@ -11,27 +11,28 @@ use Rattle.rules.specs.Bytes.{Bytes, isEmpty, between, allowed, trimmed}
 use Rattle.rules.specs.Outcome.{Outcome, refused, fine, _>>=_, _>>_, check, orRefused, moved}
 use Rattle.rules.specs.Lines.{Line, sizeOf, Code, fileHeader, groupHeader, accountHeader, detail, accountTrailer, groupTrailer, fileTrailer, continuation, sameCode, codeOf, Record, recordSize, fileRecords}
 use Rattle.rules.specs.Cells.{Mark, atComma, atSlash, atLineEnd, Cell, markPlace, cellsOf, leadingBlanks}
-use Rattle.rules.specs.Numbers.{number, magnitudes, most, withinMost, equals, asSum, signed}
+use Rattle.rules.specs.Numbers.{number, magnitudes, withinMost, equals, asSum, signed}
+use Rattle.rules.specs.Limits.{most, longestFile}
 use Rattle.rules.specs.Grammar.{Kind, Judged, bad, good, andThen, takeNext, nextKind, isText, total, count, records, judged, fieldsOf, mayLack}
-use Rattle.rules.specs.Records.{Field, Walk, behind, taken, pastSlash, takenTo, walkCells, walkLines, walkRecord, the}
+use Rattle.rules.specs.Records.{Field, Walk, walkAfter, taken, pastSlash, takenTo, walkCells, walkLines, walkRecord, the}
 use Rattle.rules.specs.Totals.{Summary, noSummary, _⊞_, amountOf, sumOf, adding, ofRecord, boundedFrom, rightTotal, rightCount, rightRecords, sumWithin, balanced}
 use Rattle.rules.specs.Order.{among, ended, groupOpen}
-use Rattle.rules.specs.Verdict.{State, start, mostBytes, notLonger, allAllowed, coded, goodLine, goodLines, noneLonger, inOrder, limitBehind, ownLines, Reading, readRecord, stateBehind, settled, step, run, judge}
+use Rattle.rules.specs.Verdict.{State, start, notLonger, allAllowed, coded, goodLine, goodLines, noneLonger, inOrder, limitAfter, ownLines, Reading, readRecord, stateAfter, settled, step, run, judge}
 use Rattle.rules.proofs.Tests.{both, and-left, and-right, is-true}
 use Rattle.rules.proofs.Binds.{moved-fine}
 use Rattle.rules.proofs.RunLaws.{within}
 use Rattle.rules.proofs.Accepted.{stepped}
-use Rattle.laws.proofs.Fields.{Says, judged-says}
-use Rattle.laws.proofs.Steps.{bounded-within}
+use Rattle.laws.proofs.FieldValues.{Says, judged-says}
+use Rattle.laws.proofs.RecordsTaken.{bounded-within}
 
 -- where refused, then by a number that passes the test
 abbrev pub By : {A : Type 0} → (ℕ → Bool) → Outcome A → Type 0
-By test (refused n p) = T (test n)
+By test (refused why) = T (test (why .number))
 By test (fine a) = Unit {0}
 
 module _ (test : ℕ → Bool) where
   pub bind-by : {A B : Type 0} (o : Outcome A) (f : A → Outcome B) → By test o → ((a : A) → o ≡ fine a → By test (f a)) → By test (o >>= f)
-  bind-by (refused n p) f h k = h
+  bind-by (refused why) f h k = h
   bind-by (fine a) f h k = k a refl
 
   pub then-by : {A B : Type 0} (o : Outcome A) (r : Outcome B) → By test o → By test r → By test (o >> r)
@@ -50,7 +51,7 @@ module _ (test : ℕ → Bool) where
 
   moved-by : {A : Type 0} (p : ℕ) (o : Outcome A) → By test o → By test (moved p o)
   unfolding moved
-  moved-by p (refused n q) h = h
+  moved-by p (refused why) h = h
   moved-by p (fine a) h = tt
 
   either-by : {A : Type 0} (t : Bool) (o r : Outcome A) → By test o → By test r → By test (cond t o r)
@@ -75,15 +76,15 @@ seven-to-nine n h =
     let hi = leb→le n 9 (and-right (leb 7 n) (leb n 9) h) in
     both (leb 1 n) (leb n lastNumber) (le→leb 1 n (omega arith)) (le→leb n lastNumber (omega arith))
 
-behind-by : (j : Judged) (k : Kind) (ks : List Kind) (f : Field) (w : Walk) → Says k (f .bytes) j → ByReader (behind (andThen j ks) f w)
-unfolding behind andThen
-behind-by (bad n) k ks f w h = seven-to-nine n h
-behind-by (good new) k ks f w h = tt
+after-by : (j : Judged) (k : Kind) (ks : List Kind) (f : Field) (w : Walk) → Says k (f .bytes) j → ByReader (walkAfter (andThen j ks) f w)
+unfolding walkAfter andThen
+after-by (bad n) k ks f w h = seven-to-nine n h
+after-by (good new) k ks f w h = tt
 
-next-by : (ks : List Kind) (f : Field) (w : Walk) → ByReader (behind (takeNext ks (f .bytes)) f w)
-unfolding behind takeNext
+next-by : (ks : List Kind) (f : Field) (w : Walk) → ByReader (walkAfter (takeNext ks (f .bytes)) f w)
+unfolding walkAfter takeNext
 next-by [] f w = tt
-next-by (k ∷ ks) f w = behind-by (judged k (f .bytes)) k ks f w (judged-says k (f .bytes))
+next-by (k ∷ ks) f w = after-by (judged k (f .bytes)) k ks f w (judged-says k (f .bytes))
 
 taken-by : (p : ℕ) (bs : Bytes) (w : Walk) → ByReader (taken p bs w)
 unfolding taken
@@ -172,7 +173,7 @@ total-by s fs = check-by byReader (equals (s .sum) (asSum (signed (the total fs 
 
 records-by : (s : Summary) (fs : List Field) → ByReader (rightRecords s fs)
 unfolding rightRecords
-records-by s fs = check-by byReader (eqb (s .lines) (number (the records fs .bytes))) 13 (the records fs .place) tt
+records-by s fs = check-by byReader (eqb (s .records) (number (the records fs .bytes))) 13 (the records fs .place) tt
 
 count-by : (n : ℕ) (fs : List Field) → ByReader (rightCount n fs)
 unfolding rightCount
@@ -222,7 +223,7 @@ settled-by : (s : State) (r : Record) (x : Reading) → Bounded s → ByReader (
 unfolding settled
 settled-by s r x b =
     let this = ofRecord (x .code) r (x .fields) in
-    then-by byReader (ownLines (x .code) (limitBehind (x .code) (s .limit) (x .fields)) r) _ (own-by (x .code) (limitBehind (x .code) (s .limit) (x .fields)) r)
+    then-by byReader (ownLines (x .code) (limitAfter (x .code) (s .limit) (x .fields)) r) _ (own-by (x .code) (limitAfter (x .code) (s .limit) (x .fields)) r)
     (bind-by byReader (boundedFrom (magnitudes (s .file .sum)) (x .fields)) _ (bounded-by (magnitudes (s .file .sum)) (x .fields)) (λ u e.
     let room = bounded-within (magnitudes (s .file .sum)) (x .fields) (b .in-file) e in
     let in-all = file-room (s .file) (s .group) (x .code) r (x .fields) (b .in-group) room in
@@ -231,7 +232,7 @@ settled-by s r x b =
     (balanced-by (x .code) (s .account ⊞ this) (s .group ⊞ this) (s .file ⊞ this) (x .fields) (omega arith) in-all) tt))
 
 step-bounded : (s t : State) (r : Record) → Bounded s → step s r ≡ fine t → Bounded t
-unfolding stateBehind
+unfolding stateAfter
 step-bounded s t r b h =
     let x = stepped s r t h in
     let room = bounded-within (magnitudes (s .file .sum)) (x .fields) (b .in-file) (x .bounded) in
@@ -252,6 +253,6 @@ pub judge-by : (file : Bytes) → By byReader (judge file)
 unfolding judge
 judge-by file =
     checked-by byReader (not (isEmpty file)) 1 0 _ tt
-    (checked-by byReader (leb (length file) mostBytes) 2 0 _ tt
+    (checked-by byReader (leb (length file) longestFile) 2 0 _ tt
     (bind-by byReader (run 0 start (fileRecords file)) _ (run-by 0 start (fileRecords file) (record { in-file = omega arith; in-group = omega arith })) (λ s e.
     checked-by byReader (ended (s .expected)) 6 (length file) _ tt tt)))

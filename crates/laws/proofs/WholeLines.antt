@@ -9,19 +9,8 @@ use lib.ListN.{length, length-append}
 use Rattle.rules.specs.Bytes.{Bytes, LF, CR}
 use Rattle.rules.specs.Lines.{LineEnd, lacking, lf, crlf, endBytes, Line, wholeLine, longerLine, longerFirst, linesOf, lineBytes}
 use Rattle.rules.proofs.Tests.{Known, holds, fails, known}
-use Rattle.rules.proofs.LineLaws.{longer-bytes, endsInLF}
-use Rattle.laws.specs.Words.{All}
-
--- the line has its end
-abbrev pub endsLine : LineEnd → Bool
-endsLine lacking = false
-endsLine lf = true
-endsLine crlf = true
-
--- a line that has its end: its bytes before others are read as this line, then the lines of the others
-pub record Whole (l : Line) : Type 0 where
-  pub ended : T (endsLine (l .lineEnd))
-  pub stays : (bs : Bytes) → linesOf (wholeLine l ++ bs) ≡ l ∷ linesOf bs
+use Rattle.rules.proofs.LineLaws.{longer-bytes}
+use Rattle.laws.specs.LawWords.{All, endsInLF, endsLine, Whole}
 
 -- all lines but the last
 abbrev pub AllButLast : List Line → Type 0

@@ -1,2 +1,2 @@
 -- The words of the theorems.
-pub mod Words
+pub mod LawWords

@@ -16,12 +16,12 @@ use Rattle.rules.specs.Grammar.{Kind, furtherType, amount, text, total, count, 
 use Rattle.rules.specs.Records.{Field, walkCells, the}
 use Rattle.rules.specs.Verdict.{limitGiven}
 use Rattle.rules.specs.Totals.{Summary, amountOf, sumOf}
-use Rattle.rules.specs.Writer.{header, group, account, accountEnd, groupEnd, fileEnd, Writer, Given, given, sumGiven, trailerFields, wantsItem, behindFields, withCommas, lineRest}
-use Rattle.laws_writer.specs.Words.{Value, filled, said, allSaid, trailerGiven, gives}
-use Rattle.laws_writer.proofs.Numbers.{total-said, number-said}
-use Rattle.laws_writer.proofs.Fields.{Takes, simples, takes-all}
-use Rattle.laws_writer.proofs.Lines.{all-both}
-use Rattle.laws_writer.proofs.Walks.{zipped, endOf, walkAt, walk-slash, fields-allowed, fields-short}
+use Rattle.rules.specs.Writer.{writeHeader, writeGroup, endAccount, Writer, Given, given, sumGiven, trailerFields, wantsItem, kindsAfter, withCommas, lineRest}
+use Rattle.laws_writer.specs.SessionWords.{Value, filled, said, allSaid, trailerGiven, gives}
+use Rattle.laws_writer.proofs.NumberFields.{total-said, number-said}
+use Rattle.laws_writer.proofs.FieldsWritten.{Takes, simples, takes-all}
+use Rattle.laws_writer.proofs.LinesWritten.{all-both}
+use Rattle.laws_writer.proofs.WalkWritten.{zipped, endOf, walkAt, walk-slash, fields-allowed, fields-short}
 
 -- ---- a line
 
@@ -44,7 +44,7 @@ holdsItems groupTrailer = false
 holdsItems fileTrailer = false
 holdsItems continuation = true
 
--- what the walk finds from place p on, and what it says; `left` was wanted behind the fields that were given
+-- what the walk finds from place p on, and what it says; `left` was wanted after the fields that were given
 pub record Found (g : Given) (values : List Value) (left : List Kind) : Type 0 where
   pub wanted : List Kind
   pub fields : ℕ → List Field
@@ -58,7 +58,7 @@ pub record Found (g : Given) (values : List Value) (left : List Kind) : Type 0 w
   pub items : wantsItem left ≡ wantsItem wanted
   pub item : wantsItem wanted ≡ true → (wanted ≡ furtherType ∷ []) × (holdsItems (g .code) ≡ true)
 
--- ---- fields behind others
+-- ---- fields after others
 
 pub sum-append : (fs gs : List Field) → sumOf (fs ++ gs) ≡ sumOf fs ⊕ sumOf gs
 unfolding sumOf
@@ -97,7 +97,7 @@ module _ (c : Code) (ks used left wanted : List Kind) (f : Bytes) (fs : List Byt
       }
 
 -- all fields of simple kinds: header, group and the trailers
-found-plain : (c : Code) (ks left : List Kind) (f : Bytes) (fs : List Bytes) (values : List Value) → behindFields ks (f ∷ fs) ≡ fine left
+found-plain : (c : Code) (ks left : List Kind) (f : Bytes) (fs : List Bytes) (values : List Value) → kindsAfter ks (f ∷ fs) ≡ fine left
     → simples ks ≡ true → length ks ≡ length (f ∷ fs) → length (f ∷ fs) ≤ 8
     → ((p : ℕ) → allSaid (zipped p ks (f ∷ fs)) ≡ values) → ((p : ℕ) → sumOf (zipped p ks (f ∷ fs)) ≡ zeroSum)
     → Found (slashLine c ks (f ∷ fs) none) values left
@@ -106,33 +106,33 @@ found-plain c ks left f fs values h s n few back sum =
     found-slash c ks ks left [] f fs none values (t .1) few refl back sum (ap wantsItem (sym (t .0))) (λ e. absurd (false≢true e))
 
 module _ (w : Writer) (left : List Kind) where
-  pub header-found : (s r d t n : Bytes) → behindFields (fieldsOf fileHeader) (s ∷ r ∷ d ∷ t ∷ n ∷ [] ∷ [] ∷ (50 ∷ []) ∷ []) ≡ fine left
-      → Found (given w (header s r d t n)) (gives w (header s r d t n)) left
+  pub header-found : (s r d t n : Bytes) → kindsAfter (fieldsOf fileHeader) (s ∷ r ∷ d ∷ t ∷ n ∷ [] ∷ [] ∷ (50 ∷ []) ∷ []) ≡ fine left
+      → Found (given w (writeHeader s r d t n)) (gives w (writeHeader s r d t n)) left
   unfolding given fieldsOf zipped sumOf amountOf gives allSaid said filled isEmpty
   header-found s r d t n h =
-      found-plain fileHeader (fieldsOf fileHeader) left s (r ∷ d ∷ t ∷ n ∷ [] ∷ [] ∷ (50 ∷ []) ∷ []) (gives w (header s r d t n)) h refl refl (omega arith) (λ p. refl) (λ p. refl)
+      found-plain fileHeader (fieldsOf fileHeader) left s (r ∷ d ∷ t ∷ n ∷ [] ∷ [] ∷ (50 ∷ []) ∷ []) (gives w (writeHeader s r d t n)) h refl refl (omega arith) (λ p. refl) (λ p. refl)
 
   -- L stays empty
-  pub header-limit : (limit : ℕ) (s r d t n : Bytes) (h : behindFields (fieldsOf fileHeader) (s ∷ r ∷ d ∷ t ∷ n ∷ [] ∷ [] ∷ (50 ∷ []) ∷ []) ≡ fine left)
+  pub header-limit : (limit : ℕ) (s r d t n : Bytes) (h : kindsAfter (fieldsOf fileHeader) (s ∷ r ∷ d ∷ t ∷ n ∷ [] ∷ [] ∷ (50 ∷ []) ∷ []) ≡ fine left)
       → limitGiven limit (header-found s r d t n h .fields 3) ≡ limit
   unfolding header-found found-plain found-slash fieldsOf zipped limitGiven the isEmpty
   header-limit limit s r d t n h = refl
 
-  pub group-found : (u o s d t c m : Bytes) → behindFields (fieldsOf groupHeader) (u ∷ o ∷ s ∷ d ∷ t ∷ c ∷ m ∷ []) ≡ fine left
-      → Found (given w (group u o s d t c m)) (gives w (group u o s d t c m)) left
+  pub group-found : (u o s d t c m : Bytes) → kindsAfter (fieldsOf groupHeader) (u ∷ o ∷ s ∷ d ∷ t ∷ c ∷ m ∷ []) ≡ fine left
+      → Found (given w (writeGroup u o s d t c m)) (gives w (writeGroup u o s d t c m)) left
   unfolding given fieldsOf zipped sumOf amountOf gives allSaid said filled
   group-found u o s d t c m h =
-      found-plain groupHeader (fieldsOf groupHeader) left u (o ∷ s ∷ d ∷ t ∷ c ∷ m ∷ []) (gives w (group u o s d t c m)) h refl refl (omega arith) (λ p. refl) (λ p. refl)
+      found-plain groupHeader (fieldsOf groupHeader) left u (o ∷ s ∷ d ∷ t ∷ c ∷ m ∷ []) (gives w (writeGroup u o s d t c m)) h refl refl (omega arith) (λ p. refl) (λ p. refl)
 
-  pub account-end-found : behindFields (fieldsOf accountTrailer) (totalBytes (w .account .sum) ∷ decimal (w .account .lines + 1) ∷ []) ≡ fine left
-      → Found (given w accountEnd) (gives w accountEnd) left
+  pub account-end-found : kindsAfter (fieldsOf accountTrailer) (totalBytes (w .account .sum) ∷ decimal (w .account .records + 1) ∷ []) ≡ fine left
+      → Found (given w endAccount) (gives w endAccount) left
   unfolding given fieldsOf zipped sumOf amountOf gives allSaid
   account-end-found h =
-      found-plain accountTrailer (fieldsOf accountTrailer) left (totalBytes (w .account .sum)) (decimal (w .account .lines + 1) ∷ []) (gives w accountEnd) h refl refl (omega arith)
-      (λ p. rw (total-said total p (w .account .sum) refl, number-said records (suc (p + length (totalBytes (w .account .sum)))) (w .account .lines + 1) refl refl)) (λ p. refl)
+      found-plain accountTrailer (fieldsOf accountTrailer) left (totalBytes (w .account .sum)) (decimal (w .account .records + 1) ∷ []) (gives w endAccount) h refl refl (omega arith)
+      (λ p. rw (total-said total p (w .account .sum) refl, number-said records (suc (p + length (totalBytes (w .account .sum)))) (w .account .records + 1) refl refl)) (λ p. refl)
 
-  pub account-end-fields : (h : behindFields (fieldsOf accountTrailer) (totalBytes (w .account .sum) ∷ decimal (w .account .lines + 1) ∷ []) ≡ fine left)
-      → account-end-found h .fields 3 ≡ zipped 3 (total ∷ records ∷ []) (totalBytes (w .account .sum) ∷ decimal (w .account .lines + 1) ∷ [])
+  pub account-end-fields : (h : kindsAfter (fieldsOf accountTrailer) (totalBytes (w .account .sum) ∷ decimal (w .account .records + 1) ∷ []) ≡ fine left)
+      → account-end-found h .fields 3 ≡ zipped 3 (total ∷ records ∷ []) (totalBytes (w .account .sum) ∷ decimal (w .account .records + 1) ∷ [])
   unfolding account-end-found found-plain found-slash fieldsOf
   account-end-fields h = refl
 
@@ -140,27 +140,16 @@ trailer-said : (s : Summary) (n p : ℕ) → allSaid (zipped p (total ∷ count 
 unfolding zipped allSaid
 trailer-said s n p =
     let q = suc (p + length (totalBytes (s .sum))) in
-    rw (total-said total p (s .sum) refl, number-said count q n refl refl, number-said records (suc (q + length (decimal n))) (s .lines + 1) refl refl)
+    rw (total-said total p (s .sum) refl, number-said count q n refl refl, number-said records (suc (q + length (decimal n))) (s .records + 1) refl refl)
 
-module _ (w : Writer) (left : List Kind) where
-  pub group-end-found : behindFields (fieldsOf groupTrailer) (trailerFields (w .group) (w .group .accounts)) ≡ fine left → Found (given w groupEnd) (gives w groupEnd) left
-  unfolding given fieldsOf zipped sumOf amountOf gives
-  group-end-found h =
-      found-plain groupTrailer (fieldsOf groupTrailer) left (totalBytes (w .group .sum)) (decimal (w .group .accounts) ∷ decimal (w .group .lines + 1) ∷ []) (gives w groupEnd) h refl refl
-      (omega arith) (trailer-said (w .group) (w .group .accounts)) (λ p. refl)
+-- the line that ends a group or the file: of this summary, with this count
+module _ (c : Code) (s : Summary) (n : ℕ) (left : List Kind) (h : kindsAfter (total ∷ count ∷ records ∷ []) (trailerFields s n) ≡ fine left) where
+  pub trailer-found : Found (slashLine c (total ∷ count ∷ records ∷ []) (trailerFields s n) none) (trailerGiven s n) left
+  unfolding zipped sumOf amountOf
+  trailer-found =
+      found-plain c (total ∷ count ∷ records ∷ []) left (totalBytes (s .sum)) (decimal n ∷ decimal (s .records + 1) ∷ []) (trailerGiven s n) h refl refl (omega arith)
+      (trailer-said s n) (λ p. refl)
 
-  pub group-end-fields : (h : behindFields (fieldsOf groupTrailer) (trailerFields (w .group) (w .group .accounts)) ≡ fine left)
-      → group-end-found h .fields 3 ≡ zipped 3 (total ∷ count ∷ records ∷ []) (trailerFields (w .group) (w .group .accounts))
-  unfolding group-end-found found-plain found-slash fieldsOf
-  group-end-fields h = refl
-
-  pub file-end-found : behindFields (fieldsOf fileTrailer) (trailerFields (w .file) (w .file .groups)) ≡ fine left → Found (given w fileEnd) (gives w fileEnd) left
-  unfolding given fieldsOf zipped sumOf amountOf gives
-  file-end-found h =
-      found-plain fileTrailer (fieldsOf fileTrailer) left (totalBytes (w .file .sum)) (decimal (w .file .groups) ∷ decimal (w .file .lines + 1) ∷ []) (gives w fileEnd) h refl refl
-      (omega arith) (trailer-said (w .file) (w .file .groups)) (λ p. refl)
-
-  pub file-end-fields : (h : behindFields (fieldsOf fileTrailer) (trailerFields (w .file) (w .file .groups)) ≡ fine left)
-      → file-end-found h .fields 3 ≡ zipped 3 (total ∷ count ∷ records ∷ []) (trailerFields (w .file) (w .file .groups))
-  unfolding file-end-found found-plain found-slash fieldsOf
-  file-end-fields h = refl
+  pub trailer-fields : trailer-found .fields 3 ≡ zipped 3 (total ∷ count ∷ records ∷ []) (trailerFields s n)
+  unfolding trailer-found found-plain found-slash
+  trailer-fields = refl

@@ -1,16 +1,16 @@
 -- From the numbers to the theorem, in this order.
-pub mod Numbers
-pub mod Fields
-pub mod Lines
-pub mod Walks
+pub mod NumberFields
+pub mod FieldsWritten
+pub mod LinesWritten
+pub mod WalkWritten
 pub mod Passed
 pub mod Placing
 pub mod Found
-pub mod Items
-pub mod Details
-pub mod Records
+pub mod ItemsWritten
+pub mod DetailsWritten
+pub mod RecordsWritten
 pub mod Further
 pub mod Sound
-pub mod Kept
+pub mod CallsKept
 pub mod Sessions
-pub mod Theorems
+pub mod WriterTheorems

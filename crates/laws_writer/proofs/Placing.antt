@@ -21,7 +21,7 @@ module _ (at : ℕ) (line before : Bytes) where
       let n = length-take-le at before (omega arith) in
       rw (length-append (take at before) (line ++ drop (at + length line) before), length-append line (drop (at + length line) before), n, length-drop (at + length line) before) (omega arith)
 
-  -- a byte stored behind them
+  -- a byte stored after them
   pub placed-more : (b : ℕ) → at + length line < length before → set (placed at line before) (at + length line) b ≡ placed at (line ++ (b ∷ [])) before
   placed-more b h =
       let n = length-take-le at before (omega arith) in

@@ -9,20 +9,20 @@ use lib.ListN.{length, take}
 use borrow.Author.Tests.{ne-eqb}
 use Rattle.rules.specs.Bytes.{Bytes}
 use Rattle.rules.specs.Outcome.{Outcome, refused, fine}
-use Rattle.rules.specs.Verdict.{mostBytes}
-use Rattle.rules.specs.Writer.{Call, fileEnd, finished, Writer, Given, given, sound, lineOf, Entry, entryOf, writeLine, Written, writtenBy, write}
-use Rattle.laws_writer.specs.Words.{gathered, gives, Session, freshSession, called, calledAll}
+use Rattle.rules.specs.Limits.{longestFile}
+use Rattle.rules.specs.Writer.{Call, endFile, finished, Writer, Given, given, sound, lineOf, Entry, entryOf, writeLine, Written, writtenBy, write}
+use Rattle.laws_writer.specs.SessionWords.{gathered, gives, Session, freshSession, called, calledAll}
 use Rattle.laws_writer.proofs.Placing.{placed-front, placed-length}
 use Rattle.laws_writer.proofs.Passed.{Passed, passed, Numbered, line-numbered}
 use Rattle.laws_writer.proofs.Sound.{sound-says, is-sound, line-some, next-sound}
-use Rattle.laws_writer.proofs.Records.{Run}
-use Rattle.laws_writer.proofs.Kept.{Stands, nothing-yet, so-far, kept}
+use Rattle.laws_writer.proofs.RecordsWritten.{Run}
+use Rattle.laws_writer.proofs.CallsKept.{Stands, nothing-yet, so-far, kept}
 
 -- the bytes written so far
 abbrev pub runOf : Session → Run
 runOf s = record { writer = s .writer; bytes = take (s .writer .size) (s .output); told = s .told }
 
--- what stands behind calls
+-- what stands after calls
 pub record Keeps (s : Session) : Type 0 where
   pub stands : Stands (runOf s)
   pub inside : s .writer .size ≤ length (s .output)
@@ -38,27 +38,27 @@ module _ (s : Session) (call : Call) (k : Keeps s) where
   abbrev line : Given
   line = given (s .writer) call
 
-  abbrev behind : Written → Session
-  behind answer =
+  abbrev after : Written → Session
+  after answer =
       record {
         writer = answer .writer;
         output = answer .output;
-        told = cond (eqb (answer .number) 0) (gathered (line .code) (s .told) (gives (s .writer) call)) (s .told);
+        told = cond (eqb (answer .refusal .number) 0) (gathered (line .code) (s .told) (gives (s .writer) call)) (s .told);
       }
 
-  entry-kept : (e : Entry) → Passed (s .writer) line (length (s .output)) e → Keeps (behind (writtenBy (s .writer) (fine e) (s .output)))
+  entry-kept : (e : Entry) → Passed (s .writer) line (length (s .output)) e → Keeps (after (writtenBy (s .writer) (fine e) (s .output)))
   unfolding writtenBy entryOf
   entry-kept e p =
-      subst (λ (y : Entry). Keeps (behind (writtenBy (s .writer) (fine y) (s .output)))) (p .entry)
+      subst (λ (y : Entry). Keeps (after (writtenBy (s .writer) (fine y) (s .output)))) (p .entry)
       (record {
         stands = rw (placed-front (s .writer .size) (lineOf line) (s .output) (k .inside)) (so-far (kept (runOf s) call (length (s .output)) (k .stands) e p));
         inside = rw (placed-length (s .writer .size) (lineOf line) (s .output) (p .room-left)) (p .room-left);
         sound = is-sound (entryOf (s .writer) line (p .left) .next) (next-sound (s .writer) line (p .left) (sound-says (s .writer) (k .sound)) (p .bound) (p .size));
       })
 
-  outcome-kept : (o : Outcome Entry) → Numbered o → ((e : Entry) → o ≡ fine e → Passed (s .writer) line (length (s .output)) e) → Keeps (behind (writtenBy (s .writer) o (s .output)))
+  outcome-kept : (o : Outcome Entry) → Numbered o → ((e : Entry) → o ≡ fine e → Passed (s .writer) line (length (s .output)) e) → Keeps (after (writtenBy (s .writer) o (s .output)))
   unfolding writtenBy
-  outcome-kept (refused n q) h p = rw (ne-eqb n 0 (λ z. omega arith)) k
+  outcome-kept (refused why) h p = rw (ne-eqb (why .number) 0 (λ z. omega arith)) k
   outcome-kept (fine e) h p = entry-kept e (p e refl)
 
   pub called-keeps : Keeps (called s call)
@@ -72,7 +72,7 @@ unfolding calledAll
 all-keep s [] k = k
 all-keep s (c ∷ cs) k = all-keep (called s c) cs (called-keeps s c k)
 
--- behind any calls on a fresh writer
+-- after any calls on a fresh writer
 pub always-keeps : (calls : List Call) (out : Bytes) → Keeps (calledAll (freshSession out) calls)
 always-keeps calls out = all-keep (freshSession out) calls (fresh-keeps out)
 
@@ -82,21 +82,21 @@ pub record Ended (answer : Written) : Type 0 where
   pub len : answer .len ≡ answer .writer .size
   pub phase : answer .writer .phase ≡ finished
   pub some-byte : 1 ≤ answer .writer .size
-  pub few : answer .writer .size ≤ mostBytes
+  pub few : answer .writer .size ≤ longestFile
 
 module _ (w : Writer) (out : Bytes) where
-  entry-ends : (e : Entry) → Passed w (given w fileEnd) (length out) e → Ended (writtenBy w (fine e) out)
+  entry-ends : (e : Entry) → Passed w (given w endFile) (length out) e → Ended (writtenBy w (fine e) out)
   unfolding writtenBy entryOf given
   entry-ends e p =
       subst (λ (y : Entry). Ended (writtenBy w (fine y) out)) (p .entry)
-      (record { len = refl; phase = refl; some-byte = omega (arith, line-some (given w fileEnd)); few = p .size })
+      (record { len = refl; phase = refl; some-byte = omega (arith, line-some (given w endFile)); few = p .size })
 
-  outcome-ends : (o : Outcome Entry) → Numbered o → ((e : Entry) → o ≡ fine e → Passed w (given w fileEnd) (length out) e) → writtenBy w o out .number ≡ 0 → Ended (writtenBy w o out)
+  outcome-ends : (o : Outcome Entry) → Numbered o → ((e : Entry) → o ≡ fine e → Passed w (given w endFile) (length out) e) → writtenBy w o out .refusal .number ≡ 0 → Ended (writtenBy w o out)
   unfolding writtenBy
-  outcome-ends (refused n q) h p z = absurd (omega arith)
+  outcome-ends (refused why) h p z = absurd (omega arith)
   outcome-ends (fine e) h p z = entry-ends e (p e refl)
 
-  pub end-ends : write w fileEnd out .number ≡ 0 → Ended (write w fileEnd out)
+  pub end-ends : write w endFile out .refusal .number ≡ 0 → Ended (write w endFile out)
   unfolding write
   end-ends z =
-      outcome-ends (writeLine w (given w fileEnd) (length out)) (line-numbered w (given w fileEnd) (length out)) (λ e. passed w (given w fileEnd) (length out) e) z
+      outcome-ends (writeLine w (given w endFile) (length out)) (line-numbered w (given w endFile) (length out)) (λ e. passed w (given w endFile) (length out) e) z

@@ -7,14 +7,14 @@ use native.Mathlib.Omega.{arith}
 use lib.Dec.{leb}
 use lib.ListN.{length, length-append}
 use borrow.Author.Tests.{le-leb, leb-true}
-use Rattle.rules.specs.Numbers.{_⊕_, magnitudes, most}
+use Rattle.rules.specs.Numbers.{_⊕_, magnitudes}
+use Rattle.rules.specs.Limits.{most, longestFile}
 use Rattle.rules.specs.Lines.{Code, groupHeader, accountHeader, detail, sameCode}
 use Rattle.rules.specs.Grammar.{Kind}
 use Rattle.rules.specs.Totals.{Summary, noSummary, _⊞_, one, adding}
 use Rattle.rules.specs.Order.{groupOpen, accountOpen}
-use Rattle.rules.specs.Verdict.{mostBytes}
 use Rattle.rules.specs.Writer.{Writer, Given, counted, sound, sumGiven, ofGiven, lineOf, entryOf}
-use Rattle.base_digits.proofs.Tests.{and-left, and-right}
+use Rattle.base_digits.proofs.DigitTests.{and-left, and-right}
 
 -- ---- what a sound state says, and back
 
@@ -22,10 +22,10 @@ pub record Counted (n : ℕ) (s : Summary) : Type 0 where
   pub groups : s .groups ≤ n
   pub accounts : s .accounts ≤ n
   pub details : s .details ≤ n
-  pub lines : s .lines ≤ n
+  pub records : s .records ≤ n
 
 pub record Sound (w : Writer) : Type 0 where
-  pub size : w .size ≤ mostBytes
+  pub size : w .size ≤ longestFile
   pub file : magnitudes (w .file .sum) ≤ most
   pub group : magnitudes (w .group .sum) ≤ magnitudes (w .file .sum)
   pub account : magnitudes (w .account .sum) ≤ magnitudes (w .file .sum)
@@ -41,20 +41,20 @@ counts n s h =
       groups = leb-true (s .groups) n (and-left (leb (s .groups) n) _ h);
       accounts = leb-true (s .accounts) n (and-left (leb (s .accounts) n) _ h1);
       details = leb-true (s .details) n (and-left (leb (s .details) n) _ h2);
-      lines = leb-true (s .lines) n (and-right (leb (s .details) n) _ h2);
+      records = leb-true (s .records) n (and-right (leb (s .details) n) _ h2);
     }
 
 pub sound-says : (w : Writer) → sound w ≡ true → Sound w
 unfolding sound
 sound-says w h =
     let file = magnitudes (w .file .sum) in
-    let h1 = and-right (leb (w .size) mostBytes) _ h in
+    let h1 = and-right (leb (w .size) longestFile) _ h in
     let h2 = and-right (leb file most) _ h1 in
     let h3 = and-right (leb (magnitudes (w .group .sum)) file) _ h2 in
     let h4 = and-right (leb (magnitudes (w .account .sum)) file) _ h3 in
     let h5 = and-right (counted (w .size) (w .file)) _ h4 in
     record {
-      size = leb-true (w .size) mostBytes (and-left (leb (w .size) mostBytes) _ h);
+      size = leb-true (w .size) longestFile (and-left (leb (w .size) longestFile) _ h);
       file = leb-true file most (and-left (leb file most) _ h1);
       group = leb-true (magnitudes (w .group .sum)) file (and-left (leb (magnitudes (w .group .sum)) file) _ h2);
       account = leb-true (magnitudes (w .account .sum)) file (and-left (leb (magnitudes (w .account .sum)) file) _ h3);
@@ -64,13 +64,13 @@ sound-says w h =
     }
 
 is-counted : (n : ℕ) (s : Summary) → Counted n s → counted n s ≡ true
-is-counted n s c = rw (le-leb (s .groups) n (c .groups), le-leb (s .accounts) n (c .accounts), le-leb (s .details) n (c .details), le-leb (s .lines) n (c .lines))
+is-counted n s c = rw (le-leb (s .groups) n (c .groups), le-leb (s .accounts) n (c .accounts), le-leb (s .details) n (c .details), le-leb (s .records) n (c .records))
 
 pub is-sound : (w : Writer) → Sound w → sound w ≡ true
 unfolding sound
 is-sound w s =
     rw (
-      le-leb (w .size) mostBytes (s .size),
+      le-leb (w .size) longestFile (s .size),
       le-leb (magnitudes (w .file .sum)) most (s .file),
       le-leb (magnitudes (w .group .sum)) (magnitudes (w .file .sum)) (s .group),
       le-leb (magnitudes (w .account .sum)) (magnitudes (w .file .sum)) (s .account),
@@ -101,7 +101,7 @@ this-counted g =
       groups = omega (arith, one-few (g .code) groupHeader);
       accounts = omega (arith, one-few (g .code) accountHeader);
       details = omega (arith, one-few (g .code) detail);
-      lines = some-byte;
+      records = some-byte;
     }
 
 more-counted : {m n : ℕ} {a b : Summary} → Counted m a → Counted n b → Counted (m + n) (a ⊞ b)
@@ -111,13 +111,13 @@ more-counted x y =
       groups = omega (arith, x .groups, y .groups);
       accounts = omega (arith, x .accounts, y .accounts);
       details = omega (arith, x .details, y .details);
-      lines = omega (arith, x .lines, y .lines);
+      records = omega (arith, x .records, y .records);
     }
 
 -- so it is of what is open, where something is
 open-counted : (t : Bool) {m n : ℕ} {a b : Summary} → Counted m a → Counted n b → Counted (m + n) (cond t (a ⊞ b) noSummary)
 open-counted true x y = more-counted x y
-open-counted false x y = record { groups = omega arith; accounts = omega arith; details = omega arith; lines = omega arith }
+open-counted false x y = record { groups = omega arith; accounts = omega arith; details = omega arith; records = omega arith }
 
 open-sum : (t : Bool) (f a b : Summary) → magnitudes (a .sum) ≤ magnitudes (f .sum) → magnitudes (cond t (a ⊞ b) noSummary .sum) ≤ magnitudes ((f ⊞ b) .sum)
 unfolding _⊞_
@@ -128,7 +128,7 @@ sum-within : (w : Writer) (g : Given) → magnitudes (w .file .sum ⊕ sumGiven 
 unfolding _⊞_ ofGiven adding
 sum-within w g m = m
 
-pub next-sound : (w : Writer) (g : Given) (left : List Kind) → Sound w → magnitudes (w .file .sum ⊕ sumGiven (g .amount)) ≤ most → w .size + length (lineOf g) ≤ mostBytes
+pub next-sound : (w : Writer) (g : Given) (left : List Kind) → Sound w → magnitudes (w .file .sum ⊕ sumGiven (g .amount)) ≤ most → w .size + length (lineOf g) ≤ longestFile
     → Sound (entryOf w g left .next)
 unfolding entryOf
 next-sound w g left s m n =

@@ -1,2 +1,2 @@
 -- The words in which the read-back theorem is said.
-pub mod Words
+pub mod SessionWords

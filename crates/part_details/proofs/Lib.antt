@@ -1,2 +1,2 @@
 -- A detail's answer, by what the search finds in its record.
-mod Answering
+mod DetailLaws

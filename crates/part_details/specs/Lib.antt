@@ -1,3 +1,3 @@
 -- What a detail's answer says, and its text.
-pub mod Details
-pub mod Texts
+pub mod DetailMeaning
+pub mod TextPlace

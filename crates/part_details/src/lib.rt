@@ -1,6 +1,6 @@
 // A detail by number: its type, its amount and its first text piece, which is a slice of the lent file itself.
 use base_codes::Code;
-use base_quantities::Place;
+use base_refusals::Refusal;
 use find_field::Sought;
 use find_field::Spot;
 use read_wanted::want;
@@ -10,13 +10,12 @@ ghost use lib.ListN.{length};
 ghost use Rattle.rules.specs.Outcome.{orElse};
 ghost use Rattle.rules.specs.Parts as rules;
 ghost use Rattle.rules.specs.Answers.{detailOfFile, noDetail};
-ghost use Rattle.part_details.specs.Details.{detailMeant, TextStands};
-ghost use Rattle.part_details.specs.Texts.{TextIs};
+ghost use Rattle.part_details.specs.DetailMeaning.{detailMeant, ZeroWithout, TextStands};
+ghost use Rattle.part_details.specs.TextPlace.{TextIs};
 
-// A refusal's number and place, or 0 and 0; and a detail's type, whether its amount is given and which, and where its first text piece starts in the file, and its length: 0 where there is none.
+// The refusal, by number 0 at place 0 where there is none; and a detail's type, whether its amount is given and which, and where its first text piece starts in the file, and its length: 0 where there is none.
 pub struct DetailAnswer {
-    pub number: u64,
-    pub place: Place,
+    pub refusal: Refusal,
     pub type_code: u64,
     pub amount_given: bool,
     pub amount: u64,
@@ -39,22 +38,22 @@ fn text_in(file: &[u8], from: usize, to: usize) -> Spot
             length: 0,
         };
     }
+    let in_file = from + start;
     Spot {
-        start: from + start,
+        start: in_file,
         length: text.length,
     }
 }
 
 // The detail of this number in that account: reader's refusal, 17.
 pub fn detail(file: &[u8], g: u64, a: u64, n: u64) -> DetailAnswer
-    ensures { λ r. ⌜ (detailMeant r ≡ detailOfFile (now (file .entry)) g a n) × TextStands (now (file .entry)) r (orElse (rules.detailAt (now (file .entry)) g a n) noDetail .textBytes) ⌝ }
+    ensures { λ r. ⌜ (detailMeant r ≡ detailOfFile (now (file .entry)) g a n) × TextStands (now (file .entry)) r (orElse (rules.detailAt (now (file .entry)) g a n) noDetail .textBytes) × ZeroWithout r ⌝ }
 {
     let part = part_groups::find_detail(file, g, a, n);
-    let place = part.place;
-    if part.number != 0 {
+    let refusal = part.refusal;
+    if refusal.number != 0 {
         return DetailAnswer {
-            number: part.number,
-            place,
+            refusal,
             type_code: 0,
             amount_given: false,
             amount: 0,
@@ -68,8 +67,7 @@ pub fn detail(file: &[u8], g: u64, a: u64, n: u64) -> DetailAnswer
     let amount = find_field::amount_of(rec);
     let text = text_in(file, from, to);
     DetailAnswer {
-        number: 0,
-        place,
+        refusal,
         type_code: find_field::type_of(rec),
         amount_given: amount.given,
         amount: amount.amount,

@@ -1,4 +1,4 @@
 -- Laws that belong to no one function. Read in this order.
-pub mod Turns
-pub mod Moving
-pub mod Standing
+pub mod PartTurns
+pub mod PartsMoved
+pub mod PartsStand

@@ -1,3 +1,3 @@
--- What the answers of src/ say, the envelopes that parts are found in, and a detail's text.
-pub mod Meanings
-pub mod Enclosing
+-- What the answers of the code say, the envelopes that parts are found in, and a detail's text.
+pub mod PartMeaning
+pub mod PartsEnclosed

@@ -1,38 +1,33 @@
 // Parts of a file by number: its groups, a group's accounts, an account's details. A part is a slice of the lent file itself.
 use base_codes::Code;
 use base_quantities::Place;
+use base_refusals::NO_SUCH_PART;
+use base_refusals::Refusal;
 use read_file::Verdict;
 ghost use mathlib.Core.Path.{_≡_};
 ghost use Prim.Native.Nat.{_+_, _≤_};
 ghost use lib.ListN.{length};
-ghost use Rattle.rules.specs.Outcome.{numberOf, placeOf};
+ghost use Rattle.rules.specs.Outcome.{refusalOf};
 ghost use Rattle.rules.specs.Parts as rules;
 ghost use Rattle.rules.specs.Answers.{partAnswer, groupPart, accountPart};
-ghost use Rattle.base_codes.specs.Meanings.{codeMeant};
-ghost use Rattle.part_groups.specs.Meanings.{partMeant, Inside};
-ghost use Rattle.part_groups.specs.Enclosing.{Finds, FindsWithin};
+ghost use Rattle.base_refusals.specs.RefusalMeaning.{refusalMeant};
+ghost use Rattle.base_codes.specs.CodeMeaning.{codeMeant};
+ghost use Rattle.part_groups.specs.PartMeaning.{partMeant, Inside};
+ghost use Rattle.part_groups.specs.PartsEnclosed.{Finds, FindsWithin};
 
-// A refusal's number and place, or 0 and 0.
-pub struct Refusal {
-    pub number: u64,
-    pub place: Place,
-}
-
-// A refusal's number and place, or 0 and 0; and where the part starts in the file, and its length.
+// The refusal, by number 0 at place 0 where there is none; and where the part starts in the file, and its length.
 pub struct Part {
-    pub number: u64,
-    pub place: Place,
+    pub refusal: Refusal,
     pub start: usize,
     pub length: usize,
 }
 
 // No part, for this reason.
-fn no_part(number: u64, place: Place) -> Part
-    ensures { λ r. ⌜ (partMeant r ≡ record { number = number; place = place .0; start = 0; len = 0 }) ⌝ }
+fn no_part(why: Refusal) -> Part
+    ensures { λ r. ⌜ (partMeant r ≡ record { refusal = refusalMeant why; start = 0; len = 0 }) ⌝ }
 {
     Part {
-        number,
-        place,
+        refusal: why,
         start: 0,
         length: 0,
     }
@@ -44,20 +39,26 @@ fn nth_part(s: &[u8], opening: Code, closing: Code, n: u64) -> Part
 {
     let mut at = read_lines::record_end(s, 0);
     let mut left = n;
-    while find_lines::begins_at(s, at, opening) {
-        let e = find_lines::next_mark(s, read_lines::record_end(s, at), opening, closing);
+    while read_lines::begins(s, at, opening) {
+        let e = find_lines::next_line_of(s, read_lines::record_end(s, at), opening, closing);
         if left == 0 {
+            let length = e - at;
             return Part {
-                number: 0,
-                place: Place(0),
+                refusal: Refusal {
+                    number: 0,
+                    place: Place(0),
+                },
                 start: at,
-                length: e - at,
+                length,
             };
         }
         left -= 1;
         at = e;
     }
-    no_part(17, Place(0))
+    no_part(Refusal {
+        number: NO_SUCH_PART,
+        place: Place(0),
+    })
 }
 
 // The same in a part of the file: the middle of the file is handed on, and the place answered there is counted from the file's start.
@@ -65,20 +66,24 @@ fn part_within(file: &[u8], outer: Part, opening: Code, closing: Code, n: u64) -
     requires { ⌜ outer .start + outer .length ≤ length (now file) ⌝ }
     ensures { λ r. ⌜ FindsWithin (codeMeant opening) (codeMeant closing) (now (file .entry)) (partMeant outer) n (partMeant r) ⌝ }
 {
-    if outer.number != 0 {
-        let place = outer.place;
-        return no_part(outer.number, place);
+    let why = outer.refusal;
+    if why.number != 0 {
+        return no_part(why);
     }
     let from = outer.start;
     let to = from + outer.length;
     let inner = nth_part(&file[from..to], opening, closing, n);
-    if inner.number != 0 {
+    let missing = inner.refusal;
+    if missing.number != 0 {
         return inner;
     }
+    let start = from + inner.start;
     Part {
-        number: 0,
-        place: Place(0),
-        start: from + inner.start,
+        refusal: Refusal {
+            number: 0,
+            place: Place(0),
+        },
+        start,
         length: inner.length,
     }
 }
@@ -88,7 +93,7 @@ pub fn find_group(file: &[u8], n: u64) -> Part
     ensures { λ r. ⌜ (partMeant r ≡ groupPart (now (file .entry)) n) × Inside (now (file .entry)) (partMeant r) ⌝ }
 {
     match read_file::read(file) {
-        Verdict::Refused(number, place) => no_part(number, place),
+        Verdict::Refused(why) => no_part(why),
         Verdict::Accepted(_) => nth_part(file, Code::GroupHeader, Code::FileTrailer, n),
     }
 }
@@ -108,7 +113,7 @@ pub fn find_account(file: &[u8], g: u64, n: u64) -> Part
 
 // Where the detail of this number in that account stands: its 16, to the end of its last line.
 pub fn find_detail(file: &[u8], g: u64, a: u64, n: u64) -> Part
-    ensures { λ r. ⌜ (partMeant r ≡ partAnswer (rules.detailPieceAt (now (file .entry)) g a n)) × Inside (now (file .entry)) (partMeant r) ⌝ }
+    ensures { λ r. ⌜ (partMeant r ≡ partAnswer (rules.detailPartAt (now (file .entry)) g a n)) × Inside (now (file .entry)) (partMeant r) ⌝ }
 {
     part_within(
         file,
@@ -141,24 +146,16 @@ pub fn account(file: &[u8], g: u64, n: u64) -> &[u8]
 
 // Why there is no such group.
 pub fn group_refusal(file: &[u8], n: u64) -> Refusal
-    ensures { λ r. ⌜ (r .number ≡ numberOf (rules.groupAt (now (file .entry)) n)) × (r .place .0 ≡ placeOf (rules.groupAt (now (file .entry)) n)) ⌝ }
+    ensures { λ r. ⌜ refusalMeant r ≡ refusalOf (rules.groupAt (now (file .entry)) n) ⌝ }
 {
     let part = find_group(file, n);
-    let place = part.place;
-    Refusal {
-        number: part.number,
-        place,
-    }
+    part.refusal
 }
 
 // Why there is no such account.
 pub fn account_refusal(file: &[u8], g: u64, n: u64) -> Refusal
-    ensures { λ r. ⌜ (r .number ≡ numberOf (rules.accountAt (now (file .entry)) g n)) × (r .place .0 ≡ placeOf (rules.accountAt (now (file .entry)) g n)) ⌝ }
+    ensures { λ r. ⌜ refusalMeant r ≡ refusalOf (rules.accountAt (now (file .entry)) g n) ⌝ }
 {
     let part = find_account(file, g, n);
-    let place = part.place;
-    Refusal {
-        number: part.number,
-        place,
-    }
+    part.refusal
 }

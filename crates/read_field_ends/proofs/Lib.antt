@@ -1,2 +1,2 @@
 -- Laws of cutting fields.
-pub mod Cutting
+pub mod FieldLengthLaws

@@ -1,2 +1,2 @@
 -- Lengths that the code finds.
-pub mod Lengths
+pub mod FieldLengths

@@ -4,10 +4,10 @@ ghost use Prim.Native.Nat.{_≤_};
 ghost use lib.ListN.{length};
 ghost use Rattle.rules.specs.Bytes.{trimmed};
 ghost use Rattle.rules.specs.Cells.{leadingBlanks};
-ghost use Rattle.read_field_ends.specs.Lengths.{fieldLen, cutOf};
+ghost use Rattle.read_field_ends.specs.FieldLengths.{fieldLen, extentOf};
 
-// A field of so many bytes; or the line ends before a comma or slash.
-pub enum Cut {
+// How far a field goes: so many bytes; or the line ends before a comma or slash.
+pub enum Extent {
     Field(usize),
     Open,
 }
@@ -58,15 +58,15 @@ fn trimmed_len(f: &[u8]) -> usize
 }
 
 // How long the first field is of what is left of a line; a text takes all of it, less trailing blanks.
-pub fn cut_field(text: bool, rest: &[u8]) -> Cut
-    ensures { λ r. ⌜ r ≡ cutOf text (now (rest .entry)) ⌝ }
+pub fn field_extent(text: bool, rest: &[u8]) -> Extent
+    ensures { λ r. ⌜ r ≡ extentOf text (now (rest .entry)) ⌝ }
 {
     if text {
-        return Cut::Field(trimmed_len(rest));
+        return Extent::Field(trimmed_len(rest));
     }
     let n = field_len(rest);
     if n < rest.len() {
-        return Cut::Field(n);
+        return Extent::Field(n);
     }
-    Cut::Open
+    Extent::Open
 }

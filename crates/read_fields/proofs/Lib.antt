@@ -1,2 +1,2 @@
 -- Laws of judging fields.
-mod Arms
+mod FieldArms

@@ -1,6 +1,4 @@
--- What the reader's types mean, its step with what the walk keeps, that this is the rules' step, and the loop over records.
-pub mod Meanings
-pub mod Stepping
-pub mod Settling
-pub mod Running
-pub mod Answers
+-- What the reader's types mean, its step with what the walk keeps, and what its answers say.
+pub mod FileMeanings
+pub mod RecordSteps
+pub mod FileAnswers

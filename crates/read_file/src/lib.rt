@@ -1,23 +1,25 @@
 // A file's verdict: `record` holds one record's checks in their order, `state` what is known between two records, and this file 1, 2 and a missing 99.
 use crate::record::Stepped;
 use crate::state::State;
+use base_limits::LONGEST_FILE;
 use base_quantities::Place;
+use base_refusals::EMPTY_FILE;
+use base_refusals::FILE_TOO_LONG;
+use base_refusals::RECORD_OUT_OF_ORDER;
+use base_refusals::Refusal;
 use base_totals::Summary;
 ghost use mathlib.Core.Path.{_≡_};
 ghost use Rattle.rules.specs.Verdict.{judge};
-ghost use Rattle.read_file.specs.Meanings.{verdictMeant};
-ghost use Rattle.read_file.specs.Answers.{EndIs, JudgedIs};
+ghost use Rattle.read_file.specs.FileMeanings.{verdictMeant};
+ghost use Rattle.read_file.specs.FileAnswers.{EndIs, JudgedIs};
 
 mod record;
 mod state;
 
-// The longest file, and the longest result.
-pub const MOST_BYTES: usize = 16_777_216;
-
-// The summary, or a refusal's number and its byte's place in the file.
+// The summary, or a refusal with its place in the file.
 pub enum Verdict {
     Accepted(Summary),
-    Refused(u64, Place),
+    Refused(Refusal),
 }
 
 // An accepted file: its summary, its longest line (L, or 4,096), and where its 99 starts.
@@ -27,13 +29,13 @@ pub struct GoodFile {
     pub last: usize,
 }
 
-// What is known of an accepted file, or a refusal's number and its byte's place in the file.
+// What is known of an accepted file, or a refusal with its place in the file.
 pub enum Judged {
     Accepted(GoodFile),
-    Refused(u64, Place),
+    Refused(Refusal),
 }
 
-// Behind the last record, which starts at `last`, of a file of this length: 6, where the 99 was not there.
+// After the last record, which starts at `last`, of a file of this length: 6, where the 99 was not there.
 fn at_end(st: State, last: usize, length: usize) -> Judged
     ensures { λ r. ⌜ EndIs r st last length ⌝ }
 {
@@ -46,7 +48,10 @@ fn at_end(st: State, last: usize, length: usize) -> Judged
             last,
         });
     }
-    Judged::Refused(6, Place(length))
+    Judged::Refused(Refusal {
+        number: RECORD_OUT_OF_ORDER,
+        place: Place(length),
+    })
 }
 
 // A file's verdict, with what is known of a file that is accepted.
@@ -54,10 +59,16 @@ pub fn judge_file(file: &[u8]) -> Judged
     ensures { λ r. ⌜ JudgedIs r (now (file .entry)) ⌝ }
 {
     if file.len() == 0 {
-        return Judged::Refused(1, Place(0));
+        return Judged::Refused(Refusal {
+            number: EMPTY_FILE,
+            place: Place(0),
+        });
     }
-    if MOST_BYTES < file.len() {
-        return Judged::Refused(2, Place(0));
+    if LONGEST_FILE < file.len() {
+        return Judged::Refused(Refusal {
+            number: FILE_TOO_LONG,
+            place: Place(0),
+        });
     }
     let mut st = state::start();
     let mut last: usize = 0;
@@ -65,7 +76,14 @@ pub fn judge_file(file: &[u8]) -> Judged
     loop {
         match record::step(st, &file[at..]) {
             Stepped::End => return at_end(st, last, file.len()),
-            Stepped::Refused(k, p) => return Judged::Refused(k, Place(at + p.0)),
+            Stepped::Refused(why) => {
+                let in_record = why.place;
+                let place = at + in_record.0;
+                return Judged::Refused(Refusal {
+                    number: why.number,
+                    place: Place(place),
+                });
+            }
             Stepped::Next(next, size) => {
                 st = next;
                 last = at;
@@ -84,6 +102,6 @@ pub fn read(file: &[u8]) -> Verdict
             let summary = good.summary;
             Verdict::Accepted(summary)
         }
-        Judged::Refused(n, p) => Verdict::Refused(n, p),
+        Judged::Refused(why) => Verdict::Refused(why),
     }
 }

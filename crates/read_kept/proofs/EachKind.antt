@@ -9,13 +9,13 @@ use Rattle.rules.specs.Bytes.{Bytes, isEmpty, oneOf, between}
 use Rattle.rules.specs.Numbers.{digits, number, signed}
 use Rattle.rules.specs.Grammar as kinds
 use Rattle.rules.specs.Grammar.{Kind, sameKind, physicalLength, statusAmount, amount, total, count, records, bad, good, fits, judged, isSigned, isUnsigned, isLength, isText, pieceOf}
-use Rattle.base_digits.specs.Reading.{amountIn}
-use Rattle.base_digits.proofs.Tests.{and-left}
-use Rattle.base_digits.proofs.Reading.{digits-are, value-is}
-use Rattle.base_digits.proofs.Signs.{no-sign, unsigned-signed, amount-signed, amount-empty}
+use Rattle.base_digits.specs.NumbersRead.{amountIn}
+use Rattle.base_digits.proofs.DigitTests.{and-left}
+use Rattle.base_digits.proofs.ReadingLaws.{digits-are, value-is}
+use Rattle.base_digits.proofs.SignLaws.{no-sign, unsigned-signed, amount-signed, amount-empty}
 use Rattle.read_wanted.specs.Wants.{forAmount, forTotal, forCount, forRecords, forLength, forNothing, samePurpose, purpose}
 use Rattle.read_kept.specs.declared.Kept.{Kept}
-use Rattle.read_kept.specs.Keeping.{keepWith, keepRead, keepField}
+use Rattle.read_kept.specs.KeepFields.{keepWith, keepRead, keepField}
 
 -- ---- good fields that are kept
 

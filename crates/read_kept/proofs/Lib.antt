@@ -1,7 +1,7 @@
 -- What is kept: by the cases of the code; its bounds; and that it is what the rules' folds give.
-pub mod Adding
-pub mod Bounds
+pub mod AddAmounts
+pub mod KeptBounds
 pub mod EachKind
-pub mod Sums
-pub mod Figures
-pub mod Folding
+pub mod KeptSums
+pub mod StatedLaws
+pub mod KeepAllLaws

@@ -1,5 +1,5 @@
-// What a walk keeps of a record's fields for the checks that come behind it: 10, a trailer's 11 to 14, and L.
-use base_quantities::MOST;
+// What a walk keeps of a record's fields for the checks that come after it: 10, a trailer's 11 to 14, and L.
+use base_limits::MOST;
 use base_quantities::Place;
 use base_quantities::Units;
 use read_wanted::want::Keep;
@@ -9,15 +9,16 @@ ghost use mathlib.Core.Bool.{not};
 ghost use Prim.Native.Nat.{_+_};
 ghost use lib.Dec.{ltb};
 ghost use Rattle.rules.specs.Bytes.{isEmpty};
-ghost use Rattle.rules.specs.Numbers.{magnitudes, most};
+ghost use Rattle.rules.specs.Numbers.{magnitudes};
+ghost use Rattle.rules.specs.Limits.{most};
 ghost use Rattle.rules.specs.Grammar.{nextKind};
-ghost use Rattle.base_quantities.specs.Kinds.{sumMeant};
-ghost use Rattle.base_digits.specs.Reading.{amountIn};
+ghost use Rattle.base_quantities.specs.QuantityMeanings.{sumMeant};
+ghost use Rattle.base_digits.specs.NumbersRead.{amountIn};
 ghost use Rattle.read_wanted.specs.Wants.{wantedOf, forNothing, samePurpose, purpose};
-ghost use Rattle.read_kept.specs.Keeping.{noFigure, figureWith, fresh, addedTo, keepRead};
+ghost use Rattle.read_kept.specs.KeepFields.{notStated, statedWith, nothingKept, addedTo, keepRead};
 
 // A trailer's figure, or L. seen: its field was there; given: it was not empty. Here and below the bools stand last, for speed: copies have no gaps.
-pub struct Figure {
+pub struct Stated {
     pub at: Place,
     pub value: u64,
     pub seen: bool,
@@ -30,10 +31,10 @@ pub struct Kept {
     pub before: u64,
     pub sum: Units,
     pub past: Place,
-    pub total: Figure,
-    pub count: Figure,
-    pub records: Figure,
-    pub length: Figure,
+    pub total: Stated,
+    pub count: Stated,
+    pub records: Stated,
+    pub length: Stated,
     pub over: bool,
 }
 
@@ -51,12 +52,12 @@ pub fn is_kept(want: Want) -> bool
     }
 }
 
-impl Figure {
+impl Stated {
     // No field yet.
-    fn none() -> Figure
-        ensures { λ r. ⌜ r ≡ noFigure ⌝ }
+    fn none() -> Stated
+        ensures { λ r. ⌜ r ≡ notStated ⌝ }
     {
-        Figure {
+        Stated {
             seen: false,
             given: false,
             at: Place(0),
@@ -66,14 +67,14 @@ impl Figure {
     }
 
     // The figure that a field gives, unless one was there before it.
-    fn or_first(self, at: Place, f: &[u8]) -> Figure
-        ensures { λ r. ⌜ r ≡ figureWith self (at .0) (not (isEmpty (now (f .entry)))) (amountIn (now (f .entry))) ⌝ }
+    fn or_first(self, at: Place, f: &[u8]) -> Stated
+        ensures { λ r. ⌜ r ≡ statedWith self (at .0) (not (isEmpty (now (f .entry)))) (amountIn (now (f .entry))) ⌝ }
     {
         if self.seen {
             return self;
         }
         let a = base_digits::amount_in(f);
-        Figure {
+        Stated {
             seen: true,
             given: !read_values::is_empty(f),
             at,
@@ -84,19 +85,19 @@ impl Figure {
 }
 
 impl Kept {
-    // Nothing is kept yet, behind records with these magnitudes.
+    // Nothing is kept yet, after records with these magnitudes.
     pub fn none(before: u64) -> Kept
-        ensures { λ r. ⌜ r ≡ fresh before ⌝ }
+        ensures { λ r. ⌜ r ≡ nothingKept before ⌝ }
     {
         Kept {
             before,
             sum: Units(0, 0),
             over: false,
             past: Place(0),
-            total: Figure::none(),
-            count: Figure::none(),
-            records: Figure::none(),
-            length: Figure::none(),
+            total: Stated::none(),
+            count: Stated::none(),
+            records: Stated::none(),
+            length: Stated::none(),
         }
     }
 
@@ -108,18 +109,18 @@ impl Kept {
         if MOST < self.before {
             return true;
         }
-        let behind = MOST - self.before;
-        if behind < sum.0 {
+        let room = MOST - self.before;
+        if room < sum.0 {
             return true;
         }
-        if behind - sum.0 < sum.1 {
+        if room - sum.0 < sum.1 {
             return true;
         }
-        behind - sum.0 - sum.1 < n
+        room - sum.0 - sum.1 < n
     }
 
     // With an amount more, unless it or one before it passes the largest.
-    fn add(self, at: Place, f: &[u8]) -> Kept
+    fn add_amount(self, at: Place, f: &[u8]) -> Kept
         ensures { λ r. ⌜ r ≡ addedTo self (at .0) (amountIn (now (f .entry))) ⌝ }
     {
         if self.over {
@@ -133,12 +134,7 @@ impl Kept {
             return kept;
         }
         let sum = self.sum;
-        if a.negative {
-            let more = Units(sum.0, sum.1 + a.magnitude);
-            kept.sum = more;
-            return kept;
-        }
-        let more = Units(sum.0 + a.magnitude, sum.1);
+        let more = sum.add(Units::of(a.negative, a.magnitude));
         kept.sum = more;
         kept
     }
@@ -153,7 +149,7 @@ impl Kept {
                 return self;
             }
             Keep::Amount => {
-                return self.add(at, f);
+                return self.add_amount(at, f);
             }
             Keep::Total => {
                 let old = self.total;

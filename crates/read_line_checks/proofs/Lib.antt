@@ -1,2 +1,2 @@
 -- The checks of a record's lines, line by line.
-mod Checking
+mod LineCheckLaws

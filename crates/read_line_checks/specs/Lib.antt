@@ -1,2 +1,2 @@
 -- What the answers about a record's lines say.
-pub mod Answers
+pub mod LineChecks

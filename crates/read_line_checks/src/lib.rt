@@ -2,30 +2,34 @@
 use base_codes::Code;
 use base_quantities::Place;
 use base_quantities::Records;
+use base_refusals::BYTE_NOT_ALLOWED;
+use base_refusals::LINE_TOO_LONG;
+use base_refusals::NO_RECORD_CODE;
+use base_refusals::Refusal;
 use read_lines::Coded;
 ghost use mathlib.Core.Path.{_≡_};
 ghost use Prim.Native.Nat.{_<_};
 ghost use lib.ListN.{length, drop};
 ghost use Rattle.rules.specs.Lines.{linesOf};
 ghost use Rattle.rules.specs.Verdict.{noneLonger};
-ghost use Rattle.read_line_checks.specs.Answers.{checkedOf, placeWithin, LineIs, ScanIs};
+ghost use Rattle.read_line_checks.specs.LineChecks.{checkedOf, placeWithin, LineIs, ScanIs};
 
-// Fine, or a refusal's number and place.
+// Fine, or refused.
 pub enum Checked {
     Fine,
-    Refused(u64, Place),
+    Refused(Refusal),
 }
 
-// A line's code and the place behind the line, or a refusal.
+// A line's code and the place after the line, or a refusal.
 enum GoodLine {
-    Refused(u64, Place),
+    Refused(Refusal),
     Good(Code, usize),
 }
 
 // A record's code, how many lines it has, and how many bytes; a refusal; or no record is left.
 pub enum Scanned {
     End,
-    Refused(u64, Place),
+    Refused(Refusal),
     Record(Code, Records, usize),
 }
 
@@ -37,18 +41,27 @@ fn good_line(s: &[u8], at: usize, limit: usize) -> GoodLine
     let i = read_lines::scan::plain_end(s, at, b'~');
     let e = read_lines::body_end(s, i);
     if limit < e - at {
-        return GoodLine::Refused(3, Place(at + limit));
+        return GoodLine::Refused(Refusal {
+            number: LINE_TOO_LONG,
+            place: Place(at + limit),
+        });
     }
     if i < e {
-        return GoodLine::Refused(4, Place(i));
+        return GoodLine::Refused(Refusal {
+            number: BYTE_NOT_ALLOWED,
+            place: Place(i),
+        });
     }
     match read_lines::code_at(s, at) {
-        Coded::None => GoodLine::Refused(5, Place(at)),
+        Coded::None => GoodLine::Refused(Refusal {
+            number: NO_RECORD_CODE,
+            place: Place(at),
+        }),
         Coded::With(code) => GoodLine::Good(code, e + read_lines::end_len(s, e)),
     }
 }
 
-// 3, 4, 5 of the 88 lines from `next` on, behind a good first line of this code.
+// 3, 4, 5 of the 88 lines from `next` on, after a good first line of this code.
 fn scan_further(s: &[u8], limit: usize, code: Code, next: usize) -> Scanned
     requires { ⌜ (0 < length (now s)) × LineIs (GoodLine.Good code next) 0 limit (now s) ⌝ }
     ensures { λ r. ⌜ ScanIs r limit (now (s .entry)) ⌝ }
@@ -57,8 +70,8 @@ fn scan_further(s: &[u8], limit: usize, code: Code, next: usize) -> Scanned
     let mut n: u64 = 1;
     while read_lines::begins_with(s, at, b'8', b'8') {
         match good_line(s, at, limit) {
-            GoodLine::Refused(k, p) => return Scanned::Refused(k, p),
-            GoodLine::Good(_, behind) => at = behind,
+            GoodLine::Refused(why) => return Scanned::Refused(why),
+            GoodLine::Good(_, after) => at = after,
         }
         n += 1;
     }
@@ -73,7 +86,7 @@ pub fn scan_record(s: &[u8], limit: usize) -> Scanned
         return Scanned::End;
     }
     match good_line(s, 0, limit) {
-        GoodLine::Refused(k, p) => Scanned::Refused(k, p),
+        GoodLine::Refused(why) => Scanned::Refused(why),
         GoodLine::Good(code, next) => scan_further(s, limit, code, next),
     }
 }
@@ -82,13 +95,16 @@ pub fn scan_record(s: &[u8], limit: usize) -> Scanned
 pub fn none_longer(s: &[u8], limit: usize) -> Checked
     ensures { λ r. ⌜ (checkedOf r ≡ noneLonger 0 limit (linesOf (now (s .entry)))) × placeWithin r (length (now (s .entry))) ⌝ }
 {
-    let mut at: usize = 0;
-    while at < s.len() {
-        let e = read_lines::body_end(s, at);
-        if limit < e - at {
-            return Checked::Refused(3, Place(at + limit));
+    let mut start: usize = 0;
+    while start < s.len() {
+        let e = read_lines::body_end(s, start);
+        if limit < e - start {
+            return Checked::Refused(Refusal {
+                number: LINE_TOO_LONG,
+                place: Place(start + limit),
+            });
         }
-        at = e + read_lines::end_len(s, e);
+        start = e + read_lines::end_len(s, e);
     }
     Checked::Fine
 }

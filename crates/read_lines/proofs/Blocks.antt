@@ -10,9 +10,9 @@ use lib.ListN.{length, drop, getD}
 use lib.Dec.{ltb}
 use Rattle.rules.specs.Bytes.{Bytes}
 use Rattle.rules.proofs.Tests.{Known, holds, fails, known}
-use Rattle.read_lines.specs.Cut.{run, outside, stopsAt}
-use Rattle.read_lines.specs.Answers.{BlockIs}
-use Rattle.read_lines.proofs.Runs.{run-stop, run-step}
+use Rattle.read_lines.specs.LineLengths.{run, outside, stopsAt}
+use Rattle.read_lines.specs.LineAnswers.{BlockIs}
+use Rattle.read_lines.proofs.RunLengths.{run-stop, run-step}
 
 module _ (s : Bytes) (at high : ℕ) where
   -- of the first i bytes, `first` is the first outside; or none is, and it is 255
@@ -47,7 +47,7 @@ module _ (s : Bytes) (at high : ℕ) where
       by-test (holds e) = rw e (nearest-hit i first h n e (known (ltb first 64)))
       by-test (fails e) = rw e (nearest-miss i first n e)
 
-  -- a search goes on behind plain bytes
+  -- a search goes on after plain bytes
   run-skip : (n : ℕ) → at + n ≤ length s → ((k : ℕ) → k < n → outside high (getD s (at + k) 0) ≡ false)
       → at + run (stopsAt high) (drop at s) ≡ at + n + run (stopsAt high) (drop (at + n) s)
   run-skip zero h p = rw add-zero

@@ -14,10 +14,10 @@ use lib.Dec.{T, eqb, leb, leb→le}
 use Rattle.rules.specs.Bytes.{Bytes, allowed, between, sameBytes, all}
 use Rattle.rules.specs.Lines.{Code, codeBytes, begins, continuation, fileHeader, groupHeader, accountHeader, detail, accountTrailer, groupTrailer, fileTrailer, codeIn}
 use Rattle.rules.proofs.Tests.{Known, holds, fails, known, and-left, and-right}
-use Rattle.read_lines.specs.Cut.{run, isEnd, stopsAt, bodyLen, firstLine}
-use Rattle.read_lines.proofs.Runs.{plain-byte}
+use Rattle.read_lines.specs.LineLengths.{run, isEnd, stopsAt, bodyLen, firstLine}
+use Rattle.read_lines.proofs.RunLengths.{plain-byte}
 
--- ---- behind bytes from a blank up
+-- ---- after bytes from a blank up
 
 pub not-below : (b : ℕ) → T (allowed b) → 32 ≤ b
 not-below b h = leb→le 32 b (and-left (leb 32 b) (leb b 126) h)
@@ -30,11 +30,11 @@ body-step high b bs ih (holds e) =
     simp (e, plain-byte b bs h) (ap suc ih ∙ sym (suc-add (run (stopsAt high) bs) (bodyLen (drop (run (stopsAt high) bs) bs))))
 body-step high b bs ih (fails e) = simp e (omega arith)
 
--- a line goes on behind bytes from a blank up
-pub body-behind : (high : ℕ) (xs : Bytes) → bodyLen xs ≡ run (stopsAt high) xs + bodyLen (drop (run (stopsAt high) xs) xs)
+-- a line goes on after bytes from a blank up
+pub body-after : (high : ℕ) (xs : Bytes) → bodyLen xs ≡ run (stopsAt high) xs + bodyLen (drop (run (stopsAt high) xs) xs)
 unfolding run
-body-behind high [] = refl
-body-behind high (b ∷ bs) = body-step high b bs (body-behind high bs) (known (between 32 high b))
+body-after high [] = refl
+body-after high (b ∷ bs) = body-step high b bs (body-after high bs) (known (between 32 high b))
 
 -- ---- a line's first bytes are the first of what is left of the file
 
@@ -127,6 +127,6 @@ module _ (s : Bytes) (at : ℕ) (c : Code) (cs : List Code) (t : Bool) (e : t �
   unfolding codeIn
   code-here h = rw (begins-front c (drop at s) ∙ sym e ∙ h)
 
-  pub code-behind : t ≡ false → codeIn (c ∷ cs) (firstLine (drop at s)) ≡ codeIn cs (firstLine (drop at s))
+  pub code-after : t ≡ false → codeIn (c ∷ cs) (firstLine (drop at s)) ≡ codeIn cs (firstLine (drop at s))
   unfolding codeIn
-  code-behind h = rw (begins-front c (drop at s) ∙ sym e ∙ h)
+  code-after h = rw (begins-front c (drop at s) ∙ sym e ∙ h)

@@ -1,5 +1,7 @@
 -- What the code's scans find, in terms of lines, checks and records.
-pub mod Runs
+pub mod LineLengthLaws
+pub mod OneRecord
+pub mod RunLengths
 pub mod Blocks
 pub mod Fronts
-pub mod Passing
+pub mod LineLaws

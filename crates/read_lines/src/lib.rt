@@ -4,10 +4,11 @@ ghost use mathlib.Core.Path.{_≡_};
 ghost use mathlib.Core.List.{[], _∷_};
 ghost use Prim.Native.Nat.{_+_, _-_, _≤_};
 ghost use lib.ListN.{length, take, drop};
-ghost use Rattle.rules.specs.Bytes.{sameBytes};
-ghost use Rattle.rules.specs.Lines.{linesOf, codeOf, recordSize};
-ghost use Rattle.read_lines.specs.Cut.{bodyLen, endLen, lineLen, firstLine, firstRecord};
-ghost use Rattle.read_lines.specs.Answers.{codeFound};
+ghost use Rattle.rules.specs.Bytes.{comma, sameBytes};
+ghost use Rattle.rules.specs.Lines.{linesOf, codeBytes, codeOf, recordSize};
+ghost use Rattle.base_codes.specs.CodeMeaning.{codeMeant};
+ghost use Rattle.read_lines.specs.LineLengths.{bodyLen, endLen, lineLen, firstLine, firstRecord};
+ghost use Rattle.read_lines.specs.LineAnswers.{codeFound};
 
 pub mod scan;
 
@@ -53,17 +54,7 @@ pub fn body_end(s: &[u8], at: usize) -> usize
     i
 }
 
-// The first `size` bytes, or all.
-pub fn front(s: &[u8], size: usize) -> &[u8]
-    ensures { λ r. ⌜ now r ≡ take size (now (s .entry)) ⌝ }
-{
-    if s.len() <= size {
-        return s;
-    }
-    &s[0..size]
-}
-
-// Where the line that starts at `at` ends among the first `size` bytes; behind them more bytes help to search by blocks.
+// Where the line that starts at `at` ends among the first `size` bytes; after them more bytes help to search by blocks.
 pub fn body_end_in(s: &[u8], size: usize, at: usize) -> usize
     ensures { λ r. ⌜ r ≡ at + bodyLen (drop at (take size (now (s .entry)))) ⌝ }
 {
@@ -71,10 +62,10 @@ pub fn body_end_in(s: &[u8], size: usize, at: usize) -> usize
     if e + end_len(s, e) <= size {
         return e;
     }
-    body_end(front(s, size), at)
+    body_end(base_slices::front(s, size), at)
 }
 
-// Where the line behind the one at `at` starts.
+// Where the line after the one at `at` starts.
 pub fn next_line(s: &[u8], at: usize) -> usize
     ensures { λ r. ⌜ (r ≡ at + lineLen (drop at (now (s .entry)))) × (r ≤ length (now (s .entry)) + (at - length (now (s .entry)))) ⌝ }
 {
@@ -84,7 +75,7 @@ pub fn next_line(s: &[u8], at: usize) -> usize
 
 // x, y and a comma stand at `at`.
 pub fn begins_with(s: &[u8], at: usize, x: u8, y: u8) -> bool
-    ensures { λ r. ⌜ r ≡ sameBytes (x ∷ y ∷ 44 ∷ []) (take 3 (drop at (now (s .entry)))) ⌝ }
+    ensures { λ r. ⌜ r ≡ sameBytes (x ∷ y ∷ comma ∷ []) (take 3 (drop at (now (s .entry)))) ⌝ }
 {
     if s.len() < 3 {
         return false;
@@ -101,43 +92,51 @@ pub fn begins_with(s: &[u8], at: usize, x: u8, y: u8) -> bool
     s[at + 2] == b','
 }
 
+// A line of this code starts at `at`.
+pub fn begins(s: &[u8], at: usize, code: Code) -> bool
+    ensures { λ r. ⌜ r ≡ sameBytes (codeBytes (codeMeant code)) (take 3 (drop at (now (s .entry)))) ⌝ }
+{
+    let d = base_codes::digits_of(code);
+    begins_with(s, at, d.0, d.1)
+}
+
 // The code of the line that starts at `at`.
 pub fn code_at(s: &[u8], at: usize) -> Coded
     ensures { λ r. ⌜ codeFound r ≡ codeOf (firstLine (drop at (now (s .entry)))) ⌝ }
 {
-    if begins_with(s, at, b'0', b'1') {
+    if begins(s, at, Code::FileHeader) {
         return Coded::With(Code::FileHeader);
     }
-    if begins_with(s, at, b'0', b'2') {
+    if begins(s, at, Code::GroupHeader) {
         return Coded::With(Code::GroupHeader);
     }
-    if begins_with(s, at, b'0', b'3') {
+    if begins(s, at, Code::AccountHeader) {
         return Coded::With(Code::AccountHeader);
     }
-    if begins_with(s, at, b'1', b'6') {
+    if begins(s, at, Code::Detail) {
         return Coded::With(Code::Detail);
     }
-    if begins_with(s, at, b'4', b'9') {
+    if begins(s, at, Code::AccountTrailer) {
         return Coded::With(Code::AccountTrailer);
     }
-    if begins_with(s, at, b'9', b'8') {
+    if begins(s, at, Code::GroupTrailer) {
         return Coded::With(Code::GroupTrailer);
     }
-    if begins_with(s, at, b'9', b'9') {
+    if begins(s, at, Code::FileTrailer) {
         return Coded::With(Code::FileTrailer);
     }
-    if begins_with(s, at, b'8', b'8') {
+    if begins(s, at, Code::Continuation) {
         return Coded::With(Code::Continuation);
     }
     Coded::None
 }
 
-// Where the record that starts at `at` ends: behind its first line and all 88 lines after it.
+// Where the record that starts at `at` ends: after its first line and all 88 lines after it.
 pub fn record_end(s: &[u8], at: usize) -> usize
     ensures { λ r. ⌜ (r ≡ at + recordSize (firstRecord (linesOf (drop at (now (s .entry)))))) × (r ≤ length (now (s .entry)) + (at - length (now (s .entry)))) ⌝ }
 {
     let mut e = next_line(s, at);
-    while begins_with(s, e, b'8', b'8') {
+    while begins(s, e, Code::Continuation) {
         e = next_line(s, e);
     }
     e

@@ -1,10 +1,10 @@
 // The search for the first byte of a kind, by blocks of 64 bytes: no test leaves a block early, so it compiles to vector code.
 ghost use mathlib.Core.Path.{_≡_};
 ghost use mathlib.Core.Bool.{cond};
-ghost use Prim.Native.Nat.{_+_, _-_, _≤_, min};
+ghost use Prim.Native.Nat.{_+_, _-_, _≤_};
 ghost use lib.ListN.{length, drop};
-ghost use Rattle.read_lines.specs.Cut.{run, outside, stopsAt};
-ghost use Rattle.read_lines.specs.Answers.{BlockIs};
+ghost use Rattle.read_lines.specs.LineLengths.{run, outside, stopsAt};
+ghost use Rattle.read_lines.specs.LineAnswers.{BlockIs};
 
 // i where b is below a blank or above `high`, else 255.
 fn place_of(b: u8, i: u8, high: u8) -> u8
@@ -16,16 +16,6 @@ fn place_of(b: u8, i: u8, high: u8) -> u8
     255
 }
 
-// The smaller of two.
-fn smaller(a: u8, b: u8) -> u8
-    ensures { λ r. ⌜ r ≡ min a b ⌝ }
-{
-    if a < b {
-        return a;
-    }
-    b
-}
-
 // How many of the 64 bytes at `at` stand before the first that is below a blank or above `high`; 255 where none is.
 fn block(s: &[u8], at: usize, high: u8) -> usize
     requires { ⌜ at + 64 ≤ length (now s) ⌝ }
@@ -34,7 +24,7 @@ fn block(s: &[u8], at: usize, high: u8) -> usize
     let mut first: u8 = 255;
     let mut i: usize = 0;
     while i < 64 {
-        first = smaller(place_of(s[at + i], i as u8, high), first);
+        first = base_slices::smaller(place_of(s[at + i], i as u8, high), first);
         i += 1;
     }
     first as usize

@@ -1,2 +1,2 @@
 -- Codes are the same exactly where their numbers are.
-mod Ordering
+mod OrderLaws

@@ -1,2 +1,2 @@
--- Codes as numbers, and the codes that may come next.
-pub mod Expecting
+-- The codes that may come next.
+pub mod ExpectedCodes

@@ -1,10 +1,9 @@
-// Refusal 6: which record may come next, whether the file may end, and what is open behind a record.
+// Refusal 6: which record may come next, whether the file may end, and what is open after a record.
 use base_codes::Code;
 ghost use mathlib.Core.Path.{_≡_};
-ghost use Rattle.rules.specs.Lines.{sameCode};
-ghost use Rattle.rules.specs.Order.{after, among, ended, groupOpen, accountOpen};
-ghost use Rattle.base_codes.specs.Meanings.{codeMeant};
-ghost use Rattle.read_order.specs.Expecting.{codeNumber, expectedMeant};
+ghost use Rattle.rules.specs.Order.{mayFollow, among, ended, groupOpen, accountOpen};
+ghost use Rattle.base_codes.specs.CodeMeaning.{codeMeant};
+ghost use Rattle.read_order.specs.ExpectedCodes.{expectedMeant};
 
 // The codes that may come next.
 pub enum Expected {
@@ -13,32 +12,9 @@ pub enum Expected {
     Either(Code, Code),
 }
 
-// The code's two digits as a number.
-fn number(code: Code) -> u64
-    ensures { λ r. ⌜ r ≡ codeNumber (codeMeant code) ⌝ }
-{
-    match code {
-        Code::FileHeader => 1,
-        Code::GroupHeader => 2,
-        Code::AccountHeader => 3,
-        Code::Detail => 16,
-        Code::AccountTrailer => 49,
-        Code::GroupTrailer => 98,
-        Code::FileTrailer => 99,
-        Code::Continuation => 88,
-    }
-}
-
-// The codes are the same.
-pub fn same_code(a: Code, b: Code) -> bool
-    ensures { λ r. ⌜ r ≡ sameCode (codeMeant a) (codeMeant b) ⌝ }
-{
-    number(a) == number(b)
-}
-
 // The codes that may follow this one.
 pub fn expected_after(code: Code) -> Expected
-    ensures { λ r. ⌜ expectedMeant r ≡ after (codeMeant code) ⌝ }
+    ensures { λ r. ⌜ expectedMeant r ≡ mayFollow (codeMeant code) ⌝ }
 {
     match code {
         Code::FileHeader => Expected::Either(Code::GroupHeader, Code::FileTrailer),
@@ -56,18 +32,15 @@ pub fn expected_after(code: Code) -> Expected
 pub fn allows(expected: Expected, code: Code) -> bool
     ensures { λ r. ⌜ r ≡ among (codeMeant code) (expectedMeant expected) ⌝ }
 {
+    let n = base_codes::number_of(code);
     match expected {
-        Expected::Nothing => {
-            return false;
-        }
-        Expected::One(only) => {
-            return same_code(code, only);
-        }
+        Expected::Nothing => false,
+        Expected::One(only) => n == base_codes::number_of(only),
         Expected::Either(one, other) => {
-            if same_code(code, one) {
+            if n == base_codes::number_of(one) {
                 return true;
             }
-            return same_code(code, other);
+            n == base_codes::number_of(other)
         }
     }
 }
@@ -83,7 +56,7 @@ pub fn has_ended(expected: Expected) -> bool
     }
 }
 
-// Behind a record of this code a group is open.
+// After a record of this code a group is open.
 pub fn group_open(code: Code) -> bool
     ensures { λ r. ⌜ r ≡ groupOpen (codeMeant code) ⌝ }
 {
@@ -99,7 +72,7 @@ pub fn group_open(code: Code) -> bool
     }
 }
 
-// Behind a record of this code an account is open.
+// After a record of this code an account is open.
 pub fn account_open(code: Code) -> bool
     ensures { λ r. ⌜ r ≡ accountOpen (codeMeant code) ⌝ }
 {

@@ -1,3 +1,3 @@
 -- What a trailer must say by the tests of the code, and where its refusals stand.
-mod Balancing
-pub mod Places
+mod TrailerLaws
+pub mod TrailerPlaces

@@ -1,2 +1,2 @@
 -- What a trailer must say.
-pub mod Controls
+pub mod TrailerChecks

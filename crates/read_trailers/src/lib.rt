@@ -1,14 +1,19 @@
 // What a trailer is held to against the summary of what it encloses: refusals 14, 11, 12 and 13.
 use base_codes::Code;
-use base_quantities::MOST;
+use base_limits::MOST;
+use base_refusals::Refusal;
+use base_refusals::SUM_TOO_LARGE;
+use base_refusals::WRONG_COUNT;
+use base_refusals::WRONG_RECORD_COUNT;
+use base_refusals::WRONG_TOTAL;
 use base_totals::Summary;
 use read_kept::Kept;
 use read_line_checks::Checked;
 ghost use mathlib.Core.Path.{_≡_};
-ghost use Rattle.base_codes.specs.Meanings.{codeMeant};
-ghost use Rattle.read_line_checks.specs.Answers.{checkedOf};
-ghost use Rattle.base_totals.specs.Summaries.{summaryMeant};
-ghost use Rattle.read_trailers.specs.Controls.{withinK, totalK, countK, recordsK, trailerK, accountK, balancedK};
+ghost use Rattle.base_codes.specs.CodeMeaning.{codeMeant};
+ghost use Rattle.read_line_checks.specs.LineChecks.{checkedOf};
+ghost use Rattle.base_totals.specs.SummaryMeaning.{summaryMeant};
+ghost use Rattle.read_trailers.specs.TrailerChecks.{withinK, totalK, countK, recordsK, trailerK, accountK, balancedK};
 
 // 14: a group's or file's sum, at the total.
 fn sum_within(s: Summary, kept: Kept) -> Checked
@@ -17,14 +22,18 @@ fn sum_within(s: Summary, kept: Kept) -> Checked
     let sum = s.total;
     let t = kept.total;
     let at = t.at;
+    let why = Refusal {
+        number: SUM_TOO_LARGE,
+        place: at,
+    };
     if sum.0 < sum.1 {
         if MOST < sum.1 - sum.0 {
-            return Checked::Refused(14, at);
+            return Checked::Refused(why);
         }
         return Checked::Fine;
     }
     if MOST < sum.0 - sum.1 {
-        return Checked::Refused(14, at);
+        return Checked::Refused(why);
     }
     Checked::Fine
 }
@@ -36,20 +45,24 @@ fn right_total(s: Summary, kept: Kept) -> Checked
     let sum = s.total;
     let t = kept.total;
     let at = t.at;
+    let why = Refusal {
+        number: WRONG_TOTAL,
+        place: at,
+    };
     if t.negative {
         if sum.1 < sum.0 {
-            return Checked::Refused(11, at);
+            return Checked::Refused(why);
         }
         if sum.1 - sum.0 != t.value {
-            return Checked::Refused(11, at);
+            return Checked::Refused(why);
         }
         return Checked::Fine;
     }
     if sum.0 < sum.1 {
-        return Checked::Refused(11, at);
+        return Checked::Refused(why);
     }
     if sum.0 - sum.1 != t.value {
-        return Checked::Refused(11, at);
+        return Checked::Refused(why);
     }
     Checked::Fine
 }
@@ -60,8 +73,12 @@ fn right_count(n: u64, kept: Kept) -> Checked
 {
     let t = kept.count;
     let at = t.at;
+    let why = Refusal {
+        number: WRONG_COUNT,
+        place: at,
+    };
     if n != t.value {
-        return Checked::Refused(12, at);
+        return Checked::Refused(why);
     }
     Checked::Fine
 }
@@ -73,8 +90,12 @@ fn right_records(s: Summary, kept: Kept) -> Checked
     let n = s.records;
     let t = kept.records;
     let at = t.at;
+    let why = Refusal {
+        number: WRONG_RECORD_COUNT,
+        place: at,
+    };
     if n.0 != t.value {
-        return Checked::Refused(13, at);
+        return Checked::Refused(why);
     }
     Checked::Fine
 }
@@ -84,15 +105,15 @@ fn right_trailer(s: Summary, n: u64, kept: Kept) -> Checked
     ensures { λ r. ⌜ checkedOf r ≡ trailerK (summaryMeant s) n kept ⌝ }
 {
     match sum_within(s, kept) {
-        Checked::Refused(k, p) => return Checked::Refused(k, p),
+        Checked::Refused(why) => return Checked::Refused(why),
         Checked::Fine => {}
     }
     match right_total(s, kept) {
-        Checked::Refused(k, p) => return Checked::Refused(k, p),
+        Checked::Refused(why) => return Checked::Refused(why),
         Checked::Fine => {}
     }
     match right_count(n, kept) {
-        Checked::Refused(k, p) => return Checked::Refused(k, p),
+        Checked::Refused(why) => return Checked::Refused(why),
         Checked::Fine => {}
     }
     right_records(s, kept)
@@ -103,7 +124,7 @@ fn right_account(s: Summary, kept: Kept) -> Checked
     ensures { λ r. ⌜ checkedOf r ≡ accountK (summaryMeant s) kept ⌝ }
 {
     match right_total(s, kept) {
-        Checked::Refused(k, p) => return Checked::Refused(k, p),
+        Checked::Refused(why) => return Checked::Refused(why),
         Checked::Fine => {}
     }
     right_records(s, kept)

@@ -1,4 +1,5 @@
 -- Laws of the tests that the code makes.
-pub mod Shapes
-pub mod Numerals
-pub mod Types
+pub mod ValueShapes
+pub mod NumberValues
+pub mod TypeLaws
+pub mod FieldBytes

@@ -1,2 +1,2 @@
--- What the enums and structs of src/ stand for.
-pub mod Meanings
+-- What the enums and structs of the code stand for.
+pub mod ValueMeanings

@@ -1,7 +1,7 @@
 // Dates: YYMMDD, years 2000 to 2099, a day that its month has.
 ghost use mathlib.Core.Path.{_≡_};
 ghost use Rattle.rules.specs.Dates.{isDate, daysOf};
-ghost use Rattle.read_values.specs.Meanings.{dateIn};
+ghost use Rattle.read_values.specs.ValueMeanings.{dateIn};
 
 // A year of the century, a month and a day.
 pub struct Date {

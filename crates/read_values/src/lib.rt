@@ -1,43 +1,71 @@
-// What a field's bytes may be: names, single bytes, currencies, lengths, times and types. Dates are in `date`; numbers are in `digits`.
+// What a field's bytes may be: names, single bytes, currencies, lengths, times and types. Dates are in `date`; numbers are in `base_digits`.
+use base_limits::LONGEST_LINE;
+use base_limits::LONGEST_NAME;
 ghost use mathlib.Core.Path.{_≡_};
 ghost use lib.ListN.{length};
 ghost use lib.Dec.{leb};
-ghost use Rattle.rules.specs.Bytes.{between, isEmpty, oneOf};
+ghost use Rattle.rules.specs.Limits.{longestName};
+ghost use Rattle.rules.specs.Bytes.{between, isEmpty, oneOf, inField, clean};
 ghost use Rattle.rules.specs.Dates.{isTime};
 ghost use Rattle.rules.specs.TypeCodes.{classOf, typeClass};
 ghost use Rattle.rules.specs.Grammar.{isCurrency, isLength};
-ghost use Rattle.read_values.specs.Meanings.{classMeant};
+ghost use Rattle.read_values.specs.ValueMeanings.{classMeant};
 
 pub mod date;
 
-// The longest name or reference.
-const LONGEST_NAME: usize = 76;
-
-// The physical length's limits.
+// The shortest physical length; the longest is the longest line.
 const SHORTEST_LENGTH: u64 = 48;
-
-const LONGEST_LENGTH: u64 = 4096;
 
 // The times past 23 hours 59.
 const END_OF_DAY: u64 = 2400;
 
 const NO_TIME: u64 = 9999;
 
+// Ultimate receiver and references: 0 to 76 bytes.
+pub fn is_reference(f: &[u8]) -> bool
+    ensures { λ r. ⌜ r ≡ leb (length (now (f .entry))) longestName ⌝ }
+{
+    f.len() <= LONGEST_NAME
+}
+
 // Sender, receiver, originator, account number: 1 to 76 bytes.
 pub fn is_name(f: &[u8]) -> bool
-    ensures { λ r. ⌜ r ≡ between 1 76 (length (now (f .entry))) ⌝ }
+    ensures { λ r. ⌜ r ≡ between 1 longestName (length (now (f .entry))) ⌝ }
 {
     if f.len() < 1 {
         return false;
     }
-    f.len() <= LONGEST_NAME
+    is_reference(f)
 }
 
-// Ultimate receiver and references: 0 to 76 bytes.
-pub fn is_reference(f: &[u8]) -> bool
-    ensures { λ r. ⌜ r ≡ leb (length (now (f .entry))) 76 ⌝ }
+// A byte that may stand in a field: an allowed one, no comma and no slash.
+fn in_field(b: u8) -> bool
+    ensures { λ r. ⌜ r ≡ inField b ⌝ }
 {
-    f.len() <= LONGEST_NAME
+    if b < b' ' {
+        return false;
+    }
+    if b'~' < b {
+        return false;
+    }
+    if b == b',' {
+        return false;
+    }
+    b != b'/'
+}
+
+// Bytes that may all stand in a field.
+pub fn is_clean(f: &[u8]) -> bool
+    ensures { λ r. ⌜ r ≡ clean (now (f .entry)) ⌝ }
+{
+    let mut i: usize = 0;
+    while i < f.len() {
+        if !in_field(f[i]) {
+            return false;
+        }
+        i += 1;
+    }
+    true
 }
 
 // No byte.
@@ -84,7 +112,7 @@ pub fn is_length(f: &[u8]) -> bool
     if n < SHORTEST_LENGTH {
         return false;
     }
-    n <= LONGEST_LENGTH
+    n <= LONGEST_LINE as u64
 }
 
 // Hours 00 to 23 with minutes 00 to 59, or 2400, or 9999.

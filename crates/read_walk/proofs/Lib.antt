@@ -1,7 +1,7 @@
 -- The walk that keeps: that it joins the rules' walk; its bounds; and what it gives at the places that the code reaches.
-pub mod Agreeing
-pub mod Joining
-pub mod Bounding
-pub mod Parts
-pub mod FirstCell
-pub mod Walking
+pub mod WalkAgrees
+pub mod WalkJoining
+pub mod WalkBounds
+pub mod LineParts
+pub mod FirstCells
+pub mod WalkLaws

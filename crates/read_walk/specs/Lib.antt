@@ -1,4 +1,4 @@
 -- The walk over a record's fields that keeps by value what the later checks need, and how it joins the rules' walk.
-pub mod Working
-pub mod Answers
-pub mod Joins
+pub mod WalkKept
+pub mod WalkAnswers
+pub mod WalkJoins

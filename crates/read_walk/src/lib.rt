@@ -1,6 +1,9 @@
 // The walk over a record's lines and fields: refusals 7, 8 and 9, and what the later checks need.
 use base_quantities::Place;
-use read_field_ends::Cut;
+use base_refusals::LINE_BADLY_ENDED;
+use base_refusals::Refusal;
+use base_refusals::WRONG_FIELD;
+use read_field_ends::Extent;
 use read_kept::Kept;
 use read_wanted::Taken;
 use read_wanted::want;
@@ -8,23 +11,37 @@ use read_wanted::want::Want;
 ghost use mathlib.Core.Path.{_≡_};
 ghost use lib.ListN.{length, take};
 ghost use Rattle.read_wanted.specs.Wants.{wantedOf};
-ghost use Rattle.read_walk.specs.Working.{point, endK};
-ghost use Rattle.read_walk.specs.Answers.{walkedOf, Walks};
+ghost use Rattle.read_walk.specs.WalkKept.{point, endK};
+ghost use Rattle.read_walk.specs.declared.Walked.the-variants.{Refused};
+ghost use Rattle.read_walk.specs.WalkAnswers.{walkedOf, Walks};
 
-// The number of a refusal and its place in the record, or what was kept.
+// A refusal with its place in the record, or what was kept.
 pub enum Walked {
-    Refused(u64, Place),
+    Refused(Refusal),
     Done(Kept),
 }
 
-// Behind the record's last line, with this wanted, this kept and the last slash that ended a line: what is missing.
+// After the record's last line, with this wanted, this kept and the last slash that ended a line: what is missing.
 fn finish(want: Want, kept: Kept, slash: Place) -> Walked
     ensures { λ r. ⌜ walkedOf r ≡ endK (point (wantedOf want) kept (slash .0)) ⌝ }
 {
     if want::may_lack(want) {
         return Walked::Done(kept);
     }
-    Walked::Refused(8, slash)
+    Walked::Refused(Refusal {
+        number: WRONG_FIELD,
+        place: slash,
+    })
+}
+
+// The walk stops at this place of the record.
+fn stop(number: u64, place: usize) -> Walked
+    ensures { λ r. ⌜ r ≡ Refused (record { number = number; place = record { 0 = place } }) ⌝ }
+{
+    Walked::Refused(Refusal {
+        number,
+        place: Place(place),
+    })
 }
 
 // The walk over the record in front of rest stops at the first fault found; places are counted from the record's start. `before`: the magnitudes of the
@@ -45,19 +62,19 @@ fn walk_lines(rest: &[u8], rec: &[u8], first: Want, before: u64) -> Walked
         let mut a = at + 3;
         at = e + read_lines::end_len(rec, e);
         if e < a {
-            break 'walk Walked::Refused(7, Place(a));
+            break 'walk stop(LINE_BADLY_ENDED, a);
         }
         loop {
             let text = want::is_text(want);
-            let Cut::Field(n) = read_field_ends::cut_field(text, &rec[a..e]) else {
-                break 'walk Walked::Refused(7, Place(e));
+            let Extent::Field(n) = read_field_ends::field_extent(text, &rec[a..e]) else {
+                break 'walk stop(LINE_BADLY_ENDED, e);
             };
             let f = a + n;
             if read_kept::is_kept(want) {
                 kept = kept.keep(want, Place(a), &rec[a..f]);
             }
             match read_fields::take_detail_first(want, &rec[a..f]) {
-                Taken::Refused(k) => break 'walk Walked::Refused(k, Place(a)),
+                Taken::Refused(number) => break 'walk stop(number, a),
                 Taken::Next(next) => want = next,
             }
             if text {
@@ -67,7 +84,7 @@ fn walk_lines(rest: &[u8], rec: &[u8], first: Want, before: u64) -> Walked
             if rec[f] == b'/' {
                 let t = a + read_field_ends::blanks_len(&rec[a..e]);
                 if t < e {
-                    break 'walk Walked::Refused(7, Place(t));
+                    break 'walk stop(LINE_BADLY_ENDED, t);
                 }
                 slash = Place(f);
                 break;
@@ -80,5 +97,5 @@ fn walk_lines(rest: &[u8], rec: &[u8], first: Want, before: u64) -> Walked
 pub fn walk_record(rest: &[u8], size: usize, first: Want, before: u64) -> Walked
     ensures { λ r. ⌜ Walks (take size (now (rest .entry))) first before r ⌝ }
 {
-    walk_lines(rest, read_lines::front(rest, size), first, before)
+    walk_lines(rest, base_slices::front(rest, size), first, before)
 }

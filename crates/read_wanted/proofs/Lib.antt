@@ -1,4 +1,4 @@
 -- Laws of wants, by the tests of the code.
-pub mod Others
-pub mod Nexts
-pub mod Judging
+pub mod OtherWants
+pub mod NextWants
+pub mod TakeLaws

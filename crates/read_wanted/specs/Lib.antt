@@ -1,3 +1,3 @@
--- What the wants and answers of src/ stand for.
+-- What the wants and answers of the code stand for.
 pub mod Wants
-pub mod Takes
+pub mod TakenMeaning

@@ -43,7 +43,7 @@ from n code = drop n (fieldsOf code)
 unfoldable pub references : List Kind
 references = from 1 lines.detail
 
--- what comes behind funds
+-- what comes after funds
 unfoldable pub wantedAfter : After → List Kind
 wantedAfter FurtherItem = furtherType ∷ []
 wantedAfter References = references
@@ -53,7 +53,7 @@ unfoldable pub splits : ℕ → List Kind
 splits zero = []
 splits (suc n) = splitAmount ∷ splits n
 
--- the kinds wanted from the next field on
+-- the kinds wanted from the next field on: the list that `takeNext` (rules/specs/Grammar.antt) takes and hands on, as one value
 unfoldable pub wantedOf : Want → List Kind
 wantedOf want.Sender = from 0 lines.fileHeader
 wantedOf want.Receiver = from 1 lines.fileHeader
@@ -104,7 +104,7 @@ wantedOf want.Count = from 1 lines.groupTrailer
 wantedOf want.Records = from 2 lines.groupTrailer
 wantedOf want.End = []
 
--- what a field is kept for
+-- what a field is kept for: for `amountOf` and the checks of a trailer (rules/specs/Totals.antt), or for `limitGiven` (rules/specs/Verdict.antt)
 pub data Purpose : Type 0 where
   forAmount forTotal forCount forRecords forLength forNothing : Purpose
 

@@ -1,4 +1,7 @@
 // What is wanted next, and the kinds of field that decide it.
+use base_refusals::LINE_BADLY_ENDED;
+use base_refusals::WRONG_FIELD;
+use base_refusals::WRONG_VERSION;
 use read_values::Class;
 use want::After;
 use want::Want;
@@ -7,9 +10,9 @@ ghost use mathlib.Core.Bool.{_||_};
 ghost use mathlib.Core.List.{[]};
 ghost use Rattle.rules.specs.Bytes.{isEmpty};
 ghost use Rattle.rules.specs.Grammar.{judged, andThen, fits, itemOf, detailOf, pieceOf, firstType, version, funds, pairCount, text};
-ghost use Rattle.read_values.specs.Meanings.{classMeant};
+ghost use Rattle.read_values.specs.ValueMeanings.{classMeant};
 ghost use Rattle.read_wanted.specs.Wants.{wantedOf, wantedAfter, references};
-ghost use Rattle.read_wanted.specs.Takes.{judgedOf};
+ghost use Rattle.read_wanted.specs.TakenMeaning.{judgedOf};
 
 pub mod want;
 
@@ -19,14 +22,14 @@ pub enum Taken {
     Refused(u64),
 }
 
-// A field that must be as this test says, with this wanted behind it.
+// A field that must be as this test says, with this wanted after it.
 pub fn fitted(ok: bool, next: Want) -> Taken
     ensures { λ r. ⌜ judgedOf r ≡ andThen (fits ok) (wantedOf next) ⌝ }
 {
     if ok {
         return Taken::Next(next);
     }
-    Taken::Refused(8)
+    Taken::Refused(WRONG_FIELD)
 }
 
 // The same where it may also be empty.
@@ -46,7 +49,7 @@ pub fn take_version(f: &[u8]) -> Taken
     if read_values::is_one_of(f, b'2', b'2') {
         return Taken::Next(Want::End);
     }
-    Taken::Refused(9)
+    Taken::Refused(WRONG_VERSION)
 }
 
 // A type of this class in 03.
@@ -57,8 +60,8 @@ pub fn item(class: Class) -> Taken
         Class::Status => Taken::Next(Want::StatusAmount),
         Class::SummaryOnly => Taken::Next(Want::ItemAmount),
         Class::SummaryOrDetail => Taken::Next(Want::ItemAmount),
-        Class::NonMonetary => Taken::Refused(8),
-        Class::Unknown => Taken::Refused(8),
+        Class::NonMonetary => Taken::Refused(WRONG_FIELD),
+        Class::Unknown => Taken::Refused(WRONG_FIELD),
     }
 }
 
@@ -69,9 +72,9 @@ pub fn detail(class: Class) -> Taken
     match class {
         Class::SummaryOrDetail => Taken::Next(Want::DetailAmount),
         Class::NonMonetary => Taken::Next(Want::NoAmount),
-        Class::Status => Taken::Refused(8),
-        Class::SummaryOnly => Taken::Refused(8),
-        Class::Unknown => Taken::Refused(8),
+        Class::Status => Taken::Refused(WRONG_FIELD),
+        Class::SummaryOnly => Taken::Refused(WRONG_FIELD),
+        Class::Unknown => Taken::Refused(WRONG_FIELD),
     }
 }
 
@@ -107,7 +110,7 @@ pub fn take_funds(f: &[u8], after: After) -> Taken
     if read_values::is_one_of(f, b'D', b'D') {
         return Taken::Next(Want::PairCount(after));
     }
-    Taken::Refused(8)
+    Taken::Refused(WRONG_FIELD)
 }
 
 // The number of pairs of D.
@@ -115,11 +118,11 @@ pub fn take_pair_count(f: &[u8], after: After) -> Taken
     ensures { λ r. ⌜ judgedOf r ≡ andThen (judged pairCount (now (f .entry))) (wantedAfter after) ⌝ }
 {
     if !base_digits::is_digits(f, 1, 3) {
-        return Taken::Refused(8);
+        return Taken::Refused(WRONG_FIELD);
     }
     let n = base_digits::value(f);
     if n < 1 {
-        return Taken::Refused(8);
+        return Taken::Refused(WRONG_FIELD);
     }
     Taken::Next(want::next_pair(after, n))
 }
@@ -129,10 +132,10 @@ pub fn take_piece(f: &[u8]) -> Taken
     ensures { λ r. ⌜ judgedOf r ≡ andThen (pieceOf (now (f .entry))) [] ⌝ }
 {
     if f.len() == 0 {
-        return Taken::Refused(7);
+        return Taken::Refused(LINE_BADLY_ENDED);
     }
     if f[0] == b'/' {
-        return Taken::Refused(7);
+        return Taken::Refused(LINE_BADLY_ENDED);
     }
     Taken::Next(Want::FurtherText)
 }

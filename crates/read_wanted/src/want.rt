@@ -3,7 +3,7 @@ use base_codes::Code;
 ghost use mathlib.Core.Path.{_≡_};
 ghost use mathlib.Core.List.{_++_};
 ghost use Rattle.rules.specs.Grammar.{fieldsOf, mayLack, isText, nextKind, pairs};
-ghost use Rattle.base_codes.specs.Meanings.{codeMeant};
+ghost use Rattle.base_codes.specs.CodeMeaning.{codeMeant};
 ghost use Rattle.read_wanted.specs.Wants.{wantedOf, wantedAfter, splits, keepMeant, purpose};
 
 // Where funds stand: in an item, or in a detail before its references.
@@ -12,7 +12,7 @@ pub enum After {
     References,
 }
 
-// The place of the next field. SplitAmount, Days and DayAmount: how many amounts or pairs are left behind it.
+// The place of the next field. SplitAmount, Days and DayAmount: how many amounts or pairs are left after it.
 pub enum Want {
     Sender,
     Receiver,
@@ -130,7 +130,7 @@ pub fn kept_for(want: Want) -> Keep
     }
 }
 
-// What comes behind an item's or a detail's funds.
+// What comes after an item's or a detail's funds.
 pub fn after_funds(after: After) -> Want
     ensures { λ r. ⌜ wantedOf r ≡ wantedAfter after ⌝ }
 {
@@ -140,7 +140,7 @@ pub fn after_funds(after: After) -> Want
     }
 }
 
-// Behind an amount of S, with so many left.
+// After an amount of S, with so many left.
 pub fn next_split(after: After, left: u64) -> Want
     ensures { λ r. ⌜ wantedOf r ≡ splits left ++ wantedAfter after ⌝ }
 {
@@ -150,7 +150,7 @@ pub fn next_split(after: After, left: u64) -> Want
     Want::SplitAmount(after, left - 1)
 }
 
-// Behind a pair of D or its count, with so many left.
+// After a pair of D or its count, with so many left.
 pub fn next_pair(after: After, left: u64) -> Want
     ensures { λ r. ⌜ wantedOf r ≡ pairs left ++ wantedAfter after ⌝ }
 {

@@ -4,5 +4,5 @@ pub mod Binds
 pub mod LineLaws
 pub mod CellLaws
 pub mod RunLaws
-pub mod PieceLaws
+pub mod PartLaws
 pub mod Accepted

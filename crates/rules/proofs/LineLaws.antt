@@ -1,4 +1,4 @@
--- A file is its lines and its records: nothing is lost, and a file's lines and records are found part by part. Assumes nothing.
+-- A file is its lines and its records: nothing is lost, and a file's records are found part by part. Assumes nothing.
 use mathlib.Core.Path.{_≡_, refl, sym, ap, _∙_}
 use mathlib.Core.Bool.{Bool, true, false, cond, not}
 use mathlib.Core.List.{List, [], _∷_, _++_, append-assoc, append-nil}
@@ -6,6 +6,7 @@ use Prim.Native.Nat.{ℕ}
 use lib.Dec.{T, eqb}
 use Rattle.rules.specs.Bytes.{Bytes, LF, CR, all}
 use Rattle.rules.specs.Lines.{LineEnd, lacking, lf, crlf, Line, longerLine, longerFirst, linesOf, continuation, begins, Record, lineBefore, recordsOf, lineBytes, recordBytes, fileRecords}
+use Rattle.rules.specs.Parts.{heads}
 use Rattle.rules.proofs.Tests.{Known, holds, fails, known, true-eq, is-true, not-false, and-left, and-right}
 
 -- ---- nothing is lost
@@ -90,10 +91,10 @@ unfolding longerLine noCR
 longer-lf b [] h = rw (not-false (eqb b CR) h)
 longer-lf b (c ∷ w) h = refl
 
-no-cr-behind : (b : ℕ) (w : Bytes) → T (noCR (b ∷ w)) → T (noCR w)
+no-cr-after : (b : ℕ) (w : Bytes) → T (noCR (b ∷ w)) → T (noCR w)
 unfolding noCR
-no-cr-behind b [] h = tt
-no-cr-behind b (c ∷ w) h = h
+no-cr-after b [] h = tt
+no-cr-after b (c ∷ w) h = h
 
 -- ended by LF alone
 pub lines-lf : (w bs : Bytes) → T (all inLine w) → T (noCR w) → linesOf (w ++ (LF ∷ bs)) ≡ record { body = w; lineEnd = lf } ∷ linesOf bs
@@ -101,7 +102,7 @@ unfolding all linesOf longerFirst
 lines-lf [] bs h n = refl
 lines-lf (b ∷ w) bs h n =
     plain-line b (w ++ (LF ∷ bs)) (and-left (inLine b) (all inLine w) h)
-    ∙ rw (lines-lf w bs (and-right (inLine b) (all inLine w) h) (no-cr-behind b w n), longer-lf b w n)
+    ∙ rw (lines-lf w bs (and-right (inLine b) (all inLine w) h) (no-cr-after b w n), longer-lf b w n)
 
 longer-lacking : (b : ℕ) (w : Bytes) → longerLine b w lacking ≡ record { body = b ∷ w; lineEnd = lacking }
 unfolding longerLine
@@ -116,50 +117,13 @@ lines-lacking b (c ∷ w) h =
     plain-line b (c ∷ w) (and-left (inLine b) (all inLine (c ∷ w)) h)
     ∙ rw (lines-lacking c w (and-right (inLine b) (all inLine (c ∷ w)) h), longer-lacking)
 
--- ---- lines and records of a concatenation
+-- ---- records of a concatenation
 
 abbrev some? : {A : Type 0} → List A → Bool
 some? [] = false
 some? (l ∷ ls) = true
 
--- the bytes end in LF
-abbrev pub endsInLF : Bytes → Bool
-endsInLF [] = false
-endsInLF (b ∷ []) = eqb b LF
-endsInLF (b ∷ c ∷ bs) = endsInLF (c ∷ bs)
-
-longer-append : (b : ℕ) (ls ms : List Line) → T (some? ls) → longerFirst b (ls ++ ms) ≡ longerFirst b ls ++ ms
-unfolding longerFirst
-longer-append b [] ms h = absurd h
-longer-append b (l ∷ ls) ms h = refl
-
-lines-some : (b : ℕ) (bs : Bytes) → T (some? (linesOf (b ∷ bs)))
-unfolding linesOf longerFirst
-lines-some b bs = go (eqb b LF) (linesOf bs)
-  where
-    go : (t : Bool) (ls : List Line) → T (some? (cond t (record { body = []; lineEnd = lf } ∷ ls) (longerFirst b ls)))
-    go true ls = tt
-    go false [] = tt
-    go false (l ∷ ls) = tt
-
-append-step : (b : ℕ) (bs cs : Bytes) → T (some? (linesOf bs)) → linesOf (bs ++ cs) ≡ linesOf bs ++ linesOf cs → Known (eqb b LF)
-    → linesOf (b ∷ (bs ++ cs)) ≡ linesOf (b ∷ bs) ++ linesOf cs
-unfolding linesOf
-append-step b bs cs h ih (holds e) = rw (e, ih)
-append-step b bs cs h ih (fails e) = rw (e, ih) (longer-append b (linesOf bs) (linesOf cs) h)
-
--- where the first bytes end in LF, the lines of both are the lines of the first and the lines of the second
-pub lines-append : (bs cs : Bytes) → T (endsInLF bs) → linesOf (bs ++ cs) ≡ linesOf bs ++ linesOf cs
-unfolding linesOf
-lines-append [] cs h = absurd h
-lines-append (b ∷ []) cs h = rw (is-true (eqb b LF) h)
-lines-append (b ∷ c ∷ bs) cs h = append-step b (c ∷ bs) cs (lines-some c bs) (lines-append (c ∷ bs) cs h) (known (eqb b LF))
-
--- where the second lines don't begin with an 88, so it is with records
-abbrev pub freshStart : List Line → Bool
-freshStart [] = true
-freshStart (l ∷ ls) = not (begins continuation l)
-
+-- where the second lines don't begin with an 88, the records of both are the records of the first and the records of the second
 before-some : (l : Line) (t : Bool) (rs : List Record) → T (some? (lineBefore l t rs))
 unfolding lineBefore
 before-some l true [] = tt
@@ -177,7 +141,7 @@ before-append l true [] qs h = absurd h
 before-append l true (r ∷ rs) qs h = refl
 before-append l false rs qs h = refl
 
-pub records-append : (ls ms : List Line) → T (freshStart ms) → recordsOf (ls ++ ms) ≡ recordsOf ls ++ recordsOf ms
+pub records-append : (ls ms : List Line) → T (not (heads continuation ms)) → recordsOf (ls ++ ms) ≡ recordsOf ls ++ recordsOf ms
 unfolding recordsOf lineBefore
 records-append [] ms h = refl
 records-append (l ∷ []) [] h = refl

@@ -7,7 +7,8 @@ use native.Mathlib.Omega.{arith}
 use lib.Dec.{T, leb, le→leb}
 use Rattle.rules.specs.Outcome.{Outcome, refused, fine, _>>=_, moved}
 use Rattle.rules.specs.Lines.{Record, recordSize}
-use Rattle.rules.specs.Numbers.{Sum, magnitudes, most, withinMost}
+use Rattle.rules.specs.Numbers.{Sum, magnitudes, withinMost}
+use Rattle.rules.specs.Limits.{most}
 use Rattle.rules.specs.Verdict.{State, step, run}
 use Rattle.rules.specs.Parts.{sizeOfAll}
 use Rattle.rules.proofs.Tests.{both}
@@ -17,7 +18,7 @@ use Rattle.rules.proofs.Binds.{refused-fine}
 
 bind-run : (o : Outcome State) (q e : ℕ) (rs qs : List Record) → ((t : State) → run q t (rs ++ qs) ≡ run q t rs >>= (λ u. run e u qs))
     → (o >>= λ t. run q t (rs ++ qs)) ≡ (o >>= λ t. run q t rs) >>= (λ u. run e u qs)
-bind-run (refused n p) q e rs qs ih = refl
+bind-run (refused why) q e rs qs ih = refl
 bind-run (fine t) q e rs qs ih = ih t
 
 pub run-append : (p : ℕ) (s : State) (rs qs : List Record) → run p s (rs ++ qs) ≡ run p s rs >>= (λ t. run (p + sizeOfAll rs) t qs)
@@ -32,7 +33,7 @@ moved-step : (p q : ℕ) (o : Outcome State) (m n : ℕ) (rs : List Record) (t :
     → ((u : State) → run m u rs ≡ fine t → run n u rs ≡ fine t)
     → (moved p o >>= λ u. run m u rs) ≡ fine t → (moved q o >>= λ u. run n u rs) ≡ fine t
 unfolding moved
-moved-step p q (refused k a) m n rs t ih h = absurd (refused-fine k (p + a) t h)
+moved-step p q (refused why) m n rs t ih h = absurd (refused-fine _ t h)
 moved-step p q (fine u) m n rs t ih h = ih u h
 
 pub run-anywhere : (p q : ℕ) (s t : State) (rs : List Record) → run p s rs ≡ fine t → run q s rs ≡ fine t

@@ -1,11 +1,21 @@
 -- Document 01: the bytes that it names, and tests on bytes. Assumes nothing.
 use Prim.Native.Nat.{ℕ}
+use Prim.Native.Char.{Char, code}
+use Prim.Native.String.{String}
 use mathlib.Core.Bool.{Bool, true, false, cond, not, _&&_}
 use mathlib.Core.List.{List, [], _∷_}
 use lib.Dec.{leb, eqb}
 
 abbrev pub Bytes : Type 0
 Bytes = List ℕ
+
+-- a letter, digit or sign as its byte, and a text as its bytes
+abbrev pub letter : Char → ℕ
+letter c = code c
+
+abbrev pub bytes : String → Bytes
+bytes String.[] = []
+bytes (String._∷_ c s) = letter c ∷ bytes s
 
 abbrev pub LF : ℕ
 LF = 10
@@ -14,19 +24,19 @@ abbrev pub CR : ℕ
 CR = 13
 
 abbrev pub blank : ℕ
-blank = 32
+blank = letter " "
 
 abbrev pub plus : ℕ
-plus = 43
+plus = letter "+"
 
 abbrev pub comma : ℕ
-comma = 44
+comma = letter ","
 
 abbrev pub minus : ℕ
-minus = 45
+minus = letter "-"
 
 abbrev pub slash : ℕ
-slash = 47
+slash = letter "/"
 
 -- lo ≤ n ≤ hi
 abbrev pub between : ℕ → ℕ → ℕ → Bool

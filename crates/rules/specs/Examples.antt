@@ -1,12 +1,11 @@
 -- Document 01, "Examples on both sides": K1 to K12, one computed list, and one proof over it. Assumes nothing.
 use Prim.Native.Nat.{ℕ}
-use Prim.Native.Char.{code}
 use Prim.Native.String.{String}
 use mathlib.Core.Bool.{Bool, true, _&&_}
 use mathlib.Core.List.{List, [], _∷_, _++_}
 use lib.Dec.{T}
 use lib.ListN.{replicate}
-use Rattle.rules.specs.Bytes.{Bytes, LF, blank, isEmpty, all, sameBytes, startsWith, oneOf, trimmedBefore, trimmed}
+use Rattle.rules.specs.Bytes.{Bytes, bytes, letter, LF, blank, isEmpty, all, sameBytes, startsWith, oneOf, trimmedBefore, trimmed}
 use Rattle.rules.specs.Outcome.{refused, fine, moved}
 use Rattle.rules.specs.Lines.{longerLine, longerFirst, linesOf, begins, codeIn, codeOf, lineBefore, recordsOf, recordSize, lineBytes, recordBytes, fileRecords}
 use Rattle.rules.specs.Cells.{lengthened, cellsFrom, cellsOf, leadingBlanks}
@@ -14,19 +13,15 @@ use Rattle.rules.specs.Numbers.{digits, numberFrom, withoutSign, signed,
 use Rattle.rules.specs.Dates.{daysOf, isDate, isTime}
 use Rattle.rules.specs.TypeCodes.{classOf, typeClass}
 use Rattle.rules.specs.Grammar.{fieldsOf, isCurrency, isUnsigned, isSigned, isLength, fundsOf, pairs, pairsOf, pieceOf, judged, andThen, takeNext}
-use Rattle.rules.specs.Records.{behind, taken, pastSlash, takenTo, walkCells, walkLines, walkRecord, the}
+use Rattle.rules.specs.Records.{walkAfter, taken, pastSlash, takenTo, walkCells, walkLines, walkRecord, the}
 use Rattle.rules.specs.Totals.{_⊞_, amountOf, sumOf, adding, ofRecord, boundedFrom, rightTotal, rightCount, rightRecords, sumWithin, balanced}
 use Rattle.rules.specs.Order.{among}
-use Rattle.rules.specs.Verdict.{notLonger, allAllowed, coded, goodLine, goodLines, noneLonger, inOrder, readRecord, limitGiven, limitBehind, ownLines, stateBehind, settled, step, run, judge}
-use Rattle.rules.specs.Parts.{pieces, groupPieces, headerIn, groupsIn, fieldsIn, firstFields, receiverOf}
-use Rattle.rules.specs.Combine.{ofCoded, summaryOf, summaryOfAll, freshTrailer, withTrailer, joined, limitOf, linesWithin, fitting, combined, Answer, answered, whichFile, combine}
+use Rattle.rules.specs.Verdict.{notLonger, allAllowed, coded, goodLine, goodLines, noneLonger, inOrder, readRecord, limitGiven, limitAfter, ownLines, stateAfter, settled, step, run, judge}
+use Rattle.rules.specs.Parts.{cutAt, inGroups, headerIn, groupsIn, fieldsIn, firstFields, receiverOf}
+use Rattle.rules.specs.Combine.{ofCoded, summaryOf, summaryOfAll, freshTrailer, withTrailer, concat, limitOf, linesWithin, fitting, combined, Answer, answered, whichFile, combine}
 use Rattle.rules.specs.Split.{isName, groupsFor, splitOut, split}
 
--- a text as bytes, and lines of text, each with LF
-unfoldable pub bytes : String → Bytes
-bytes String.[] = []
-bytes (String._∷_ c s) = code c ∷ bytes s
-
+-- lines of text, each with LF
 unfoldable pub lines : List String → Bytes
 lines [] = []
 lines (s ∷ ss) = bytes s ++ (LF ∷ lines ss)
@@ -37,21 +32,21 @@ words [] = []
 words (w ∷ []) = w
 words (w ∷ v ∷ ws) = w ++ (blank ∷ words (v ∷ ws))
 
--- the line that the program writes
+-- the line that the program writes for a file that it judges
 unfoldable pub verdict : List String → Bytes
 verdict file =
     elim (judge (lines file)) [
-      | refused n p ↦ words (bytes "refused" ∷ decimal n ∷ decimal p ∷ [])
-      | fine s ↦ words (bytes "ok" ∷ totalBytes (s .sum) ∷ decimal (s .groups) ∷ decimal (s .accounts) ∷ decimal (s .details) ∷ decimal (s .lines) ∷ [])
+      | refused why ↦ words (bytes "refused" ∷ decimal (why .number) ∷ decimal (why .place) ∷ [])
+      | fine s ↦ words (bytes "ok" ∷ totalBytes (s .sum) ∷ decimal (s .groups) ∷ decimal (s .accounts) ∷ decimal (s .details) ∷ decimal (s .records) ∷ [])
     ]
 
 -- an answer: its number, place, file and length, then the output slice
 unfoldable pub written : Answer → Bytes
-written a = words (decimal (a .number) ∷ decimal (a .place) ∷ decimal (a .which) ∷ decimal (a .len) ∷ a .output ∷ [])
+written a = words (decimal (a .refusal .number) ∷ decimal (a .refusal .place) ∷ decimal (a .which) ∷ decimal (a .len) ∷ a .output ∷ [])
 
 -- an output slice of n bytes, all dots
 unfoldable pub dots : ℕ → Bytes
-dots n = replicate n 46
+dots n = replicate n (letter ".")
 
 pub record Example : Type 0 where
   pub gives : Bytes
@@ -126,17 +121,17 @@ examples =
 
 pub examples-agree : T (agree examples)
 unfolding
-    bytes lines words verdict written dots agree k1 examples
+    lines words verdict written dots agree k1 examples
     isEmpty all sameBytes startsWith oneOf trimmedBefore trimmed moved
     longerLine longerFirst linesOf begins codeIn codeOf lineBefore recordsOf recordSize lineBytes recordBytes fileRecords
     lengthened cellsFrom cellsOf leadingBlanks
     digits numberFrom withoutSign signed decimalWithin decimal totalBytes
     daysOf isDate isTime classOf typeClass
     fieldsOf isCurrency isUnsigned isSigned isLength fundsOf pairs pairsOf pieceOf judged andThen takeNext
-    behind taken pastSlash takenTo walkCells walkLines walkRecord the
+    walkAfter taken pastSlash takenTo walkCells walkLines walkRecord the
     _⊞_ amountOf sumOf adding ofRecord boundedFrom rightTotal rightCount rightRecords sumWithin balanced
-    among notLonger allAllowed coded goodLine goodLines noneLonger inOrder readRecord limitGiven limitBehind ownLines stateBehind settled step run judge
-    pieces groupPieces headerIn groupsIn fieldsIn firstFields receiverOf
-    ofCoded summaryOf summaryOfAll freshTrailer withTrailer joined limitOf linesWithin fitting combined answered whichFile combine
+    among notLonger allAllowed coded goodLine goodLines noneLonger inOrder readRecord limitGiven limitAfter ownLines stateAfter settled step run judge
+    cutAt inGroups headerIn groupsIn fieldsIn firstFields receiverOf
+    ofCoded summaryOf summaryOfAll freshTrailer withTrailer concat limitOf linesWithin fitting combined answered whichFile combine
     isName groupsFor splitOut split
 examples-agree = tt

@@ -1,4 +1,5 @@
 -- Document 01 as definitions that compute, section by section. Read in this order.
+pub mod Limits
 pub mod Bytes
 pub mod Outcome
 pub mod Lines

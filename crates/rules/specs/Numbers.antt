@@ -1,30 +1,31 @@
--- Document 01, "Totals and counts": digit strings, signs and sums, and numbers written without leading zeros. Assumes nothing.
+-- Document 01, "Totals and counts": digit strings, signs and sums; and how "Parts, combining, splitting, writing" has numbers written. Assumes nothing.
 use Prim.Native.Nat.{ℕ, zero, suc, _+_, _*_, _-_, _/_, _%_}
 use mathlib.Core.Bool.{Bool, true, false, cond, _&&_, _||_}
 use mathlib.Core.List.{[], _∷_, _++_}
 use lib.Dec.{leb, ltb, eqb}
 use lib.IntN.{ℤ, subℕ}
 use lib.ListN.{length}
-use Rattle.rules.specs.Bytes.{Bytes, plus, minus, between, all, startsWith}
+use Rattle.rules.specs.Limits.{most}
+use Rattle.rules.specs.Bytes.{Bytes, letter, plus, minus, between, all, startsWith}
 
 -- ---- reading
 
 abbrev pub isDigit : ℕ → Bool
-isDigit b = between 48 57 b
+isDigit b = between (letter "0") (letter "9") b
 
 -- from lo to hi digits
 unfoldable pub digits : ℕ → ℕ → Bytes → Bool
 digits lo hi bs = between lo hi (length bs) && all isDigit bs
 
--- the number that digits stand for, behind those that stand for n
+-- the number that digits stand for, after those that stand for n
 unfoldable pub numberFrom : ℕ → Bytes → ℕ
 numberFrom n [] = n
-numberFrom n (b ∷ bs) = numberFrom (n * 10 + (b - 48)) bs
+numberFrom n (b ∷ bs) = numberFrom (n * 10 + (b - letter "0")) bs
 
 abbrev pub number : Bytes → ℕ
 number bs = numberFrom 0 bs
 
--- a sign and a magnitude, as a field gives them
+-- a sign and a magnitude, as a field or a call of the writer gives them
 pub record Signed : Type 0 where
   pub negative : Bool
   pub magnitude : ℕ
@@ -65,22 +66,23 @@ equals a b = eqb (a .pluses + b .minuses) (b .pluses + a .minuses)
 abbrev pub asInteger : Sum → ℤ
 asInteger a = subℕ (a .pluses) (a .minuses)
 
--- the largest sum of magnitudes
-abbrev pub most : ℕ
-most = 999_999_999_999_999_999
-
 -- not beyond the largest either way
 abbrev pub withinMost : Sum → Bool
 withinMost a = leb (a .pluses) (most + a .minuses) && leb (a .minuses) (most + a .pluses)
 
 -- ---- writing
 
--- a number's digits: those of its tenth, then its last. The test says that it is below 10; the first argument bounds the steps: n suffice.
+-- the digit of a number below 10
+abbrev pub digit : ℕ → ℕ
+digit n = letter "0" + n
+
+-- a number's digits: those of its tenth, then its last. The test says that it is below 10; the first argument bounds the steps: n suffice,
+-- so the second clause is never reached.
 unfoldable pub decimalWithin : ℕ → Bool → ℕ → Bytes
-decimalWithin zero true n = (48 + n) ∷ []
+decimalWithin zero true n = digit n ∷ []
 decimalWithin zero false n = []
-decimalWithin (suc k) true n = (48 + n) ∷ []
-decimalWithin (suc k) false n = decimalWithin k (ltb (n / 10) 10) (n / 10) ++ ((48 + n % 10) ∷ [])
+decimalWithin (suc k) true n = digit n ∷ []
+decimalWithin (suc k) false n = decimalWithin k (ltb (n / 10) 10) (n / 10) ++ (digit (n % 10) ∷ [])
 
 -- the digits without leading zeros
 unfoldable pub decimal : ℕ → Bytes

@@ -4,16 +4,17 @@ use mathlib.Core.List.{List, [], _∷_}
 use Rattle.rules.specs.Lines.{Code, fileHeader, groupHeader, accountHeader, detail, accountTrailer, groupTrailer, fileTrailer, continuation, sameCode}
 use Rattle.rules.specs.Totals.{Summary, noSummary, _⊞_}
 
--- one 01; any number of groups; one 99; nothing after. A group: 02, one or more accounts, 98. An account: 03, any number of 16, 49.
-abbrev pub after : Code → List Code
-after fileHeader = groupHeader ∷ fileTrailer ∷ []
-after groupHeader = accountHeader ∷ []
-after accountHeader = detail ∷ accountTrailer ∷ []
-after detail = detail ∷ accountTrailer ∷ []
-after accountTrailer = accountHeader ∷ groupTrailer ∷ []
-after groupTrailer = groupHeader ∷ fileTrailer ∷ []
-after fileTrailer = []
-after continuation = []
+-- which codes may come after a record of this code: one 01; any number of groups; one 99; nothing after. A group: 02, one or more accounts, 98. An account: 03, any number of 16, 49.
+abbrev pub mayFollow : Code → List Code
+mayFollow fileHeader = groupHeader ∷ fileTrailer ∷ []
+mayFollow groupHeader = accountHeader ∷ []
+mayFollow accountHeader = detail ∷ accountTrailer ∷ []
+mayFollow detail = detail ∷ accountTrailer ∷ []
+mayFollow accountTrailer = accountHeader ∷ groupTrailer ∷ []
+mayFollow groupTrailer = groupHeader ∷ fileTrailer ∷ []
+mayFollow fileTrailer = []
+-- never reached: a record of code 88 is itself out of order
+mayFollow continuation = []
 
 unfoldable pub among : Code → List Code → Bool
 among c [] = false
@@ -24,7 +25,7 @@ abbrev pub ended : List Code → Bool
 ended [] = true
 ended (c ∷ cs) = false
 
--- behind a line of this code a group is open, an account is open
+-- after a line of this code a group is open, an account is open; a line 88 is a further item of the writer's
 abbrev pub groupOpen : Code → Bool
 groupOpen fileHeader = false
 groupOpen groupHeader = true
@@ -45,9 +46,9 @@ accountOpen groupTrailer = false
 accountOpen fileTrailer = false
 accountOpen continuation = true
 
--- the summary of the open group, and of the open account, behind a line of this code that adds this; none where none is open
-abbrev pub groupBehind : Code → Summary → Summary → Summary
-groupBehind c group this = cond (groupOpen c) (group ⊞ this) noSummary
+-- the summary of the open group, and of the open account, after a line of this code that adds this; none where none is open
+abbrev pub groupAfter : Code → Summary → Summary → Summary
+groupAfter c group this = cond (groupOpen c) (group ⊞ this) noSummary
 
-abbrev pub accountBehind : Code → Summary → Summary → Summary
-accountBehind c account this = cond (accountOpen c) (account ⊞ this) noSummary
+abbrev pub accountAfter : Code → Summary → Summary → Summary
+accountAfter c account this = cond (accountOpen c) (account ⊞ this) noSummary

@@ -5,7 +5,7 @@ use mathlib.Core.List.{List, [], _∷_}
 use mathlib.Core.Option.{Option, none, some}
 use Rattle.rules.specs.Bytes.{Bytes, slash, isEmpty, just}
 use Rattle.rules.specs.Numbers.{number, withoutSign}
-use Rattle.rules.specs.Outcome.{Outcome, refused, fine, _>>=_, _>>_, orElse}
+use Rattle.rules.specs.Outcome.{Outcome, refused, refuse, fine, _>>=_, _>>_, orElse}
 use Rattle.rules.specs.Lines.{Code, groupHeader, accountHeader, detail, accountTrailer, groupTrailer, fileTrailer, begins, Record, recordSize, recordBytes, fileRecords}
 use Rattle.rules.specs.Grammar.{ultimateReceiver, detailType, amount, text}
 use Rattle.rules.specs.Records.{Field, the, walkRecord}
@@ -13,45 +13,45 @@ use Rattle.rules.specs.Verdict.{judge}
 
 -- ---- cutting
 
--- the record's first line begins with this code
+-- the record's first line begins with this code; no record is without a line, so the first clause is never reached
 abbrev pub heads : Code → Record → Bool
 heads c [] = false
 heads c (l ∷ ls) = begins c l
 
--- records cut before each of code c and before each of code d: waiting, those before the first cut; cut, the pieces that begin with code c
-pub record Pieces : Type 0 where
+-- records cut before each of code c and before each of code d: waiting, those before the first cut; parts, those that begin with code c
+pub record Parts : Type 0 where
   pub waiting : List Record
-  pub cut : List (List Record)
+  pub parts : List (List Record)
 
-unfoldable pub pieces : Code → Code → List Record → Pieces
-pieces c d [] = record { waiting = []; cut = [] }
-pieces c d (r ∷ rs) =
-    let p = pieces c d rs in
-    cond (heads c r) (record { waiting = []; cut = (r ∷ p .waiting) ∷ p .cut })
-    (cond (heads d r) (record { waiting = []; cut = p .cut })
-    (record { waiting = r ∷ p .waiting; cut = p .cut }))
+unfoldable pub cutAt : Code → Code → List Record → Parts
+cutAt c d [] = record { waiting = []; parts = [] }
+cutAt c d (r ∷ rs) =
+    let p = cutAt c d rs in
+    cond (heads c r) (record { waiting = []; parts = (r ∷ p .waiting) ∷ p .parts })
+    (cond (heads d r) (record { waiting = []; parts = p .parts })
+    (record { waiting = r ∷ p .waiting; parts = p .parts }))
 
 -- of an accepted file: a group runs from its 02 to the end of its 98, an account from its 03 to the end of its 49, a detail is a 16
-unfoldable pub groupPieces : List Record → Pieces
-groupPieces rs = pieces groupHeader fileTrailer rs
+unfoldable pub inGroups : List Record → Parts
+inGroups rs = cutAt groupHeader fileTrailer rs
 
-unfoldable pub accountPieces : List Record → Pieces
-accountPieces rs = pieces accountHeader groupTrailer rs
+unfoldable pub inAccounts : List Record → Parts
+inAccounts rs = cutAt accountHeader groupTrailer rs
 
-unfoldable pub detailPieces : List Record → Pieces
-detailPieces rs = pieces detail accountTrailer rs
+unfoldable pub inDetails : List Record → Parts
+inDetails rs = cutAt detail accountTrailer rs
 
 -- the header of an accepted file, and its groups
 unfoldable pub headerIn : Bytes → List Record
-headerIn file = groupPieces (fileRecords file) .waiting
+headerIn file = inGroups (fileRecords file) .waiting
 
 unfoldable pub groupsIn : Bytes → List (List Record)
-groupsIn file = groupPieces (fileRecords file) .cut
+groupsIn file = inGroups (fileRecords file) .parts
 
 -- ---- numbering
 
 -- records of a file that stand together, and the place of their first byte
-pub record Piece : Type 0 where
+pub record Placed : Type 0 where
   pub place : ℕ
   pub records : List Record
 
@@ -59,30 +59,30 @@ unfoldable pub sizeOfAll : List Record → ℕ
 sizeOfAll [] = 0
 sizeOfAll (r ∷ rs) = recordSize r + sizeOfAll rs
 
--- the piece of this number, from 0, of pieces the first of which starts at place p; 17 where there is none
-unfoldable pub pieceFrom : ℕ → List (List Record) → ℕ → Outcome Piece
-pieceFrom p [] i = refused 17 0
-pieceFrom p (rs ∷ rss) zero = fine (record { place = p; records = rs })
-pieceFrom p (rs ∷ rss) (suc i) = pieceFrom (p + sizeOfAll rs) rss i
+-- the part of this number, from 0, of parts the first of which starts at place p; 17 where there is none
+unfoldable pub partFrom : ℕ → List (List Record) → ℕ → Outcome Placed
+partFrom p [] i = refuse 17 0
+partFrom p (rs ∷ rss) zero = fine (record { place = p; records = rs })
+partFrom p (rs ∷ rss) (suc i) = partFrom (p + sizeOfAll rs) rss i
 
 -- the same of records cut so, the first of which starts at place p
-unfoldable pub pieceIn : ℕ → Pieces → ℕ → Outcome Piece
-pieceIn p x i = pieceFrom (p + sizeOfAll (x .waiting)) (x .cut) i
+unfoldable pub partIn : ℕ → Parts → ℕ → Outcome Placed
+partIn p x i = partFrom (p + sizeOfAll (x .waiting)) (x .parts) i
 
 -- order: reader's refusal, 17
-unfoldable pub groupAt : Bytes → ℕ → Outcome Piece
-groupAt file g = judge file >>= λ _. pieceIn 0 (groupPieces (fileRecords file)) g
+unfoldable pub groupAt : Bytes → ℕ → Outcome Placed
+groupAt file g = judge file >>= λ _. partIn 0 (inGroups (fileRecords file)) g
 
-unfoldable pub accountAt : Bytes → ℕ → ℕ → Outcome Piece
-accountAt file g a = groupAt file g >>= λ group. pieceIn (group .place) (accountPieces (group .records)) a
+unfoldable pub accountAt : Bytes → ℕ → ℕ → Outcome Placed
+accountAt file g a = groupAt file g >>= λ group. partIn (group .place) (inAccounts (group .records)) a
 
-unfoldable pub detailPieceAt : Bytes → ℕ → ℕ → ℕ → Outcome Piece
-detailPieceAt file g a d = accountAt file g a >>= λ account. pieceIn (account .place) (detailPieces (account .records)) d
+unfoldable pub detailPartAt : Bytes → ℕ → ℕ → ℕ → Outcome Placed
+detailPartAt file g a d = accountAt file g a >>= λ account. partIn (account .place) (inDetails (account .records)) d
 
--- the part that a call hands out: the piece's bytes, line ends included; an empty one where refused
-unfoldable pub partBytes : Outcome Piece → Bytes
-partBytes (refused n p) = []
-partBytes (fine piece) = recordBytes (piece .records)
+-- the part that a call hands out: its bytes, line ends included; an empty one where refused
+unfoldable pub partBytes : Outcome Placed → Bytes
+partBytes (refused why) = []
+partBytes (fine x) = recordBytes (x .records)
 
 -- ---- fields
 
@@ -106,7 +106,7 @@ pub record Detail : Type 0 where
   pub textPlace : ℕ
   pub textBytes : Bytes
 
-unfoldable pub detailIn : Piece → Detail
+unfoldable pub detailIn : Placed → Detail
 detailIn x =
     let fs = firstFields detail (x .records) in
     let given = the amount fs .bytes in
@@ -120,4 +120,4 @@ detailIn x =
     }
 
 unfoldable pub detailAt : Bytes → ℕ → ℕ → ℕ → Outcome Detail
-detailAt file g a d = detailPieceAt file g a d >>= λ x. fine (detailIn x)
+detailAt file g a d = detailPartAt file g a d >>= λ x. fine (detailIn x)

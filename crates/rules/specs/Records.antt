@@ -6,7 +6,7 @@ use mathlib.Core.List.{List, [], _∷_, _++_}
 use lib.Dec.{eqb}
 use lib.ListN.{length}
 use Rattle.rules.specs.Bytes.{Bytes, trimmed}
-use Rattle.rules.specs.Outcome.{Outcome, refused, fine, _>>=_, _>>_, check}
+use Rattle.rules.specs.Outcome.{Outcome, refuse, fine, _>>=_, _>>_, check}
 use Rattle.rules.specs.Lines.{Line, sizeOf, Code, Record}
 use Rattle.rules.specs.Cells.{Mark, atComma, atSlash, atLineEnd, Cell, markPlace, cellsOf, leadingBlanks}
 use Rattle.rules.specs.Grammar.{Kind, Judged, bad, good, takeNext, nextKind, isText, sameKind, mayLack, fieldsOf}
@@ -23,16 +23,16 @@ pub record Walk : Type 0 where
   pub fields : List Field
   pub lastSlash : ℕ
 
--- the walk behind a field that was judged so
-unfoldable pub behind : Judged → Field → Walk → Outcome Walk
-behind (bad n) f w = refused n (f .place)
-behind (good next) f w = fine (record { wanted = next; fields = w .fields ++ (f ∷ []); lastSlash = w .lastSlash })
+-- the walk after a field that was judged so
+unfoldable pub walkAfter : Judged → Field → Walk → Outcome Walk
+walkAfter (bad n) f w = refuse n (f .place)
+walkAfter (good next) f w = fine (record { wanted = next; fields = w .fields ++ (f ∷ []); lastSlash = w .lastSlash })
 
 -- the next field, with these bytes at place p
 unfoldable pub taken : ℕ → Bytes → Walk → Outcome Walk
-taken p bs w = behind (takeNext (w .wanted) bs) (record { kind = nextKind (w .wanted); place = p; bytes = bs }) w
+taken p bs w = walkAfter (takeNext (w .wanted) bs) (record { kind = nextKind (w .wanted); place = p; bytes = bs }) w
 
--- only blanks may follow a slash: the walk behind the slash at place p, with these bytes after it
+-- only blanks may follow a slash: the walk after the slash at place p, with these bytes after it
 unfoldable pub pastSlash : ℕ → Bytes → Walk → Outcome Walk
 pastSlash p after w = do
   check (eqb (leadingBlanks after) (length after)) 7 (p + 1 + leadingBlanks after)
@@ -40,7 +40,7 @@ pastSlash p after w = do
 
 -- a field is judged once its comma or slash is found, then a byte after its slash
 unfoldable pub takenTo : Mark → Cell → Walk → Outcome Walk
-takenTo atLineEnd c w = refused 7 (markPlace c)
+takenTo atLineEnd c w = refuse 7 (markPlace c)
 takenTo atComma c w = taken (c .place) (c .bytes) w
 takenTo (atSlash after) c w = taken (c .place) (c .bytes) w >>= λ next. pastSlash (markPlace c) after next
 

@@ -3,16 +3,17 @@ use Prim.Native.Nat.{ℕ}
 use mathlib.Core.Bool.{Bool, cond, _&&_}
 use mathlib.Core.List.{List, [], _∷_, _++_}
 use lib.ListN.{length}
+use Rattle.rules.specs.Limits.{longestName}
 use Rattle.rules.specs.Bytes.{Bytes, between, clean, sameBytes}
 use Rattle.rules.specs.Outcome.{Outcome, _>>=_, _>>_, check}
 use Rattle.rules.specs.Lines.{Record}
 use Rattle.rules.specs.Verdict.{judge}
 use Rattle.rules.specs.Parts.{headerIn, groupsIn, receiverOf}
-use Rattle.rules.specs.Combine.{Answer, answered, fitting, withTrailer, joined}
+use Rattle.rules.specs.Combine.{Answer, answered, fitting, withTrailer, concat}
 
 -- 16: not empty, not over 76, no comma, slash or byte not allowed
 unfoldable pub isName : Bytes → Bool
-isName name = between 1 76 (length name) && clean name
+isName name = between 1 longestName (length name) && clean name
 
 -- the groups whose receiver equals the name byte for byte; since a name isn't empty, an empty receiver matches nothing
 unfoldable pub groupsFor : Bytes → List (List Record) → List (List Record)
@@ -24,7 +25,7 @@ unfoldable pub splitOut : Bytes → Bytes → ℕ → Outcome Bytes
 splitOut name file room = do
   check (isName name) 16 0
   judge file
-  fitting (withTrailer (headerIn file ++ joined (groupsFor name (groupsIn file)))) room
+  fitting (withTrailer (headerIn file ++ concat (groupsFor name (groupsIn file)))) room
 
 unfoldable pub split : Bytes → Bytes → Bytes → Answer
 split name file before = answered (splitOut name file (length before)) 0 before

@@ -4,7 +4,8 @@ use mathlib.Core.Bool.{cond, _||_}
 use mathlib.Core.List.{List, [], _∷_}
 use lib.Dec.{leb, eqb}
 use lib.ListN.{length}
-use Rattle.rules.specs.Numbers.{Sum, zeroSum, _⊕_, asSum, signed, number, magnitudes, equals, most, withinMost}
+use Rattle.rules.specs.Numbers.{Sum, zeroSum, _⊕_, asSum, signed, number, magnitudes, equals, withinMost}
+use Rattle.rules.specs.Limits.{most}
 use Rattle.rules.specs.Outcome.{Outcome, fine, _>>=_, _>>_, check}
 use Rattle.rules.specs.Lines.{Code, fileHeader, groupHeader, accountHeader, detail, accountTrailer, groupTrailer, fileTrailer, continuation, sameCode, Record}
 use Rattle.rules.specs.Grammar.{amount, statusAmount, total, count, records, sameKind}
@@ -18,10 +19,10 @@ pub record Summary : Type 0 where
   pub groups : ℕ
   pub accounts : ℕ
   pub details : ℕ
-  pub lines : ℕ
+  pub records : ℕ
 
 abbrev pub noSummary : Summary
-noSummary = record { sum = zeroSum; groups = 0; accounts = 0; details = 0; lines = 0 }
+noSummary = record { sum = zeroSum; groups = 0; accounts = 0; details = 0; records = 0 }
 
 infixl 60 _⊞_
 unfoldable pub _⊞_ : Summary → Summary → Summary
@@ -31,7 +32,7 @@ _⊞_ a b =
       groups = a .groups + b .groups;
       accounts = a .accounts + b .accounts;
       details = a .details + b .details;
-      lines = a .lines + b .lines;
+      records = a .records + b .records;
     }
 
 -- a field's amount: an empty one adds 0, a debit is added, and funds amounts are left out
@@ -48,7 +49,7 @@ one c d = cond (sameCode c d) 1 0
 
 -- what so many lines of a record of this code add, with this sum of amounts
 unfoldable pub adding : Code → Sum → ℕ → Summary
-adding c sum lines = record { sum = sum; groups = one c groupHeader; accounts = one c accountHeader; details = one c detail; lines = lines }
+adding c sum lines = record { sum = sum; groups = one c groupHeader; accounts = one c accountHeader; details = one c detail; records = lines }
 
 unfoldable pub ofRecord : Code → Record → List Field → Summary
 ofRecord c r fs = adding c (sumOf fs) (length r)
@@ -76,9 +77,9 @@ unfoldable pub rightCount : ℕ → List Field → Outcome (Unit {0})
 rightCount n fs = let f = the count fs in check (eqb n (number (f .bytes))) 12 (f .place)
 
 unfoldable pub rightRecords : Summary → List Field → Outcome (Unit {0})
-rightRecords s fs = let f = the records fs in check (eqb (s .lines) (number (f .bytes))) 13 (f .place)
+rightRecords s fs = let f = the records fs in check (eqb (s .records) (number (f .bytes))) 13 (f .place)
 
--- a trailer against the summaries of its account, its group and the file, itself included
+-- a trailer against the summaries of its account, its group and the file, itself included; other records state nothing
 unfoldable pub balanced : Code → Summary → Summary → Summary → List Field → Outcome (Unit {0})
 balanced fileHeader account group file fs = fine tt
 balanced groupHeader account group file fs = fine tt

@@ -4,21 +4,15 @@ use mathlib.Core.Bool.{cond, not}
 use mathlib.Core.List.{List, [], _∷_}
 use lib.Dec.{leb}
 use lib.ListN.{length}
+use Rattle.rules.specs.Limits.{longestFile, longestLine}
 use Rattle.rules.specs.Bytes.{Bytes, allowed, isEmpty}
 use Rattle.rules.specs.Numbers.{number, magnitudes}
-use Rattle.rules.specs.Outcome.{Outcome, refused, fine, _>>=_, _>>_, check, orRefused, moved}
+use Rattle.rules.specs.Outcome.{Outcome, refuse, fine, _>>=_, _>>_, check, orRefused, moved}
 use Rattle.rules.specs.Lines.{Line, sizeOf, Code, fileHeader, sameCode, codeOf, Record, recordSize, fileRecords}
 use Rattle.rules.specs.Grammar.{physicalLength}
 use Rattle.rules.specs.Records.{Field, the, walkRecord}
 use Rattle.rules.specs.Totals.{Summary, noSummary, _⊞_, ofRecord, boundedFrom, balanced}
-use Rattle.rules.specs.Order.{after, among, ended, groupBehind, accountBehind}
-
--- a file is 1 to 16,777,216 bytes; a line has at most 4,096 bytes without its end
-abbrev pub mostBytes : ℕ
-mostBytes = 16_777_216
-
-abbrev pub longestLine : ℕ
-longestLine = 4096
+use Rattle.rules.specs.Order.{mayFollow, among, ended, groupAfter, accountAfter}
 
 -- ---- a record's lines: 3, 4, 5
 
@@ -65,9 +59,9 @@ pub record State : Type 0 where
 abbrev pub start : State
 start = record { expected = fileHeader ∷ []; limit = longestLine; file = noSummary; group = noSummary; account = noSummary }
 
--- 6, at the record's start
+-- 6, at the record's start; no record is without a line, so the first clause is never reached, and each line has a code by now (5)
 unfoldable pub inOrder : List Code → Record → Outcome Code
-inOrder cs [] = refused 6 0
+inOrder cs [] = refuse 6 0
 inOrder cs (l ∷ ls) = coded 0 l >>= λ c. check (among c cs) 6 0 >> fine c
 
 -- a record's code and its fields
@@ -87,34 +81,34 @@ readRecord s r = do
 unfoldable pub limitGiven : ℕ → List Field → ℕ
 limitGiven limit fs = let bs = the physicalLength fs .bytes in cond (isEmpty bs) limit (number bs)
 
--- the limit behind a record of this code: only a 01 gives one
-unfoldable pub limitBehind : Code → ℕ → List Field → ℕ
-limitBehind c limit fs = cond (sameCode c fileHeader) (limitGiven limit fs) limit
+-- the limit after a record of this code: only a 01 gives one
+unfoldable pub limitAfter : Code → ℕ → List Field → ℕ
+limitAfter c limit fs = cond (sameCode c fileHeader) (limitGiven limit fs) limit
 
 -- the header's own lines are held against L after its fields
 unfoldable pub ownLines : Code → ℕ → Record → Outcome (Unit {0})
 ownLines c limit r = cond (sameCode c fileHeader) (noneLonger 0 limit r) (fine tt)
 
--- the state behind a record that was read so
-unfoldable pub stateBehind : State → Record → Reading → State
-stateBehind s r x =
+-- the state after a record that was read so
+unfoldable pub stateAfter : State → Record → Reading → State
+stateAfter s r x =
     let this = ofRecord (x .code) r (x .fields) in
     record {
-      expected = after (x .code);
-      limit = limitBehind (x .code) (s .limit) (x .fields);
+      expected = mayFollow (x .code);
+      limit = limitAfter (x .code) (s .limit) (x .fields);
       file = s .file ⊞ this;
-      group = groupBehind (x .code) (s .group) this;
-      account = accountBehind (x .code) (s .account) this;
+      group = groupAfter (x .code) (s .group) this;
+      account = accountAfter (x .code) (s .account) this;
     }
 
--- behind the fields: the header's own lines against L; then 10; then for trailers 14, 11, 12, 13
+-- after the fields: the header's own lines against L; then 10; then for trailers 14, 11, 12, 13
 unfoldable pub settled : State → Record → Reading → Outcome State
 settled s r x = do
   let this = ofRecord (x .code) r (x .fields)
-  ownLines (x .code) (limitBehind (x .code) (s .limit) (x .fields)) r
+  ownLines (x .code) (limitAfter (x .code) (s .limit) (x .fields)) r
   boundedFrom (magnitudes (s .file .sum)) (x .fields)
   balanced (x .code) (s .account ⊞ this) (s .group ⊞ this) (s .file ⊞ this) (x .fields)
-  fine (stateBehind s r x)
+  fine (stateAfter s r x)
 
 unfoldable pub step : State → Record → Outcome State
 step s r = readRecord s r >>= λ x. settled s r x
@@ -130,7 +124,7 @@ run p s (r ∷ rs) = moved p (step s r) >>= λ next. run (p + recordSize r) next
 unfoldable pub judge : Bytes → Outcome Summary
 judge file = do
   check (not (isEmpty file)) 1 0
-  check (leb (length file) mostBytes) 2 0
+  check (leb (length file) longestFile) 2 0
   s ← run 0 start (fileRecords file)
   check (ended (s .expected)) 6 (length file)
   fine (s .file)

@@ -1,5 +1,5 @@
 // Splits, combinations and parts of the files in data/: each call with its answer in figures, and below it the bytes that it gave.
-use base_quantities::Place;
+use base_refusals::Refusal;
 use libc::STDOUT_FILENO;
 ghost use Rattle.io.specs.Counts.{Counts};
 
@@ -32,12 +32,11 @@ fn split(name: &[u8], path: &[u8], out: &mut [u8]) {
     let mut file = io::buffer();
     let n = load(path, &mut file);
     let r = join_split::split(name, &file[..n], out);
-    let place = r.place;
     say(b"split ");
     say(name);
     say(b" ");
     say(path);
-    answer(r.number, place);
+    answer(r.refusal);
     given(r.length, out);
 }
 
@@ -63,12 +62,11 @@ fn combine(a: &[u8], b: &[u8], out: &mut [u8]) {
     let m = load(a, &mut first);
     let n = load(b, &mut second);
     let r = join_combine::combine(&first[..m], &second[..n], out);
-    let place = r.place;
     say(b"combine ");
     say(a);
     say(b" ");
     say(b);
-    answer(r.number, place);
+    answer(r.refusal);
     figure(r.file);
     given(r.length, out);
 }
@@ -94,12 +92,11 @@ fn groups() {
 fn group(path: &[u8], n: u64) {
     let mut file = io::buffer();
     let k = load(path, &mut file);
-    let r = part_groups::group_refusal(&file[..k], n);
-    let place = r.place;
+    let why = part_groups::group_refusal(&file[..k], n);
     say(b"group ");
     say(path);
     figure(n);
-    answer(r.number, place);
+    answer(why);
     say(b"\n");
     say(part_groups::group(&file[..k], n));
 }
@@ -116,13 +113,12 @@ fn accounts() {
 fn account(path: &[u8], g: u64, n: u64) {
     let mut file = io::buffer();
     let k = load(path, &mut file);
-    let r = part_groups::account_refusal(&file[..k], g, n);
-    let place = r.place;
+    let why = part_groups::account_refusal(&file[..k], g, n);
     say(b"account ");
     say(path);
     figure(g);
     figure(n);
-    answer(r.number, place);
+    answer(why);
     say(b"\n");
     say(part_groups::account(&file[..k], g, n));
 }
@@ -141,13 +137,12 @@ fn detail(path: &[u8], g: u64, a: u64, n: u64) {
     let mut file = io::buffer();
     let k = load(path, &mut file);
     let d = part_details::detail(&file[..k], g, a, n);
-    let place = d.place;
     say(b"detail ");
     say(path);
     figure(g);
     figure(a);
     figure(n);
-    answer(d.number, place);
+    answer(d.refusal);
     figure(d.type_code);
     if d.amount_given {
         figure(d.amount);
@@ -172,9 +167,10 @@ fn load(path: &[u8], buf: &mut [u8]) -> usize
 }
 
 // A colon, and a refusal's number and place.
-fn answer(number: u64, place: Place) {
+fn answer(why: Refusal) {
+    let place = why.place;
     say(b":");
-    figure(number);
+    figure(why.number);
     figure(place.0 as u64);
 }
 

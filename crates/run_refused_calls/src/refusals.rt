@@ -1,19 +1,19 @@
 // Calls that are refused: 19, 20, 10 and 15. Each leaves all that was written as it stood.
 use crate::amounts::minus;
 use crate::amounts::plus;
-use crate::printing::behind;
+use crate::printing::after;
 use crate::printing::print_answer;
 use crate::printing::print_file;
 use write_line::MaybeAmount;
 use write_line::MaybeCount;
 use write_state::Writer;
 
-// A writer behind a header, a group and an account without an item.
+// A writer after a header, a group and an account without an item.
 fn in_account(out: &mut [u8; 4096]) -> Writer {
     let w = Writer::new();
-    let w = behind(write_calls::header(w, b"A", b"B", b"240229", b"0000", b"0", out));
-    let w = behind(write_calls::group(w, b"B", b"A", b"1", b"240229", b"", b"", b"", out));
-    behind(write_calls::account(
+    let w = after(write_calls::header(w, b"A", b"B", b"240229", b"0000", b"0", out));
+    let w = after(write_calls::group(w, b"B", b"A", b"1", b"240229", b"", b"", b"", out));
+    after(write_calls::account(
         w,
         b"7",
         b"",
@@ -58,7 +58,7 @@ fn try_detail(
 
 // A detail without references and text.
 fn short_detail(w: Writer, type_code: &[u8], amount: MaybeAmount, out: &mut [u8; 4096]) -> Writer {
-    behind(write_calls::detail(w, type_code, amount, b"", b"", b"", out))
+    after(write_calls::detail(w, type_code, amount, b"", b"", b"", out))
 }
 
 // 19: calls out of turn.
@@ -74,14 +74,14 @@ pub fn out_of_turn(out: &mut [u8; 4096]) {
         write_calls::end_group(w, out),
     );
     try_item(b"item after an account with none", w, out);
-    behind_a_detail(w, out);
+    after_a_detail(w, out);
 }
 
-// 19: behind a detail no further item, behind its account no detail.
-fn behind_a_detail(w: Writer, out: &mut [u8; 4096]) {
+// 19: after a detail no further item, after its account no detail.
+fn after_a_detail(w: Writer, out: &mut [u8; 4096]) {
     let w = short_detail(w, b"165", plus(1), out);
     try_item(b"item after a detail", w, out);
-    let w = behind(write_calls::end_account(w, out));
+    let w = after(write_calls::end_account(w, out));
     try_detail(b"detail after its account", w, b"165", plus(1), b"", out);
     print_file(w, out);
 }
@@ -129,6 +129,6 @@ pub fn too_much(out: &mut [u8; 4096]) {
         b"slice of 10 bytes",
         write_calls::end_account(w, &mut short[0..10]),
     );
-    let w = behind(write_calls::end_account(w, out));
+    let w = after(write_calls::end_account(w, out));
     print_file(w, out);
 }

@@ -1,6 +1,6 @@
 // Reads a file of up to 65,536 bytes and writes one line: its summary, its refusal, or that it is too long.
-use base_quantities::Place;
 use base_quantities::Units;
+use base_refusals::Refusal;
 use base_totals::Summary;
 use libc::STDOUT_FILENO;
 use read_file::Verdict;
@@ -29,7 +29,7 @@ fn more_waits(fd: i32, n: usize) -> bool {
 fn print_verdict(verdict: Verdict) {
     match verdict {
         Verdict::Accepted(s) => print_summary(s),
-        Verdict::Refused(number, place) => print_refusal(number, place),
+        Verdict::Refused(why) => print_refusal(why),
     }
 }
 
@@ -47,9 +47,10 @@ fn print_summary(s: Summary) {
 }
 
 // `refused`, the number and the place.
-fn print_refusal(number: u64, place: Place) {
+fn print_refusal(why: Refusal) {
+    let place = why.place;
     io::write_all(STDOUT_FILENO, b"refused");
-    print_figure(number);
+    print_figure(why.number);
     print_figure(place.0 as u64);
     io::write_all(STDOUT_FILENO, b"\n");
 }

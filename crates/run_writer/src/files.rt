@@ -1,7 +1,7 @@
 // Two files: K1, and one with every call of the writer.
 use run_refused_calls::amounts::minus;
 use run_refused_calls::amounts::plus;
-use run_refused_calls::printing::behind;
+use run_refused_calls::printing::after;
 use write_line::MaybeAmount;
 use write_line::MaybeCount;
 use write_state::Writer;
@@ -9,7 +9,7 @@ use write_state::Writer;
 // K1 of document 01; the writer leaves the 16's funds empty.
 pub fn k1(out: &mut [u8; 4096]) -> Writer {
     let w = Writer::new();
-    let w = behind(write_calls::header(
+    let w = after(write_calls::header(
         w,
         b"122099999",
         b"123456789",
@@ -18,7 +18,7 @@ pub fn k1(out: &mut [u8; 4096]) -> Writer {
         b"1",
         out,
     ));
-    let w = behind(write_calls::group(
+    let w = after(write_calls::group(
         w,
         b"031001234",
         b"122099999",
@@ -30,7 +30,7 @@ pub fn k1(out: &mut [u8; 4096]) -> Writer {
         out,
     ));
     let w = status_account(w, b"0975312468", b"USD", minus(500), out);
-    let w = behind(write_calls::detail(
+    let w = after(write_calls::detail(
         w,
         b"165",
         plus(1500),
@@ -50,7 +50,7 @@ fn status_account(
     amount: MaybeAmount,
     out: &mut [u8; 4096],
 ) -> Writer {
-    behind(write_calls::account(
+    after(write_calls::account(
         w,
         number,
         currency,
@@ -64,15 +64,15 @@ fn status_account(
 
 // The ends of account, group and file.
 fn end_all(w: Writer, out: &mut [u8; 4096]) -> Writer {
-    let w = behind(write_calls::end_account(w, out));
-    let w = behind(write_calls::end_group(w, out));
-    behind(write_calls::end_file(w, out))
+    let w = after(write_calls::end_account(w, out));
+    let w = after(write_calls::end_group(w, out));
+    after(write_calls::end_file(w, out))
 }
 
 // A file of two groups with every call.
 pub fn every_call(out: &mut [u8; 4096]) -> Writer {
     let w = Writer::new();
-    let w = behind(write_calls::header(
+    let w = after(write_calls::header(
         w,
         b"BANK A",
         b"0087654",
@@ -82,7 +82,7 @@ pub fn every_call(out: &mut [u8; 4096]) -> Writer {
         out,
     ));
     let w = two_accounts(w, out);
-    let w = behind(write_calls::group(
+    let w = after(write_calls::group(
         w,
         b"031001234",
         b"BANK A",
@@ -99,15 +99,15 @@ pub fn every_call(out: &mut [u8; 4096]) -> Writer {
 
 // A group for no receiver, with an account without items and one with items.
 fn two_accounts(w: Writer, out: &mut [u8; 4096]) -> Writer {
-    let w = behind(write_calls::group(w, b"", b"BANK A", b"1", b"240228", b"", b"USD", b"", out));
+    let w = after(write_calls::group(w, b"", b"BANK A", b"1", b"240228", b"", b"USD", b"", out));
     let w = without_items(w, out);
     let w = with_items(w, out);
-    behind(write_calls::end_group(w, out))
+    after(write_calls::end_group(w, out))
 }
 
 // An account without an item, and a detail without an amount.
 fn without_items(w: Writer, out: &mut [u8; 4096]) -> Writer {
-    let w = behind(write_calls::account(
+    let w = after(write_calls::account(
         w,
         b"0012345",
         b"",
@@ -117,7 +117,7 @@ fn without_items(w: Writer, out: &mut [u8; 4096]) -> Writer {
         MaybeCount::NoCount,
         out,
     ));
-    let w = behind(write_calls::detail(
+    let w = after(write_calls::detail(
         w,
         b"890",
         MaybeAmount::NoAmount,
@@ -126,20 +126,20 @@ fn without_items(w: Writer, out: &mut [u8; 4096]) -> Writer {
         b"PLEASE CALL 9/5, ROOM 7",
         out,
     ));
-    behind(write_calls::end_account(w, out))
+    after(write_calls::end_account(w, out))
 }
 
 // An account with three items, a credit and a debit.
 fn with_items(w: Writer, out: &mut [u8; 4096]) -> Writer {
     let w = status_account(w, b"0099887766", b"CAD", minus(250_075), out);
-    let w = behind(write_calls::item(w, b"100", plus(300_000), MaybeCount::Given(2), out));
-    let w = behind(write_calls::item(w, b"400", plus(50_000), MaybeCount::NoCount, out));
+    let w = after(write_calls::item(w, b"100", plus(300_000), MaybeCount::Given(2), out));
+    let w = after(write_calls::item(w, b"400", plus(50_000), MaybeCount::NoCount, out));
     credit_and_debit(w, out)
 }
 
 // A credit without text, a debit, and the account's end.
 fn credit_and_debit(w: Writer, out: &mut [u8; 4096]) -> Writer {
-    let w = behind(write_calls::detail(w, b"165", plus(300_000), b"DD1620", b"REF 7", b"", out));
-    let w = behind(write_calls::detail(w, b"475", plus(50_000), b"", b"", b"CHECK 000123", out));
-    behind(write_calls::end_account(w, out))
+    let w = after(write_calls::detail(w, b"165", plus(300_000), b"DD1620", b"REF 7", b"", out));
+    let w = after(write_calls::detail(w, b"475", plus(50_000), b"", b"", b"CHECK 000123", out));
+    after(write_calls::end_account(w, out))
 }

@@ -1,18 +1,23 @@
-// The writer of document 01: each call takes the state by value and hands back its answer with the state behind it. The line is drafted in a space
-// of its own, by `entries`; `closing` decides whether it is written.
+// The writer of document 01: each call takes the state by value and hands back its answer with the state after it. The line is drafted in a space
+// of its own, by `write_records`; `write_commit` decides whether it is written.
 use base_codes::Code;
 use base_quantities::Records;
 use base_quantities::Units;
+use base_totals::Summary;
+use write_line::LINE_SPACE;
 use write_line::MaybeAmount;
 use write_line::MaybeCount;
 use write_state::Writer;
 use write_state::Written;
 ghost use mathlib.Core.Path.{_≡_};
 ghost use mathlib.Core.Bool.{true};
-ghost use Rattle.write_line.specs.Drafts.{amountGiven};
+ghost use Rattle.write_line.specs.DraftMeaning.{amountGiven};
 ghost use Rattle.rules.specs.Writer as rules;
-ghost use Rattle.write_state.specs.States.{writerMeant, writtenMeant};
-ghost use Rattle.write_calls.specs.Items.{itemMeant, itemGiven};
+ghost use Rattle.base_codes.specs.CodeMeaning.{codeMeant};
+ghost use Rattle.base_totals.specs.SummaryMeaning.{summaryMeant};
+ghost use Rattle.write_state.specs.WriterMeaning.{writerMeant, writtenMeant};
+ghost use Rattle.write_calls.specs.EndLines.{ended};
+ghost use Rattle.write_calls.specs.ItemMeaning.{itemMeant, itemGiven};
 
 // An account with an item, which may be empty.
 fn open_account(
@@ -24,13 +29,15 @@ fn open_account(
     count: MaybeCount,
     out: &mut [u8],
 ) -> Written
-    ensures { λ r. ⌜ writtenMeant r (now (out .exit)) ≡ rules.write (writerMeant w) (rules.account (now (number .entry)) (now (currency .entry)) (itemGiven true (now («type_code» .entry)) amount count)) (now (out .entry)) ⌝ }
+    ensures { λ r. ⌜ writtenMeant r (now (out .exit)) ≡ rules.write (writerMeant w)
+        (rules.writeAccount (now (number .entry)) (now (currency .entry)) (itemGiven true (now («type_code» .entry)) amount count))
+        (now (out .entry)) ⌝ }
 {
-    let mut space = write_line::line_space();
+    let mut space = [0u8; LINE_SPACE];
     let d = write_records::account(&mut space, number, currency, type_code, amount, count);
     let sum = write_line::sum_given(amount);
     let items = !read_values::is_empty(type_code);
-    write_commit::finish(w, Code::AccountHeader, &space, d, sum, items, out)
+    write_commit::commit(w, Code::AccountHeader, &space, d, sum, items, out)
 }
 
 // The line 01.
@@ -43,11 +50,13 @@ pub fn header(
     file_number: &[u8],
     out: &mut [u8],
 ) -> Written
-    ensures { λ r. ⌜ writtenMeant r (now (out .exit)) ≡ rules.write (writerMeant w) (rules.header (now (sender .entry)) (now (receiver .entry)) (now (date .entry)) (now (time .entry)) (now («file_number» .entry))) (now (out .entry)) ⌝ }
+    ensures { λ r. ⌜ writtenMeant r (now (out .exit)) ≡ rules.write (writerMeant w)
+        (rules.writeHeader (now (sender .entry)) (now (receiver .entry)) (now (date .entry)) (now (time .entry)) (now («file_number» .entry)))
+        (now (out .entry)) ⌝ }
 {
-    let mut space = write_line::line_space();
+    let mut space = [0u8; LINE_SPACE];
     let d = write_records::header(&mut space, sender, receiver, date, time, file_number);
-    write_commit::finish(w, Code::FileHeader, &space, d, Units::none(), false, out)
+    write_commit::commit(w, Code::FileHeader, &space, d, Units::none(), false, out)
 }
 
 // The line 02.
@@ -62,9 +71,11 @@ pub fn group(
     modifier: &[u8],
     out: &mut [u8],
 ) -> Written
-    ensures { λ r. ⌜ writtenMeant r (now (out .exit)) ≡ rules.write (writerMeant w) (rules.group (now (receiver .entry)) (now (originator .entry)) (now (status .entry)) (now (date .entry)) (now (time .entry)) (now (currency .entry)) (now (modifier .entry))) (now (out .entry)) ⌝ }
+    ensures { λ r. ⌜ writtenMeant r (now (out .exit)) ≡ rules.write (writerMeant w)
+        (rules.writeGroup (now (receiver .entry)) (now (originator .entry)) (now (status .entry)) (now (date .entry)) (now (time .entry)) (now (currency .entry)) (now (modifier .entry)))
+        (now (out .entry)) ⌝ }
 {
-    let mut space = write_line::line_space();
+    let mut space = [0u8; LINE_SPACE];
     let d = write_records::group(
         &mut space,
         receiver,
@@ -75,7 +86,7 @@ pub fn group(
         currency,
         modifier,
     );
-    write_commit::finish(w, Code::GroupHeader, &space, d, Units::none(), false, out)
+    write_commit::commit(w, Code::GroupHeader, &space, d, Units::none(), false, out)
 }
 
 // The line 03, with an item or without one.
@@ -89,7 +100,9 @@ pub fn account(
     count: MaybeCount,
     out: &mut [u8],
 ) -> Written
-    ensures { λ r. ⌜ writtenMeant r (now (out .exit)) ≡ rules.write (writerMeant w) (rules.account (now (number .entry)) (now (currency .entry)) (itemGiven «item_given» (now («type_code» .entry)) amount count)) (now (out .entry)) ⌝ }
+    ensures { λ r. ⌜ writtenMeant r (now (out .exit)) ≡ rules.write (writerMeant w)
+        (rules.writeAccount (now (number .entry)) (now (currency .entry)) (itemGiven «item_given» (now («type_code» .entry)) amount count))
+        (now (out .entry)) ⌝ }
 {
     if item_given {
         return open_account(w, number, currency, type_code, amount, count, out);
@@ -114,12 +127,14 @@ pub fn item(
     count: MaybeCount,
     out: &mut [u8],
 ) -> Written
-    ensures { λ r. ⌜ writtenMeant r (now (out .exit)) ≡ rules.write (writerMeant w) (rules.further (itemMeant (now («type_code» .entry)) amount count)) (now (out .entry)) ⌝ }
+    ensures { λ r. ⌜ writtenMeant r (now (out .exit)) ≡ rules.write (writerMeant w)
+        (rules.writeItem (itemMeant (now («type_code» .entry)) amount count))
+        (now (out .entry)) ⌝ }
 {
-    let mut space = write_line::line_space();
+    let mut space = [0u8; LINE_SPACE];
     let d = write_records::item(&mut space, type_code, amount, count);
     let sum = write_line::sum_given(amount);
-    write_commit::finish(w, Code::Continuation, &space, d, sum, true, out)
+    write_commit::commit(w, Code::Continuation, &space, d, sum, true, out)
 }
 
 // The line 16.
@@ -132,9 +147,11 @@ pub fn detail(
     text: &[u8],
     out: &mut [u8],
 ) -> Written
-    ensures { λ r. ⌜ writtenMeant r (now (out .exit)) ≡ rules.write (writerMeant w) (rules.transaction (now («type_code» .entry)) (amountGiven amount) (now («bank_reference» .entry)) (now («customer_reference» .entry)) (now (text .entry))) (now (out .entry)) ⌝ }
+    ensures { λ r. ⌜ writtenMeant r (now (out .exit)) ≡ rules.write (writerMeant w)
+        (rules.writeDetail (now («type_code» .entry)) (amountGiven amount) (now («bank_reference» .entry)) (now («customer_reference» .entry)) (now (text .entry)))
+        (now (out .entry)) ⌝ }
 {
-    let mut space = write_line::line_space();
+    let mut space = [0u8; LINE_SPACE];
     let d = write_records::detail(
         &mut space,
         type_code,
@@ -144,18 +161,18 @@ pub fn detail(
         text,
     );
     let sum = write_line::sum_given(amount);
-    write_commit::finish(w, Code::Detail, &space, d, sum, false, out)
+    write_commit::commit(w, Code::Detail, &space, d, sum, false, out)
 }
 
 // The line 49.
 pub fn end_account(w: Writer, out: &mut [u8]) -> Written
-    ensures { λ r. ⌜ writtenMeant r (now (out .exit)) ≡ rules.write (writerMeant w) rules.accountEnd (now (out .entry)) ⌝ }
+    ensures { λ r. ⌜ writtenMeant r (now (out .exit)) ≡ rules.write (writerMeant w) rules.endAccount (now (out .entry)) ⌝ }
 {
     let account = w.account;
     let records = account.records.add(Records(1));
-    let mut space = write_line::line_space();
+    let mut space = [0u8; LINE_SPACE];
     let d = write_records::account_end(&mut space, account.total, records.0);
-    write_commit::finish(
+    write_commit::commit(
         w,
         Code::AccountTrailer,
         &space,
@@ -166,36 +183,28 @@ pub fn end_account(w: Writer, out: &mut [u8]) -> Written
     )
 }
 
+// The line 98 or 99: the total, this count, and the records with itself.
+fn end(w: Writer, code: Code, summary: Summary, count: u64, out: &mut [u8]) -> Written
+    ensures { λ r. ⌜ writtenMeant r (now (out .exit)) ≡ ended (writerMeant w) (codeMeant code) (summaryMeant summary) count (now (out .entry)) ⌝ }
+{
+    let records = summary.records.add(Records(1));
+    let mut space = [0u8; LINE_SPACE];
+    let d = write_records::trailer(&mut space, code, summary.total, count, records.0);
+    write_commit::commit(w, code, &space, d, Units::none(), false, out)
+}
+
 // The line 98.
 pub fn end_group(w: Writer, out: &mut [u8]) -> Written
-    ensures { λ r. ⌜ writtenMeant r (now (out .exit)) ≡ rules.write (writerMeant w) rules.groupEnd (now (out .entry)) ⌝ }
+    ensures { λ r. ⌜ writtenMeant r (now (out .exit)) ≡ rules.write (writerMeant w) rules.endGroup (now (out .entry)) ⌝ }
 {
     let group = w.group;
-    let records = group.records.add(Records(1));
-    let mut space = write_line::line_space();
-    let d = write_records::trailer(
-        &mut space,
-        Code::GroupTrailer,
-        group.total,
-        group.accounts,
-        records.0,
-    );
-    write_commit::finish(w, Code::GroupTrailer, &space, d, Units::none(), false, out)
+    end(w, Code::GroupTrailer, group, group.accounts, out)
 }
 
 // The line 99.
 pub fn end_file(w: Writer, out: &mut [u8]) -> Written
-    ensures { λ r. ⌜ writtenMeant r (now (out .exit)) ≡ rules.write (writerMeant w) rules.fileEnd (now (out .entry)) ⌝ }
+    ensures { λ r. ⌜ writtenMeant r (now (out .exit)) ≡ rules.write (writerMeant w) rules.endFile (now (out .entry)) ⌝ }
 {
     let file = w.file;
-    let records = file.records.add(Records(1));
-    let mut space = write_line::line_space();
-    let d = write_records::trailer(
-        &mut space,
-        Code::FileTrailer,
-        file.total,
-        file.groups,
-        records.0,
-    );
-    write_commit::finish(w, Code::FileTrailer, &space, d, Units::none(), false, out)
+    end(w, Code::FileTrailer, file, file.groups, out)
 }

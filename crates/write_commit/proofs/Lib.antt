@@ -1,4 +1,4 @@
 -- Facts that the proofs of the functions hand over.
-pub mod Rooms
-pub mod Sums
-pub mod Closings
+pub mod RoomLaws
+pub mod StateSums
+pub mod CommitLaws

@@ -1,3 +1,3 @@
 -- A line written, in the rules' terms.
-pub mod Answers
-pub mod Closing
+pub mod CommitAnswers
+pub mod Commit

@@ -1,4 +1,4 @@
 -- Facts that the proofs of the functions hand over.
-pub mod Pieces
-pub mod Spaces
-pub mod Chains
+pub mod DraftBytes
+pub mod LineSpace
+pub mod FieldChains

@@ -1,2 +1,2 @@
 -- What the code's structs and enums mean in the rules' terms.
-pub mod Drafts
+pub mod DraftMeaning

@@ -1,7 +1,9 @@
 // A line in the making: it stands in a space of its own until the call that writes it is accepted.
 use base_codes::Code;
 use base_digits::Amount;
+use base_limits::LONGEST_NAME;
 use base_quantities::Units;
+use base_refusals::WRONG_FIELD_GIVEN;
 use read_wanted::Taken;
 use read_wanted::want::Want;
 ghost use mathlib.Core.Path.{_≡_};
@@ -9,19 +11,13 @@ ghost use mathlib.Core.Bool.{cond};
 ghost use mathlib.Core.List.{[], _∷_};
 ghost use Prim.Native.Nat.{_+_};
 ghost use lib.Dec.{leb};
-ghost use lib.ListN.{length, take};
-ghost use Rattle.rules.specs.Bytes.{clean, inField};
-ghost use Rattle.rules.specs.Numbers.{asSum, decimal, totalBytes};
-ghost use Rattle.rules.specs.Lines.{codeBytes};
+ghost use lib.ListN.{length};
+ghost use Rattle.rules.specs.Numbers.{decimal, totalBytes};
 ghost use Rattle.rules.specs.Writer.{placed, goodText, sumGiven, amountBytes, countBytes};
-ghost use Rattle.base_codes.specs.Meanings.{codeMeant};
-ghost use Rattle.base_quantities.specs.Kinds.{sumMeant};
-ghost use Rattle.base_digits.specs.Reading.{amountMeant};
+ghost use Rattle.base_codes.specs.CodeMeaning.{codeMeant};
+ghost use Rattle.base_quantities.specs.QuantityMeanings.{sumMeant};
 ghost use Rattle.read_wanted.specs.Wants.{wantedOf};
-ghost use Rattle.write_line.specs.Drafts.{draftOf, wanting, begun, fieldAdded, textAdded, amountGiven, countGiven};
-
-// The longest field, a text included.
-pub const LONGEST: usize = 76;
+ghost use Rattle.write_line.specs.DraftMeaning.{lineSpace, draftOf, wanting, begun, fieldAdded, textAdded, amountGiven, countGiven};
 
 // What is wanted next, or that a field was refused; and how many bytes of the line stand.
 pub struct Draft {
@@ -41,14 +37,10 @@ pub enum MaybeCount {
     NoCount,
 }
 
-// ---- spaces
+// The space of a line in the making: room for a code, and eight fields of 76 bytes with their marks.
+pub const LINE_SPACE: usize = 640;
 
-// Room for any line: a code, and eight fields of 76 bytes with their marks.
-pub fn line_space() -> [u8; 640]
-    ensures { λ r. ⌜ 640 ≡ length r ⌝ }
-{
-    [0; 640]
-}
+// ---- bytes
 
 // Room for any number: a sign and 20 digits.
 fn number_space() -> [u8; 21]
@@ -58,59 +50,22 @@ fn number_space() -> [u8; 21]
 }
 
 // The bytes at a place of out; nothing changed where they don't fit.
-pub fn put(out: &mut [u8], at: usize, src: &[u8])
+pub fn put_at(out: &mut [u8], at: usize, src: &[u8])
     ensures { λ _. ⌜ now (out .exit) ≡ cond (leb (at + length (now (src .entry))) (length (now (out .entry)))) (placed at (now (src .entry)) (now (out .entry))) (now (out .entry)) ⌝ }
 {
     if out.len() < at {
         return;
     }
-    if out.len() - at < src.len() {
-        return;
-    }
-    let mut i: usize = 0;
-    while i < src.len() {
-        out[at + i] = src[i];
-        i += 1;
-    }
+    base_slices::put(&mut out[at..], src);
 }
 
-// ---- bytes
-
-// A byte that may stand in a field.
-fn in_field(b: u8) -> bool
-    ensures { λ r. ⌜ r ≡ inField b ⌝ }
-{
-    if b < b' ' {
-        return false;
-    }
-    if b'~' < b {
-        return false;
-    }
-    if b == b',' {
-        return false;
-    }
-    b != b'/'
-}
-
-// Bytes that may all stand in a field.
-fn is_clean(f: &[u8]) -> bool
-    ensures { λ r. ⌜ r ≡ clean (now (f .entry)) ⌝ }
-{
-    let mut i: usize = 0;
-    while i < f.len() {
-        if !in_field(f[i]) {
-            return false;
-        }
-        i += 1;
-    }
-    true
-}
+// ---- fields
 
 // 0 to 76 bytes, none not allowed, no slash first, no trailing blank.
 fn is_good_text(t: &[u8]) -> bool
     ensures { λ r. ⌜ r ≡ goodText (now (t .entry)) ⌝ }
 {
-    if LONGEST < t.len() {
+    if LONGEST_NAME < t.len() {
         return false;
     }
     if !base_digits::all_between(t, b' ', b'~') {
@@ -125,63 +80,38 @@ fn is_good_text(t: &[u8]) -> bool
     t[t.len() - 1] != b' '
 }
 
-// ---- fields
-
-// The code's bytes.
-fn code_bytes(code: Code) -> [u8; 3]
-    ensures { λ r. ⌜ r ≡ codeBytes (codeMeant code) ⌝ }
+// A line with its code, and this wanted after it.
+pub fn begin(line: &mut [u8; LINE_SPACE], code: Code, want: Want) -> Draft
+    ensures { λ r. ⌜ draftOf (now (line .exit)) r ≡ begun (codeMeant code) (wantedOf want) ⌝ }
 {
-    match code {
-        Code::FileHeader => [b'0', b'1', b','],
-        Code::GroupHeader => [b'0', b'2', b','],
-        Code::AccountHeader => [b'0', b'3', b','],
-        Code::Detail => [b'1', b'6', b','],
-        Code::AccountTrailer => [b'4', b'9', b','],
-        Code::GroupTrailer => [b'9', b'8', b','],
-        Code::FileTrailer => [b'9', b'9', b','],
-        Code::Continuation => [b'8', b'8', b','],
-    }
-}
-
-// A line with its code, and this wanted behind it.
-pub fn begin(line: &mut [u8], code: Code, want: Want) -> Draft
-    ensures { λ r. ⌜ draftOf (now (line .exit)) r ≡ begun (length (now (line .entry))) (codeMeant code) (wantedOf want) ⌝ }
-{
-    if line.len() < 3 {
-        return Draft {
-            taken: Taken::Refused(20),
-            len: 0,
-        };
-    }
-    let bytes = code_bytes(code);
-    put(line, 0, &bytes[0..3]);
+    let digits = base_codes::digits_of(code);
+    let bytes = [digits.0, digits.1, b','];
+    put_at(line, 0, &bytes[0..3]);
     Draft {
         taken: Taken::Next(want),
         len: 3,
     }
 }
 
-// A field as the first of what is wanted, and the mark behind it.
+// A field as the first of what is wanted, and the mark after it.
 fn add_wanted(line: &mut [u8], len: usize, want: Want, f: &[u8], mark: u8) -> Draft
-    ensures { λ r. ⌜ draftOf (now (line .exit)) r ≡ fieldAdded (length (now (line .entry))) (now (f .entry)) mark (draftOf (now (line .entry)) (wanting want len)) ⌝ }
+    requires { ⌜ length (now line) ≡ lineSpace ⌝ }
+    ensures { λ r. ⌜ draftOf (now (line .exit)) r ≡ fieldAdded (now (f .entry)) mark (draftOf (now (line .entry)) (wanting want len)) ⌝ }
 {
     let refused = Draft {
-        taken: Taken::Refused(20),
+        taken: Taken::Refused(WRONG_FIELD_GIVEN),
         len: 0,
     };
-    if line.len() < len {
+    if LINE_SPACE - LONGEST_NAME - 1 < len {
         return refused;
     }
-    if line.len() - len < LONGEST + 1 {
+    if LONGEST_NAME < f.len() {
         return refused;
     }
-    if LONGEST < f.len() {
+    if !read_values::is_clean(f) {
         return refused;
     }
-    if !is_clean(f) {
-        return refused;
-    }
-    put(line, len, f);
+    put_at(line, len, f);
     line[len + f.len()] = mark;
     Draft {
         taken: read_fields::take_field(want, f),
@@ -189,9 +119,9 @@ fn add_wanted(line: &mut [u8], len: usize, want: Want, f: &[u8], mark: u8) -> Dr
     }
 }
 
-// The line with a field more and the mark behind it.
-pub fn add(line: &mut [u8], d: Draft, f: &[u8], mark: u8) -> Draft
-    ensures { λ r. ⌜ draftOf (now (line .exit)) r ≡ fieldAdded (length (now (line .entry))) (now (f .entry)) mark (draftOf (now (line .entry)) d) ⌝ }
+// The line with a field more and the mark after it.
+pub fn add(line: &mut [u8; LINE_SPACE], d: Draft, f: &[u8], mark: u8) -> Draft
+    ensures { λ r. ⌜ draftOf (now (line .exit)) r ≡ fieldAdded (now (f .entry)) mark (draftOf (now (line .entry)) d) ⌝ }
 {
     let taken = d.taken;
     match taken {
@@ -201,24 +131,24 @@ pub fn add(line: &mut [u8], d: Draft, f: &[u8], mark: u8) -> Draft
 }
 
 // The line with an empty field more.
-pub fn add_empty(line: &mut [u8], d: Draft, mark: u8) -> Draft
-    ensures { λ r. ⌜ draftOf (now (line .exit)) r ≡ fieldAdded (length (now (line .entry))) [] mark (draftOf (now (line .entry)) d) ⌝ }
+pub fn add_empty(line: &mut [u8; LINE_SPACE], d: Draft, mark: u8) -> Draft
+    ensures { λ r. ⌜ draftOf (now (line .exit)) r ≡ fieldAdded [] mark (draftOf (now (line .entry)) d) ⌝ }
 {
     let none = [0u8];
     add(line, d, &none[0..0], mark)
 }
 
 // The line with version 2, its last field.
-pub fn add_version(line: &mut [u8], d: Draft) -> Draft
-    ensures { λ r. ⌜ draftOf (now (line .exit)) r ≡ fieldAdded (length (now (line .entry))) (50 ∷ []) 47 (draftOf (now (line .entry)) d) ⌝ }
+pub fn add_version(line: &mut [u8; LINE_SPACE], d: Draft) -> Draft
+    ensures { λ r. ⌜ draftOf (now (line .exit)) r ≡ fieldAdded (50 ∷ []) 47 (draftOf (now (line .entry)) d) ⌝ }
 {
     let two = [b'2'];
     add(line, d, &two[0..1], b'/')
 }
 
 // The line with a sum's number more.
-pub fn add_total(line: &mut [u8], d: Draft, total: Units, mark: u8) -> Draft
-    ensures { λ r. ⌜ draftOf (now (line .exit)) r ≡ fieldAdded (length (now (line .entry))) (totalBytes (sumMeant total)) mark (draftOf (now (line .entry)) d) ⌝ }
+pub fn add_total(line: &mut [u8; LINE_SPACE], d: Draft, total: Units, mark: u8) -> Draft
+    ensures { λ r. ⌜ draftOf (now (line .exit)) r ≡ fieldAdded (totalBytes (sumMeant total)) mark (draftOf (now (line .entry)) d) ⌝ }
 {
     let mut space = number_space();
     let k = base_numerals::put_total(&mut space, total);
@@ -226,22 +156,12 @@ pub fn add_total(line: &mut [u8], d: Draft, total: Units, mark: u8) -> Draft
 }
 
 // The line with a count more.
-pub fn add_count(line: &mut [u8], d: Draft, n: u64, mark: u8) -> Draft
-    ensures { λ r. ⌜ draftOf (now (line .exit)) r ≡ fieldAdded (length (now (line .entry))) (decimal n) mark (draftOf (now (line .entry)) d) ⌝ }
+pub fn add_count(line: &mut [u8; LINE_SPACE], d: Draft, n: u64, mark: u8) -> Draft
+    ensures { λ r. ⌜ draftOf (now (line .exit)) r ≡ fieldAdded (decimal n) mark (draftOf (now (line .entry)) d) ⌝ }
 {
     let mut space = number_space();
     let k = base_numerals::put_digits(&mut space, n);
     add(line, d, &space[0..k], mark)
-}
-
-// An amount as a sum.
-fn units_of(a: Amount) -> Units
-    ensures { λ r. ⌜ sumMeant r ≡ asSum (amountMeant a) ⌝ }
-{
-    if a.negative {
-        return Units(0, a.magnitude);
-    }
-    Units(a.magnitude, 0)
 }
 
 // What an amount or none adds.
@@ -249,24 +169,24 @@ pub fn sum_given(amount: MaybeAmount) -> Units
     ensures { λ r. ⌜ sumMeant r ≡ sumGiven (amountGiven amount) ⌝ }
 {
     match amount {
-        MaybeAmount::Given(a) => units_of(a),
+        MaybeAmount::Given(a) => Units::of(a.negative, a.magnitude),
         MaybeAmount::NoAmount => Units::none(),
     }
 }
 
 // The line with an amount more, or with an empty field where there is none.
-pub fn add_amount(line: &mut [u8], d: Draft, amount: MaybeAmount, mark: u8) -> Draft
-    ensures { λ r. ⌜ draftOf (now (line .exit)) r ≡ fieldAdded (length (now (line .entry))) (amountBytes (amountGiven amount)) mark (draftOf (now (line .entry)) d) ⌝ }
+pub fn add_amount(line: &mut [u8; LINE_SPACE], d: Draft, amount: MaybeAmount, mark: u8) -> Draft
+    ensures { λ r. ⌜ draftOf (now (line .exit)) r ≡ fieldAdded (amountBytes (amountGiven amount)) mark (draftOf (now (line .entry)) d) ⌝ }
 {
     match amount {
-        MaybeAmount::Given(a) => add_total(line, d, units_of(a), mark),
+        MaybeAmount::Given(a) => add_total(line, d, Units::of(a.negative, a.magnitude), mark),
         MaybeAmount::NoAmount => add_empty(line, d, mark),
     }
 }
 
 // The line with a number of items more, or with an empty field where there is none.
-pub fn add_items(line: &mut [u8], d: Draft, count: MaybeCount, mark: u8) -> Draft
-    ensures { λ r. ⌜ draftOf (now (line .exit)) r ≡ fieldAdded (length (now (line .entry))) (countBytes (countGiven count)) mark (draftOf (now (line .entry)) d) ⌝ }
+pub fn add_items(line: &mut [u8; LINE_SPACE], d: Draft, count: MaybeCount, mark: u8) -> Draft
+    ensures { λ r. ⌜ draftOf (now (line .exit)) r ≡ fieldAdded (countBytes (countGiven count)) mark (draftOf (now (line .entry)) d) ⌝ }
 {
     match count {
         MaybeCount::Given(n) => add_count(line, d, n, mark),
@@ -274,18 +194,16 @@ pub fn add_items(line: &mut [u8], d: Draft, count: MaybeCount, mark: u8) -> Draf
     }
 }
 
-// The text's bytes behind the last mark; "/" for an empty one.
+// The text's bytes after the last mark; "/" for an empty one.
 fn put_text(line: &mut [u8], len: usize, want: Want, t: &[u8]) -> Draft
-    ensures { λ r. ⌜ draftOf (now (line .exit)) r ≡ textAdded (length (now (line .entry))) (now (t .entry)) (draftOf (now (line .entry)) (wanting want len)) ⌝ }
+    requires { ⌜ length (now line) ≡ lineSpace ⌝ }
+    ensures { λ r. ⌜ draftOf (now (line .exit)) r ≡ textAdded (now (t .entry)) (draftOf (now (line .entry)) (wanting want len)) ⌝ }
 {
     let refused = Draft {
-        taken: Taken::Refused(20),
+        taken: Taken::Refused(WRONG_FIELD_GIVEN),
         len: 0,
     };
-    if line.len() < len {
-        return refused;
-    }
-    if line.len() - len < LONGEST + 1 {
+    if LINE_SPACE - LONGEST_NAME - 1 < len {
         return refused;
     }
     if !is_good_text(t) {
@@ -298,7 +216,7 @@ fn put_text(line: &mut [u8], len: usize, want: Want, t: &[u8]) -> Draft
             len: len + 1,
         };
     }
-    put(line, len, t);
+    put_at(line, len, t);
     Draft {
         taken: Taken::Next(want),
         len: len + t.len(),
@@ -306,22 +224,12 @@ fn put_text(line: &mut [u8], len: usize, want: Want, t: &[u8]) -> Draft
 }
 
 // The line with its text.
-pub fn add_text(line: &mut [u8], d: Draft, t: &[u8]) -> Draft
-    ensures { λ r. ⌜ draftOf (now (line .exit)) r ≡ textAdded (length (now (line .entry))) (now (t .entry)) (draftOf (now (line .entry)) d) ⌝ }
+pub fn add_text(line: &mut [u8; LINE_SPACE], d: Draft, t: &[u8]) -> Draft
+    ensures { λ r. ⌜ draftOf (now (line .exit)) r ≡ textAdded (now (t .entry)) (draftOf (now (line .entry)) d) ⌝ }
 {
     let taken = d.taken;
     match taken {
         Taken::Next(want) => put_text(line, d.len, want, t),
         Taken::Refused(_) => d,
     }
-}
-
-// The first n bytes, or all where there are fewer.
-pub fn front(s: &[u8], n: usize) -> &[u8]
-    ensures { λ r. ⌜ now r ≡ take n (now (s .entry)) ⌝ }
-{
-    if s.len() < n {
-        return s;
-    }
-    &s[0..n]
 }

@@ -1,2 +1,2 @@
 -- The lines of the calls, as fields added one after the other.
-pub mod Entries
+pub mod RecordLines

@@ -4,30 +4,31 @@ use base_quantities::Units;
 use read_wanted::want;
 use read_wanted::want::Want;
 use write_line::Draft;
+use write_line::LINE_SPACE;
 use write_line::MaybeAmount;
 use write_line::MaybeCount;
 ghost use mathlib.Core.Path.{_≡_};
 ghost use mathlib.Core.List.{[], _∷_};
-ghost use lib.ListN.{length};
 ghost use Rattle.rules.specs.Numbers.{decimal, totalBytes};
 ghost use Rattle.rules.specs.Lines as lines;
 ghost use Rattle.rules.specs.Grammar.{fieldsOf, furtherType};
 ghost use Rattle.rules.specs.Writer.{amountBytes, countBytes};
-ghost use Rattle.base_codes.specs.Meanings.{codeMeant};
-ghost use Rattle.base_quantities.specs.Kinds.{sumMeant};
-ghost use Rattle.write_line.specs.Drafts.{draftOf, textAdded, amountGiven, countGiven};
-ghost use Rattle.write_records.specs.Entries.{lineIn};
+ghost use Rattle.base_codes.specs.CodeMeaning.{codeMeant};
+ghost use Rattle.base_quantities.specs.QuantityMeanings.{sumMeant};
+ghost use Rattle.write_line.specs.DraftMeaning.{draftOf, textAdded, amountGiven, countGiven};
+ghost use Rattle.write_records.specs.RecordLines.{lineIn};
 
 // The line 01: L and block size stay empty, and the version is 2.
 pub fn header(
-    line: &mut [u8],
+    line: &mut [u8; LINE_SPACE],
     sender: &[u8],
     receiver: &[u8],
     date: &[u8],
     time: &[u8],
     file_number: &[u8],
 ) -> Draft
-    ensures { λ r. ⌜ draftOf (now (line .exit)) r ≡ lineIn (length (now (line .entry))) lines.fileHeader (fieldsOf lines.fileHeader) (now (sender .entry) ∷ now (receiver .entry) ∷ now (date .entry) ∷ now (time .entry) ∷ now («file_number» .entry) ∷ [] ∷ [] ∷ (50 ∷ []) ∷ []) 47 ⌝ }
+    ensures { λ r. ⌜ draftOf (now (line .exit)) r ≡ lineIn lines.fileHeader (fieldsOf lines.fileHeader)
+        (now (sender .entry) ∷ now (receiver .entry) ∷ now (date .entry) ∷ now (time .entry) ∷ now («file_number» .entry) ∷ [] ∷ [] ∷ (50 ∷ []) ∷ []) 47 ⌝ }
 {
     let d = write_line::begin(line, Code::FileHeader, want::first_want(Code::FileHeader));
     let d = write_line::add(line, d, sender, b',');
@@ -42,7 +43,7 @@ pub fn header(
 
 // The line 02.
 pub fn group(
-    line: &mut [u8],
+    line: &mut [u8; LINE_SPACE],
     receiver: &[u8],
     originator: &[u8],
     status: &[u8],
@@ -51,7 +52,8 @@ pub fn group(
     currency: &[u8],
     modifier: &[u8],
 ) -> Draft
-    ensures { λ r. ⌜ draftOf (now (line .exit)) r ≡ lineIn (length (now (line .entry))) lines.groupHeader (fieldsOf lines.groupHeader) (now (receiver .entry) ∷ now (originator .entry) ∷ now (status .entry) ∷ now (date .entry) ∷ now (time .entry) ∷ now (currency .entry) ∷ now (modifier .entry) ∷ []) 47 ⌝ }
+    ensures { λ r. ⌜ draftOf (now (line .exit)) r ≡ lineIn lines.groupHeader (fieldsOf lines.groupHeader)
+        (now (receiver .entry) ∷ now (originator .entry) ∷ now (status .entry) ∷ now (date .entry) ∷ now (time .entry) ∷ now (currency .entry) ∷ now (modifier .entry) ∷ []) 47 ⌝ }
 {
     let d = write_line::begin(line, Code::GroupHeader, want::first_want(Code::GroupHeader));
     let d = write_line::add(line, d, receiver, b',');
@@ -65,14 +67,15 @@ pub fn group(
 
 // The line 03: its funds stay empty.
 pub fn account(
-    line: &mut [u8],
+    line: &mut [u8; LINE_SPACE],
     number: &[u8],
     currency: &[u8],
     type_code: &[u8],
     amount: MaybeAmount,
     count: MaybeCount,
 ) -> Draft
-    ensures { λ r. ⌜ draftOf (now (line .exit)) r ≡ lineIn (length (now (line .entry))) lines.accountHeader (fieldsOf lines.accountHeader) (now (number .entry) ∷ now (currency .entry) ∷ now («type_code» .entry) ∷ amountBytes (amountGiven amount) ∷ countBytes (countGiven count) ∷ [] ∷ []) 47 ⌝ }
+    ensures { λ r. ⌜ draftOf (now (line .exit)) r ≡ lineIn lines.accountHeader (fieldsOf lines.accountHeader)
+        (now (number .entry) ∷ now (currency .entry) ∷ now («type_code» .entry) ∷ amountBytes (amountGiven amount) ∷ countBytes (countGiven count) ∷ [] ∷ []) 47 ⌝ }
 {
     let d = write_line::begin(
         line,
@@ -88,8 +91,14 @@ pub fn account(
 }
 
 // A further item's line 88.
-pub fn item(line: &mut [u8], type_code: &[u8], amount: MaybeAmount, count: MaybeCount) -> Draft
-    ensures { λ r. ⌜ draftOf (now (line .exit)) r ≡ lineIn (length (now (line .entry))) lines.continuation (furtherType ∷ []) (now («type_code» .entry) ∷ amountBytes (amountGiven amount) ∷ countBytes (countGiven count) ∷ [] ∷ []) 47 ⌝ }
+pub fn item(
+    line: &mut [u8; LINE_SPACE],
+    type_code: &[u8],
+    amount: MaybeAmount,
+    count: MaybeCount,
+) -> Draft
+    ensures { λ r. ⌜ draftOf (now (line .exit)) r ≡ lineIn lines.continuation (furtherType ∷ [])
+        (now («type_code» .entry) ∷ amountBytes (amountGiven amount) ∷ countBytes (countGiven count) ∷ [] ∷ []) 47 ⌝ }
 {
     let d = write_line::begin(line, Code::Continuation, Want::FurtherType);
     let d = write_line::add(line, d, type_code, b',');
@@ -100,14 +109,15 @@ pub fn item(line: &mut [u8], type_code: &[u8], amount: MaybeAmount, count: Maybe
 
 // The line 16: its funds stay empty, and an empty text is "/".
 pub fn detail(
-    line: &mut [u8],
+    line: &mut [u8; LINE_SPACE],
     type_code: &[u8],
     amount: MaybeAmount,
     bank_reference: &[u8],
     customer_reference: &[u8],
     text: &[u8],
 ) -> Draft
-    ensures { λ r. ⌜ draftOf (now (line .exit)) r ≡ textAdded (length (now (line .entry))) (now (text .entry)) (lineIn (length (now (line .entry))) lines.detail (fieldsOf lines.detail) (now («type_code» .entry) ∷ amountBytes (amountGiven amount) ∷ [] ∷ now («bank_reference» .entry) ∷ now («customer_reference» .entry) ∷ []) 44) ⌝ }
+    ensures { λ r. ⌜ draftOf (now (line .exit)) r ≡ textAdded (now (text .entry)) (lineIn lines.detail (fieldsOf lines.detail)
+        (now («type_code» .entry) ∷ amountBytes (amountGiven amount) ∷ [] ∷ now («bank_reference» .entry) ∷ now («customer_reference» .entry) ∷ []) 44) ⌝ }
 {
     let d = write_line::begin(line, Code::Detail, want::first_want(Code::Detail));
     let d = write_line::add(line, d, type_code, b',');
@@ -119,8 +129,8 @@ pub fn detail(
 }
 
 // The line 49: total and records.
-pub fn account_end(line: &mut [u8], total: Units, records: u64) -> Draft
-    ensures { λ r. ⌜ draftOf (now (line .exit)) r ≡ lineIn (length (now (line .entry))) lines.accountTrailer (fieldsOf lines.accountTrailer) (totalBytes (sumMeant total) ∷ decimal records ∷ []) 47 ⌝ }
+pub fn account_end(line: &mut [u8; LINE_SPACE], total: Units, records: u64) -> Draft
+    ensures { λ r. ⌜ draftOf (now (line .exit)) r ≡ lineIn lines.accountTrailer (fieldsOf lines.accountTrailer) (totalBytes (sumMeant total) ∷ decimal records ∷ []) 47 ⌝ }
 {
     let d = write_line::begin(
         line,
@@ -132,8 +142,14 @@ pub fn account_end(line: &mut [u8], total: Units, records: u64) -> Draft
 }
 
 // The line 98 or 99: total, accounts or groups, and records.
-pub fn trailer(line: &mut [u8], code: Code, total: Units, count: u64, records: u64) -> Draft
-    ensures { λ r. ⌜ draftOf (now (line .exit)) r ≡ lineIn (length (now (line .entry))) (codeMeant code) (fieldsOf (codeMeant code)) (totalBytes (sumMeant total) ∷ decimal count ∷ decimal records ∷ []) 47 ⌝ }
+pub fn trailer(
+    line: &mut [u8; LINE_SPACE],
+    code: Code,
+    total: Units,
+    count: u64,
+    records: u64,
+) -> Draft
+    ensures { λ r. ⌜ draftOf (now (line .exit)) r ≡ lineIn (codeMeant code) (fieldsOf (codeMeant code)) (totalBytes (sumMeant total) ∷ decimal count ∷ decimal records ∷ []) 47 ⌝ }
 {
     let d = write_line::begin(line, code, want::first_want(code));
     let d = write_line::add_total(line, d, total, b',');

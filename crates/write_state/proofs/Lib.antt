@@ -1,2 +1,2 @@
 -- Facts that the proofs of the functions hand over.
-pub mod States
+pub mod WriterLaws

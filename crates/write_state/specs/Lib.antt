@@ -1,2 +1,2 @@
 -- The code's states in the rules' terms.
-pub mod States
+pub mod WriterMeaning

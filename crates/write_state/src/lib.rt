@@ -1,35 +1,34 @@
 // The writer's state: what was written last, how many bytes stand, and the sums and counts that the trailers need; which states are sound, and
 // which line is in turn.
 use base_codes::Code;
-use base_quantities::MOST;
+use base_limits::LONGEST_FILE;
+use base_limits::MOST;
 use base_quantities::Place;
 use base_quantities::Units;
+use base_refusals::Refusal;
 use base_totals::Summary;
+use read_order::Expected;
 ghost use mathlib.Core.Path.{_≡_};
-ghost use mathlib.Core.Bool.{_&&_};
 ghost use lib.Dec.{leb};
-ghost use Rattle.rules.specs.Bytes.{between};
 ghost use Rattle.rules.specs.Numbers.{magnitudes};
-ghost use Rattle.rules.specs.Writer.{freshWriter, counted, sound, inTurn, phaseAfter};
-ghost use Rattle.base_codes.specs.Meanings.{codeMeant};
-ghost use Rattle.base_quantities.specs.Kinds.{sumMeant};
-ghost use Rattle.base_totals.specs.Summaries.{summaryMeant};
-ghost use Rattle.write_state.specs.States.{phaseMeant, writerMeant, phaseNumber};
+ghost use Rattle.rules.specs.Writer.{freshWriter, counted, sound, expectedIn, inTurn, phaseAfter};
+ghost use Rattle.base_codes.specs.CodeMeaning.{codeMeant};
+ghost use Rattle.base_quantities.specs.QuantityMeanings.{sumMeant};
+ghost use Rattle.base_totals.specs.SummaryMeaning.{summaryMeant};
+ghost use Rattle.read_order.specs.ExpectedCodes.{expectedMeant};
+ghost use Rattle.write_state.specs.WriterMeaning.{phaseMeant, writerMeant};
 
-// A file's most bytes.
-pub const MOST_BYTES: usize = 16_777_216;
-
-// What was written last: nothing; 01 or 98; 02; 49; 03, 88 or 16; 99.
+// What was written last: nothing; 01 or 98; 02; 03, 88 or 16; 49; 99.
 pub enum Phase {
     Fresh,
     BetweenGroups,
     InGroup,
-    BetweenAccounts,
     InAccount,
+    BetweenAccounts,
     Finished,
 }
 
-// items: a further item may come; size: the place behind the bytes so far.
+// items: a further item may come; size: the place after the bytes so far.
 pub struct Writer {
     pub phase: Phase,
     pub items: bool,
@@ -39,10 +38,9 @@ pub struct Writer {
     pub account: Summary,
 }
 
-// What a call answers: 0, or a refusal's number; its place; the length of all bytes so far, 0 where refused; and the state behind it.
+// What a call answers: its refusal, number 0 and place 0 where it was accepted; the length of all bytes so far, 0 where refused; and the state after it.
 pub struct Written {
-    pub number: u64,
-    pub place: Place,
+    pub refusal: Refusal,
     pub length: usize,
     pub writer: Writer,
 }
@@ -101,7 +99,7 @@ pub fn is_sound(w: Writer) -> bool
     let f = w.file;
     let g = w.group;
     let a = w.account;
-    if MOST_BYTES < size.0 {
+    if LONGEST_FILE < size.0 {
         return false;
     }
     if !sum_within(f.total, MOST) {
@@ -127,58 +125,35 @@ pub fn is_sound(w: Writer) -> bool
 
 // ---- turns
 
-// A number for each phase.
-pub fn phase_number(p: Phase) -> u64
-    ensures { λ r. ⌜ r ≡ phaseNumber (phaseMeant p) ⌝ }
+// The codes that may come in this phase: what the reader lets follow the line written last.
+fn expected_in(phase: Phase) -> Expected
+    ensures { λ r. ⌜ expectedMeant r ≡ expectedIn (phaseMeant phase) ⌝ }
 {
-    match p {
-        Phase::Fresh => 0,
-        Phase::BetweenGroups => 1,
-        Phase::InGroup => 2,
-        Phase::BetweenAccounts => 3,
-        Phase::InAccount => 4,
-        Phase::Finished => 5,
+    match phase {
+        Phase::Fresh => Expected::One(Code::FileHeader),
+        Phase::BetweenGroups => read_order::expected_after(Code::GroupTrailer),
+        Phase::InGroup => read_order::expected_after(Code::GroupHeader),
+        Phase::InAccount => read_order::expected_after(Code::Detail),
+        Phase::BetweenAccounts => read_order::expected_after(Code::AccountTrailer),
+        Phase::Finished => read_order::expected_after(Code::FileTrailer),
     }
 }
 
-// lo ≤ n ≤ hi.
-pub fn is_between(n: u64, lo: u64, hi: u64) -> bool
-    ensures { λ r. ⌜ r ≡ between lo hi n ⌝ }
-{
-    if n < lo {
-        return false;
-    }
-    n <= hi
-}
-
-// Both hold.
-fn both(a: bool, b: bool) -> bool
-    ensures { λ r. ⌜ r ≡ (a && b) ⌝ }
-{
-    if a {
-        return b;
-    }
-    false
-}
-
-// A line of this code may come in this phase; a further item only where items is true.
+// A line of this code may come in this phase; a further item where a detail may, and only if items is true.
 pub fn in_turn(code: Code, phase: Phase, items: bool) -> bool
     ensures { λ r. ⌜ r ≡ inTurn (codeMeant code) (phaseMeant phase) items ⌝ }
 {
-    let p = phase_number(phase);
-    match code {
-        Code::FileHeader => p == 0,
-        Code::GroupHeader => p == 1,
-        Code::AccountHeader => is_between(p, 2, 3),
-        Code::Detail => p == 4,
-        Code::AccountTrailer => p == 4,
-        Code::GroupTrailer => p == 3,
-        Code::FileTrailer => p == 1,
-        Code::Continuation => both(p == 4, items),
+    let expected = expected_in(phase);
+    if !base_codes::same_code(code, Code::Continuation) {
+        return read_order::allows(expected, code);
     }
+    if !items {
+        return false;
+    }
+    read_order::allows(expected, Code::Detail)
 }
 
-// The phase behind a line of this code.
+// The phase after a line of this code.
 pub fn phase_after(code: Code) -> Phase
     ensures { λ r. ⌜ phaseMeant r ≡ phaseAfter (codeMeant code) ⌝ }
 {

@@ -1,24 +1,31 @@
 -- `bai2::bai2_read` meets its contract: the reader's verdict, in figures. Assumes nothing.
 use borrow.Author.Needs.{needs}
-use Rattle.bai2.proofs.Reading.{total-fits, accepted-figures, refused-figures}
+use Rattle.rules.specs.Bytes.{Bytes}
+use Rattle.bai2.proofs.ReadFigures.{total-fits, accepted-figures, refused-figures}
 use Rattle.bai2.proofs.bai2_read.Statement.{statement}
 use Rattle.bai2.proofs.bai2_read.Tie as tie
 
+-- what the reader answered
+abbrev Answered : Type 0
+Answered = tie.After-read
+
+abbrev file-of : Answered → Bytes
+file-of c = c .before .before .args .file .now
+
 total-of-requires : tie.Need-total-of-requires
 total-of-requires c κs =
-    total-fits (c .before .before .before .before .before .before .before .args .file .now) (c .before .before .before .before .before .read .result)
-    (c .before .before .before .before .before .read .ensures) (c .before .before .before .s .given .0 .0) (c .before .before .before .s .given .1)
+    let r : Answered = c .before .before .before .before .before in
+    total-fits (file-of r) (r .read .result) (r .read .ensures) _ (c .before .before .before .s .given .1)
 
 returns : tie.Need-returns
 returns c =
-    accepted-figures (c .before .before .before .before .before .before .before .before .args .file .now) (c .before .before .before .before .before .before .read .result)
-    (c .before .before .before .before .before .before .read .ensures) (c .before .before .before .before .s .given .0 .0) (c .total-of .result)
-    (c .before .before .before .before .s .given .1) (c .total-of .ensures)
+    let r : Answered = c .before .before .before .before .before .before in
+    accepted-figures (file-of r) (r .read .result) (r .read .ensures) _ (c .total-of .result) (c .before .before .before .before .s .given .1) (c .total-of .ensures)
 
 returns-2 : tie.Need-returns-2
 returns-2 c =
-    refused-figures (c .before .before .before .before .before .args .file .now) (c .before .before .before .read .result) (c .before .before .before .read .ensures)
-    (c .before .number .given .0 .0) (c .before .number .given .0 .1 .0) (c .before .number .given .1)
+    let r : Answered = c .before .before .before .before in
+    refused-figures (file-of r) (r .read .result) (r .read .ensures) _ (c .before .before .why .given .1)
 
 pub bai2-read-spec : {M : Type 1} → statement M
 bai2-read-spec =

@@ -1,7 +1,7 @@
 -- `bai2::total_of` meets its contract: pluses less minuses, by which is the larger. Assumes nothing.
 use borrow.Author.Needs.{needs}
 use native.Mathlib.Omega.{arith}
-use Rattle.bai2.proofs.Signs.{minus-is, minus-fits, difference-kept, plus-is}
+use Rattle.bai2.proofs.TotalSigns.{minus-is, minus-fits, difference-kept, plus-is}
 use Rattle.bai2.proofs.total_of.Statement.{statement}
 use Rattle.bai2.proofs.total_of.Tie as tie
 

@@ -4,8 +4,8 @@ use mathlib.Core.Path.{_≡_, refl}
 use borrow.Author.Needs.{needs}
 use lib.ListN.{length, drop}
 use Rattle.rules.specs.Bytes.{all, between}
-use Rattle.base_digits.proofs.Tests.{within, below, above}
-use Rattle.base_digits.proofs.Reading.{go-on, stop, done}
+use Rattle.base_digits.proofs.DigitTests.{within, below, above}
+use Rattle.base_digits.proofs.ReadingLaws.{go-on, stop, done}
 use Rattle.base_digits.proofs.all_between.Statement.{statement}
 use Rattle.base_digits.proofs.all_between.Tie as tie
 

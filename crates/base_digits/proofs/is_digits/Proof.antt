@@ -1,7 +1,7 @@
 -- `is_digits` meets its contract. Assumes nothing.
 use native.Mathlib.Omega.{arith}
 use borrow.Author.Needs.{needs}
-use Rattle.base_digits.proofs.Reading.{digits-short, digits-long, digits-all}
+use Rattle.base_digits.proofs.ReadingLaws.{digits-short, digits-long, digits-all}
 use Rattle.base_digits.proofs.is_digits.Statement.{statement}
 use Rattle.base_digits.proofs.is_digits.Tie as tie
 

@@ -1,5 +1,5 @@
 -- `is_negative` meets its contract. Assumes nothing.
-use Rattle.base_digits.proofs.Signs.{negative-none, negative-first}
+use Rattle.base_digits.proofs.SignLaws.{negative-none, negative-first}
 use borrow.Author.Needs.{needs}
 use Rattle.base_digits.proofs.is_negative.Statement.{statement}
 use Rattle.base_digits.proofs.is_negative.Tie as tie

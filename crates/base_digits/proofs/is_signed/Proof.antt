@@ -8,7 +8,7 @@ use Rattle.base_digits.proofs.is_signed.Tie as tie
 
 returns : tie.Need-returns
 unfolding isSigned
-returns c = c .is-digits .ensures ∙ ap (digits 1 18) (c .before .behind-sign .ensures)
+returns c = c .is-digits .ensures ∙ ap (digits 1 18) (c .before .without-sign .ensures)
 
 pub is-signed-spec : {M : Type 1} → statement M
 is-signed-spec = tie.close (tie.spec (λ c κs. search needs) (λ c κs. search needs) returns)

@@ -1,6 +1,6 @@
 -- `is_unsigned` meets its contract. Assumes nothing.
 use mathlib.Core.Path.{sym, _∙_}
-use Rattle.base_digits.proofs.Signs.{minus-refused, minus-absent}
+use Rattle.base_digits.proofs.SignLaws.{minus-refused, minus-absent}
 use borrow.Author.Needs.{needs}
 use Rattle.base_digits.proofs.is_unsigned.Statement.{statement}
 use Rattle.base_digits.proofs.is_unsigned.Tie as tie

@@ -3,8 +3,8 @@ use Prim.Native.Nat.{_-_, zero-le}
 use native.Mathlib.Omega.{arith}
 use borrow.Author.Needs.{needs}
 use lib.ListN.{length}
-use Rattle.base_digits.proofs.Tests.{below, above}
-use Rattle.base_digits.proofs.Reading.{Reading, start, turn, bounded, value-long, value-bad, value-read}
+use Rattle.base_digits.proofs.DigitTests.{below, above}
+use Rattle.base_digits.proofs.ReadingLaws.{Reading, start, turn, bounded, value-long, value-bad, value-read}
 use Rattle.base_digits.proofs.value.Statement.{statement}
 use Rattle.base_digits.proofs.value.Tie as tie
 

@@ -5,7 +5,7 @@ use native.Mathlib.Omega.{arith}
 use borrow.Author.Needs.{needs}
 use lib.ListN.{length}
 use Rattle.rules.specs.Numbers.{decimal}
-use Rattle.base_digits.proofs.DigitStrings.{decimal-some, decimal-longer, decimal-at-most}
+use Rattle.base_digits.proofs.DigitStrings.{decimal-some, decimal-longer, decimal-short, decimal-at-most}
 use Rattle.base_numerals.proofs.digit_count.Statement.{statement}
 use Rattle.base_numerals.proofs.digit_count.Tie as tie
 
@@ -16,7 +16,7 @@ abbrev μ-loop : tie.MeasureT-loop
 μ-loop n m₀ k₀ m k = m
 
 loop-holds : tie.Need-loop-holds Inv-loop μ-loop
-loop-holds c = omega (arith, decimal-at-most 20 (c .args .n) (omega arith) (omega arith))
+loop-holds c = omega (arith, decimal-short (c .args .n) (omega arith))
 
 add-k : tie.Need-add-k Inv-loop μ-loop
 add-k c = omega (arith, decimal-some (c .before .loop .m))

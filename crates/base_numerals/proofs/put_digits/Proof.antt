@@ -3,7 +3,7 @@ use native.Mathlib.Omega.{arith}
 use borrow.Author.Needs.{needs}
 use lib.ListN.{length-set}
 use Rattle.base_digits.proofs.DigitStrings.{decimal-some}
-use Rattle.base_numerals.proofs.Putting.{Writing, start, turn, last, one-digit, put-fits, put-short}
+use Rattle.base_numerals.proofs.PutLaws.{Writing, start, turn, last, one-digit, put-fits, put-short}
 use Rattle.base_numerals.proofs.put_digits.Statement.{statement}
 use Rattle.base_numerals.proofs.put_digits.Tie as tie
 

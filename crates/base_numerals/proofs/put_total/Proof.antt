@@ -4,9 +4,9 @@ use native.Mathlib.Omega.{arith}
 use borrow.Author.Needs.{needs}
 use lib.ListN.{length-set}
 use Rattle.rules.specs.Bytes.{minus}
-use Rattle.base_quantities.specs.Kinds.{sumMeant}
-use Rattle.base_digits.proofs.Totals.{total-below-zero, total-from-zero}
-use Rattle.base_numerals.proofs.Putting.{put-short, put-first, put-at-most}
+use Rattle.base_quantities.specs.QuantityMeanings.{sumMeant}
+use Rattle.base_digits.proofs.TotalStrings.{total-below-zero, total-from-zero}
+use Rattle.base_numerals.proofs.PutLaws.{put-short, put-first, put-at-most}
 use Rattle.base_numerals.proofs.put_total.Statement.{statement}
 use Rattle.base_numerals.proofs.put_total.Tie as tie
 

@@ -4,8 +4,8 @@ use native.Mathlib.Omega.{arith}
 use mathlib.Core.Path.{_≡_, refl}
 use lib.ListN.{length, length-set}
 use lib.Seq.{paste, paste-zero}
-use Rattle.base_numerals.proofs.Putting.{put-short}
-use Rattle.base_slices.proofs.Writing.{put-turn, put-all}
+use Rattle.base_numerals.proofs.PutLaws.{put-short}
+use Rattle.base_slices.proofs.WroteLaws.{put-turn, put-all}
 use borrow.Author.Needs.{needs}
 use Rattle.base_slices.proofs.put.Statement.{statement}
 use Rattle.base_slices.proofs.put.Tie as tie
@@ -16,41 +16,17 @@ Inv-loop out₀ src i₀ out i = (i ≤ length src) × (length src ≤ length ou
 abbrev μ-loop : tie.MeasureT-loop
 μ-loop out₀ src i₀ out i = length src - i
 
--- src/lib.rt:28:9
 returns : tie.Need-returns Inv-loop μ-loop
 returns c = put-short _ _ (omega arith)
 
--- src/lib.rt:31:5
 loop-holds : tie.Need-loop-holds Inv-loop μ-loop
 loop-holds c = (omega arith, omega arith, refl, paste-zero (c .before .args .out .now) 0 (c .before .args .src .now))
 
--- src/lib.rt:32:18
-shared-slice-read-out : tie.Need-shared-slice-read-out Inv-loop μ-loop
-shared-slice-read-out c = search needs
-
--- src/lib.rt:32:9
-slice-write-out : tie.Need-slice-write-out Inv-loop μ-loop
-slice-write-out c = search needs
-
--- src/lib.rt:33:9
-add-i : tie.Need-add-i Inv-loop μ-loop
-add-i c = search needs
-
--- src/lib.rt:31:5
-loop-less : tie.Need-loop-less Inv-loop μ-loop
-loop-less c = search needs
-
--- src/lib.rt:31:5
 loop-again : tie.Need-loop-again Inv-loop μ-loop
 loop-again c =
     let l = c .before .before .loop in
     (omega arith, omega arith, simp length-set (l .inv .2), put-turn (c .before .before .before .before .args .out .now) (c .before .before .before .before .args .src .now) (l .out) (l .i) (omega arith) (omega arith) (l .inv .3))
 
--- src/lib.rt:24:1
-same-length : tie.Need-same-length Inv-loop μ-loop
-same-length c = search needs
-
--- src/lib.rt:24:1
 returns-2 : tie.Need-returns-2 Inv-loop μ-loop
 returns-2 c =
     let l = c .before .loop in
@@ -64,10 +40,10 @@ put-spec =
     μ-loop
     returns
     loop-holds
-    shared-slice-read-out
-    slice-write-out
-    add-i
-    loop-less
+    (λ c. search needs)
+    (λ c. search needs)
+    (λ c. search needs)
+    (λ c. search needs)
     loop-again
-    same-length
+    (λ c. search needs)
     returns-2)

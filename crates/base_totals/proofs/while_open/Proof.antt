@@ -1,7 +1,7 @@
 -- `base_totals::while_open` meets its contract. Assumes nothing.
 use mathlib.Core.Path.{ap, sym, _∙_}
 use borrow.Author.Needs.{needs}
-use Rattle.base_totals.specs.Summaries.{summaryMeant}
+use Rattle.base_totals.specs.SummaryMeaning.{summaryMeant}
 use Rattle.base_totals.proofs.while_open.Statement.{statement}
 use Rattle.base_totals.proofs.while_open.Tie as tie
 

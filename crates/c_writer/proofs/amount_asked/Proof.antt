@@ -6,7 +6,7 @@ use borrow.Author.Tests.{ne-eqb}
 use mir.Syntax.{w64}
 use mir.ValLaws.{toZ-ofZ}
 use Rattle.rules.specs.Numbers.{Signed}
-use Rattle.c_writer.specs.Figures.{orNone, signedOf}
+use Rattle.c_writer.specs.WriterFigures.{orNone, signedOf}
 use Rattle.c_writer.proofs.amount_asked.Statement.{statement}
 use Rattle.c_writer.proofs.amount_asked.Tie as tie
 

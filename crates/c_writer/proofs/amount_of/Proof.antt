@@ -1,5 +1,5 @@
 -- `amount_of` meets its contract: a minus by one more than -1 less the number, a plus as it stands. Assumes nothing.
-use Rattle.c_writer.proofs.Magnitudes.{less-fits, less-cast, one-more-fits, minus-meant, plus-cast, plus-meant}
+use Rattle.c_writer.proofs.AmountLaws.{less-fits, less-cast, one-more-fits, minus-meant, plus-cast, plus-meant}
 use Rattle.c_writer.proofs.amount_of.Statement.{statement}
 use Rattle.c_writer.proofs.amount_of.Tie as tie
 

@@ -4,7 +4,7 @@ use Rattle.c_writer.proofs.answered.Statement.{statement}
 use Rattle.c_writer.proofs.answered.Tie as tie
 
 returns : tie.Need-returns
-returns c = rw (c .numbers-behind .ensures)
+returns c = rw (c .numbers-after .ensures)
 
 pub answered-spec : {M : Type 1} → statement M
 answered-spec = tie.close (tie.spec (λ c κs. search needs) returns)

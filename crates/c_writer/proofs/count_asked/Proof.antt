@@ -1,6 +1,6 @@
 -- `count_asked` meets its contract: none where the number that says so is 0. Assumes nothing.
 use borrow.Author.Tests.{ne-eqb}
-use Rattle.c_writer.specs.Figures.{orNone}
+use Rattle.c_writer.specs.WriterFigures.{orNone}
 use Rattle.c_writer.proofs.count_asked.Statement.{statement}
 use Rattle.c_writer.proofs.count_asked.Tie as tie
 

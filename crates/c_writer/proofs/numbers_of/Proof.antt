@@ -5,7 +5,10 @@ use Rattle.c_writer.proofs.numbers_of.Tie as tie
 
 returns : tie.Need-returns
 returns c =
-    rw (c .before .before .before .before .phase-figure .ensures, c .before .before .before .flag-of .ensures, c .before .before .figures-of .ensures, c .before .figures-of2 .ensures, c .figures-of3 .ensures)
+    let group = c .before in
+    let file = group .before in
+    let items = file .before in
+    rw (items .before .phase-number .ensures, items .flag-of .ensures, file .figures-of .ensures, group .figures-of2 .ensures, c .figures-of3 .ensures)
 
 pub numbers-of-spec : {M : Type 1} → statement M
 numbers-of-spec =

@@ -1,6 +1,6 @@
 -- `phase_of` meets its contract: a phase for each number. Assumes nothing.
 use borrow.Author.Tests.{ne-eqb}
-use Rattle.c_writer.specs.Figures.{phaseOf}
+use Rattle.c_writer.specs.WriterFigures.{phaseOf}
 use Rattle.c_writer.proofs.phase_of.Statement.{statement}
 use Rattle.c_writer.proofs.phase_of.Tie as tie
 

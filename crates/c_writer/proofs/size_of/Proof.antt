@@ -1,7 +1,7 @@
 -- `size_of` meets its contract: by the tests of phase and items. Assumes nothing.
 use borrow.Author.Needs.{needs}
 use borrow.Author.Tests.{le-leb, lt-leb}
-use Rattle.c_writer.specs.Figures.{known, sizeOf}
+use Rattle.c_writer.specs.WriterFigures.{known, sizeOf}
 use Rattle.c_writer.proofs.size_of.Statement.{statement}
 use Rattle.c_writer.proofs.size_of.Tie as tie
 

@@ -1,6 +1,6 @@
 -- `find_field::field` meets its contract. Assumes nothing.
-use Rattle.find_field.specs.Meanings.{kindMeant}
-use Rattle.find_field.proofs.Reading.{lent-is}
+use Rattle.find_field.specs.SoughtKinds.{kindMeant}
+use Rattle.find_field.proofs.DetailFields.{lent-is}
 use borrow.Author.Needs.{needs}
 use Rattle.find_field.proofs.field.Statement.{statement}
 use Rattle.find_field.proofs.field.Tie as tie

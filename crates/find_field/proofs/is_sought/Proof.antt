@@ -1,7 +1,7 @@
 -- `find_field::is_sought` meets its contract. Assumes nothing.
 use Rattle.rules.specs.Grammar.{fieldsOf}
 use Rattle.read_wanted.specs.Wants.{wantedOf}
-use Rattle.find_field.proofs.Asking.{no-type, no-amount, no-text, no-receiver, no-total, no-records}
+use Rattle.find_field.proofs.SoughtLaws.{no-type, no-amount, no-text, no-receiver, no-total, no-records}
 use borrow.Author.Needs.{needs}
 use Rattle.find_field.proofs.is_sought.Statement.{statement}
 use Rattle.find_field.proofs.is_sought.Tie as tie

@@ -3,22 +3,20 @@ use Prim.Native.Nat.{ℕ, _+_, _-_, _≤_, _<_, zero-le}
 use native.Mathlib.Omega.{arith}
 use mathlib.Core.Path.{_≡_, refl, sym, ap, subst, _∙_}
 use mathlib.Core.List.{List}
-use lib.ListN.{length, take, drop, length-take, length-drop}
+use lib.ListN.{length, take, drop, length-take}
 use Rattle.rules.specs.Bytes.{Bytes}
 use Rattle.rules.specs.Lines.{linesOf}
 use Rattle.rules.specs.Grammar.{Kind}
-use Rattle.read_lines.specs.Cutting.{line-some}
+use Rattle.read_lines.specs.LineLengths.{bodyLen, lineLen}
+use Rattle.read_lines.proofs.LineLaws.{next-is, next-within, next-after}
 use Rattle.read_wanted.specs.Wants.{wantedOf}
 use Rattle.find_field.specs.declared.Seen.{Seen}
-use Rattle.find_field.specs.Seeking.{seekLines}
-use Rattle.find_field.specs.Meanings.{kindMeant, seenMeant, SeenWithin}
-use Rattle.find_field.proofs.Sighting.{short-line, line-lost, line-onto, line-seen, lines-over}
+use Rattle.find_field.specs.FieldSearch.{seekLines}
+use Rattle.find_field.specs.SoughtKinds.{kindMeant, seenMeant, SeenWithin}
+use Rattle.find_field.proofs.SightLaws.{short-line, line-lost, line-onto, line-seen, lines-over}
 use borrow.Author.Needs.{needs}
 use Rattle.find_field.proofs.seek.Statement.{statement}
 use Rattle.find_field.proofs.seek.Tie as tie
-use Rattle.read_lines.proofs.body_end.Reads as body-end-reads
-use Rattle.read_lines.proofs.next_line.Reads as next-line-reads
-use Rattle.find_field.proofs.seek_line.Reads as seek-line-reads
 
 abbrev Inv-loop : tie.InvT-loop
 Inv-loop rec sought want₀ at₀ want at =
@@ -27,15 +25,19 @@ Inv-loop rec sought want₀ at₀ want at =
 abbrev μ-loop : tie.MeasureT-loop
 μ-loop rec sought want₀ at₀ want at = length rec - at
 
--- at a line: what is sought and wanted, where it starts, and where it ends
+-- ---- at a line: what is sought and wanted, where it starts and ends, and the next line
+
 abbrev Line : Type 0
-Line = tie.After-next-line Inv-loop μ-loop
+Line = tie.After-end-len Inv-loop μ-loop
+
+abbrev entry : Line → tie.Start Inv-loop μ-loop
+entry c = c .before .before .before .before .before
 
 abbrev rec-of : Line → Bytes
-rec-of c = c .before .before .before .before .before .args .rec .now
+rec-of c = entry c .args .rec .now
 
 abbrev kind : Line → Kind
-kind c = kindMeant (c .before .before .before .before .before .args .sought)
+kind c = kindMeant (entry c .args .sought)
 
 abbrev wanted : Line → List Kind
 wanted c = wantedOf (c .before .before .before .loop .want)
@@ -46,18 +48,43 @@ start-of c = c .before .before .before .loop .at
 abbrev end-of : Line → ℕ
 end-of c = c .before .body-end .result
 
+abbrev next-of : Line → ℕ
+next-of c = end-of c + c .end-len .result
+
 abbrev some-byte : (c : Line) → start-of c < length (rec-of c)
 some-byte c = c .before .before .loop-test .taken
+
+end-is : (c : Line) → end-of c ≡ start-of c + bodyLen (drop (start-of c) (rec-of c))
+end-is c = c .before .body-end .ensures .0
 
 ends : (c : Line) → end-of c ≤ length (rec-of c)
 ends c = omega (arith, some-byte c, c .before .body-end .ensures .1)
 
--- the line's fields are lent to the search in a line
+next-at : (c : Line) → next-of c ≡ start-of c + lineLen (drop (start-of c) (rec-of c))
+next-at c = next-is (rec-of c) (start-of c) (end-of c) (next-of c) (end-is c) (ap (λ (n : ℕ). end-of c + n) (c .end-len .ensures))
+
+within : (c : Line) → next-of c ≤ length (rec-of c)
+within c =
+    omega (
+      arith,
+      some-byte c,
+      next-within (rec-of c) (start-of c) (end-of c) (next-of c) (end-is c) (ap (λ (n : ℕ). end-of c + n) (c .end-len .ensures)),
+    )
+
+-- the search from here on gives what the whole search gives
+so-far : (c : Line) → seekLines (kind c) 0 (wantedOf (entry c .args .first)) (linesOf (rec-of c)) ≡ seekLines (kind c) (start-of c) (wanted c) (linesOf (drop (start-of c) (rec-of c)))
+so-far c = c .before .before .before .loop .inv .1
+
+-- ---- the line's fields are lent to the search in a line
+
 abbrev Lent : Type 0
 Lent = tie.After-seek-line Inv-loop μ-loop
 
 abbrev line : Lent → Line
 line c = c .before .before .before
+
+long-enough : (c : Lent) → start-of (line c) + 3 ≤ end-of (line c)
+long-enough c = c .before .before .if1 .left
 
 abbrev bytes : Lent → Bytes
 bytes c = take (end-of (line c) - (start-of (line c) + 3)) (drop (start-of (line c) + 3) (rec-of (line c)))
@@ -77,19 +104,24 @@ loop-holds c = (zero-le, refl)
 add-a : tie.Need-add-a Inv-loop μ-loop
 add-a c = omega (arith, some-byte (c))
 
+add-next : tie.Need-add-next Inv-loop μ-loop
+add-next c = omega (arith, within c)
+
 returns : tie.Need-returns Inv-loop μ-loop
 returns c =
     let l = c .before in
     record {
-      answer = sym (c .before .before .before .before .loop .inv .1 ∙ short-line (rec-of l) (start-of l) (end-of l) (l .next-line .result) (some-byte l) (c .before .before .body-end .ensures .0) (l .next-line .ensures .0) (kind l) (wanted l) (c .if1 .taken));
+      answer = sym (so-far l ∙ short-line (rec-of l) (start-of l) (end-of l) (next-of l) (some-byte l) (end-is l) (next-at l) (kind l) (wanted l) (c .if1 .taken));
       within = zero-le;
     }
 
 part-seek-line-end : tie.Need-part-seek-line-end Inv-loop μ-loop
 part-seek-line-end c = ends (c .before)
 
-add-t18 : tie.Need-add-t18 Inv-loop μ-loop
-add-t18 c =
+-- ---- the field is there
+
+add-start : tie.Need-add-start Inv-loop μ-loop
+add-start c =
     let s = c .before .before .before in
     omega (arith, seen-in s _ (c .before .i .given .1), size s, ends (line s))
 
@@ -97,37 +129,42 @@ returns-2 : tie.Need-returns-2 Inv-loop μ-loop
 returns-2 c =
     let s = c .before .before .before in
     let l = line s in
-    let seen-at = seen-in s _ (c .before .i .given .1) in
+    let i = c .before .i in
+    let seen-at = seen-in s _ (i .given .1) in
     record {
-      answer = sym (c .before .before .before .before .before .before .before .before .before .loop .inv .1
-          ∙ line-seen (rec-of l) (start-of l) (end-of l) (l .next-line .result) (some-byte l) (c .before .before .before .before .before .before .before .body-end .ensures .0) (l .next-line .ensures .0) (kind l) (wanted l) (c .before .before .before .before .before .if1 .left)
-          _ (s .seek-line .ensures .answer (start-of l + 3)) (c .before .i .given .0 .0) (c .before .i .given .0 .1 .0) (said s _ (c .before .i .given .1)) (omega (arith, seen-at, size s)));
+      answer = sym (so-far l
+          ∙ line-seen (rec-of l) (start-of l) (end-of l) (next-of l) (some-byte l) (end-is l) (next-at l) (kind l) (wanted l) (long-enough s)
+          _ (s .seek-line .ensures .answer (start-of l + 3)) (i .given .0 .0) (i .given .0 .1 .0) (said s _ (i .given .1)) (omega (arith, seen-at, size s)));
       within = omega (arith, size s, ends l);
     }
+
+-- ---- the line is not as it was wanted
 
 returns-3 : tie.Need-returns-3 Inv-loop μ-loop
 returns-3 c =
     let s = c .before .before in
     let l = line s in
     record {
-      answer = sym (c .before .before .before .before .before .before .before .before .loop .inv .1
-          ∙ line-lost (rec-of l) (start-of l) (end-of l) (l .next-line .result) (some-byte l) (c .before .before .before .before .before .before .body-end .ensures .0) (l .next-line .ensures .0) (kind l) (wanted l) (c .before .before .before .before .if1 .left)
+      answer = sym (so-far l
+          ∙ line-lost (rec-of l) (start-of l) (end-of l) (next-of l) (some-byte l) (end-is l) (next-at l) (kind l) (wanted l) (long-enough s)
           _ (s .seek-line .ensures .answer (start-of l + 3)) (said s _ (c .enum-told .given .1)));
       within = zero-le;
     }
 
+-- ---- the search goes on at the next line
+
 loop-less : tie.Need-loop-less Inv-loop μ-loop
 loop-less c =
-    let l = c .before .before .before .before .before .before in
-    omega (arith, some-byte l, l .next-line .ensures .0, line-some (drop (start-of l) (rec-of l)) (omega (arith, length-drop (start-of l) (rec-of l))))
+    let l = line (c .before .before .before) in
+    omega (arith, some-byte l, next-after (rec-of l) (start-of l) (end-of l) (next-of l) (end-is l) (ap (λ (n : ℕ). end-of l + n) (l .end-len .ensures)) (some-byte l))
 
 loop-again : tie.Need-loop-again Inv-loop μ-loop
 loop-again c =
     let s = c .before .before .before in
     let l = line s in (
-      omega (arith, some-byte l, l .next-line .ensures .1),
-      c .before .before .before .before .before .before .before .before .before .loop .inv .1
-          ∙ line-onto (rec-of l) (start-of l) (end-of l) (l .next-line .result) (some-byte l) (c .before .before .before .before .before .before .before .body-end .ensures .0) (l .next-line .ensures .0) (kind l) (wanted l) (c .before .before .before .before .before .if1 .left)
+      within l,
+      so-far l
+          ∙ line-onto (rec-of l) (start-of l) (end-of l) (next-of l) (some-byte l) (end-is l) (next-at l) (kind l) (wanted l) (long-enough s)
           _ (s .seek-line .ensures .answer (start-of l + 3)) _ (said s _ (c .before .w .given .1)),
     )
 
@@ -146,13 +183,14 @@ seek-spec =
     loop-holds
     (λ c κs. search needs)
     (λ c κs. search needs)
+    add-next
     add-a
     returns
     (λ c. search needs)
     part-seek-line-end
     (λ c κs. search needs)
     (λ c. search needs)
-    add-t18
+    add-start
     returns-2
     (λ c. search needs)
     (λ c. search needs)

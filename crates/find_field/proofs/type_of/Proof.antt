@@ -1,6 +1,6 @@
 -- `find_field::type_of` meets its contract. Assumes nothing.
 use mathlib.Core.Path.{_∙_}
-use Rattle.find_field.proofs.Reading.{type-in}
+use Rattle.find_field.proofs.DetailFields.{type-in}
 use borrow.Author.Needs.{needs}
 use Rattle.find_field.proofs.type_of.Statement.{statement}
 use Rattle.find_field.proofs.type_of.Tie as tie

@@ -1,7 +1,7 @@
 -- `find_lines::block_ends` meets its contract. Assumes nothing.
 use Prim.Native.Nat.{_-_, _≤_, _<_}
 use native.Mathlib.Omega.{arith}
-use Rattle.find_lines.specs.Marks.{NoEnd}
+use Rattle.find_lines.specs.LinesOfCode.{NoEnd}
 use borrow.Author.Tests.{leb-false}
 use borrow.Author.Count.{below-more}
 use borrow.Author.Needs.{needs}

@@ -1,6 +1,6 @@
 -- `join_combine::put_three` meets its contract. Assumes nothing.
 use mathlib.Core.List.{_++_}
-use Rattle.base_slices.proofs.Writing.{wrote-first, wrote-piece, wrote-last}
+use Rattle.base_slices.proofs.WroteLaws.{wrote-first, wrote-part, wrote-last}
 use borrow.Author.Needs.{needs}
 use Rattle.join_combine.proofs.put_three.Statement.{statement}
 use Rattle.join_combine.proofs.put_three.Tie as tie
@@ -13,7 +13,7 @@ returns c =
     let z = s .args .z .now in
     let put₁ = c .before .before .before .before .before .before .before .before .before .before .put in
     let w₁ = wrote-first x (y ++ z) (s .args .out .now) (put₁ .result) (put₁ .last .0) (s .pre) (put₁ .ensures) in
-    let w₂ = wrote-piece _ _ _ y z _ _ _ w₁ (c .before .before .before .before .before .before .put2 .ensures) in
+    let w₂ = wrote-part _ _ _ y z _ _ _ w₁ (c .before .before .before .before .before .before .put2 .ensures) in
     wrote-last _ _ _ z _ _ _ w₂ (c .before .before .put3 .ensures)
 
 pub put-three-spec : {M : Type 1} → statement M

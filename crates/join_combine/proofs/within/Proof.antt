@@ -3,8 +3,8 @@ use mathlib.Core.Path.{sym, ap, _∙_}
 use Rattle.rules.specs.Lines.{linesOf}
 use Rattle.rules.proofs.Tests.{is-true}
 use Rattle.read_line_checks.specs.declared.Checked.{Checked}
-use Rattle.read_line_checks.specs.Answers.{checkedOf}
-use Rattle.join_combine.proofs.Limits.{within-more, none-within, none-over}
+use Rattle.read_line_checks.specs.LineChecks.{checkedOf}
+use Rattle.join_combine.proofs.LimitLaws.{within-more, none-within, none-over}
 use borrow.Author.Needs.{needs}
 use Rattle.join_combine.proofs.within.Statement.{statement}
 use Rattle.join_combine.proofs.within.Tie as tie
@@ -24,7 +24,7 @@ returns-3 : tie.Need-returns-3
 returns-3 c =
     let n = c .before .before in
     let a = n .before .before .before .args in
-    none-over (a .limit) 0 (linesOf (a .s .now)) _ _ (sym (n .none-longer .ensures .0) ∙ ap (λ (v : Checked). checkedOf v) (c .enum-told2 .given .1))
+    none-over (a .limit) 0 (linesOf (a .s .now)) _ (sym (n .none-longer .ensures .0) ∙ ap (λ (v : Checked). checkedOf v) (c .enum-told2 .given .1))
 
 pub within-spec : {M : Type 1} → statement M
 within-spec =

@@ -3,10 +3,10 @@ use Prim.Native.Nat.{_+_}
 use native.Mathlib.Omega.{arith}
 use borrow.Author.Tests.{leb-true}
 use lib.ListN.{length}
-use Rattle.join_groups.proofs.Opening.{opened}
-use Rattle.join_split.specs.Answers.{splitResult}
-use Rattle.join_split.proofs.Misfits.{misfit-long, misfit-room, misfit-none}
-use Rattle.join_split.proofs.Splitting.{result-most}
+use Rattle.join_groups.proofs.GroupOpens.{opened}
+use Rattle.join_split.specs.SplitAnswers.{splitResult}
+use Rattle.join_split.proofs.MisfitLaws.{misfit-long, misfit-room, misfit-none}
+use Rattle.join_split.proofs.SplitLaws.{result-most}
 use borrow.Author.Needs.{needs}
 use Rattle.join_split.proofs.misfit.Statement.{statement}
 use Rattle.join_split.proofs.misfit.Tie as tie

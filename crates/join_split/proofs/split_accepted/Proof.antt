@@ -2,10 +2,10 @@
 use mathlib.Core.Path.{sym, _∙_}
 use Prim.Native.Nat.{_≤_}
 use lib.ListN.{length}
-use Rattle.rules.specs.Verdict.{mostBytes}
-use Rattle.join_split.specs.Answers.{splitResult, splitFitting}
-use Rattle.join_trailer.proofs.Fitting.{written}
-use Rattle.join_split.proofs.Misfits.{misfit-refused, fits-by}
+use Rattle.rules.specs.Limits.{longestFile}
+use Rattle.join_split.specs.SplitAnswers.{splitResult, splitFitting}
+use Rattle.join_trailer.proofs.FitsLaws.{written}
+use Rattle.join_split.proofs.MisfitLaws.{misfit-refused, fits-by}
 use borrow.Author.Needs.{needs}
 use Rattle.join_split.proofs.split_accepted.Statement.{statement}
 use Rattle.join_split.proofs.split_accepted.Tie as tie
@@ -19,7 +19,7 @@ returns c =
 
 -- once it is known that it fits
 fits : (c : tie.Else1) → let a = c .before .before .before .before .before .before .args in
-    (length (splitResult (a .name .now) (a .file .now)) ≤ mostBytes) × (length (splitResult (a .name .now) (a .file .now)) ≤ length (a .out .now))
+    (length (splitResult (a .name .now) (a .file .now)) ≤ longestFile) × (length (splitResult (a .name .now) (a .file .now)) ≤ length (a .out .now))
 fits c =
     let a = c .before .before .before .before .before .before .args in
     fits-by (splitResult (a .name .now) (a .file .now)) (length (a .out .now)) (sym (c .if1 .left) ∙ c .before .misfit .ensures)

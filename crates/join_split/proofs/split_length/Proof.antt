@@ -4,10 +4,10 @@ use native.Mathlib.Omega.{arith}
 use mathlib.Core.Path.{_≡_}
 use lib.ListN.{length}
 use Rattle.rules.specs.Bytes.{Bytes}
-use Rattle.join_groups.proofs.Opening.{Opened, opened}
-use Rattle.join_split.specs.Answers.{splitResult, splitLast}
-use Rattle.join_trailer.proofs.Fitting.{front-size}
-use Rattle.join_split.proofs.Splitting.{result-size, result-most}
+use Rattle.join_groups.proofs.GroupOpens.{Opened, opened}
+use Rattle.join_split.specs.SplitAnswers.{splitResult, splitLast}
+use Rattle.join_trailer.proofs.FitsLaws.{front-size}
+use Rattle.join_split.proofs.SplitLaws.{result-size, result-most}
 use borrow.Author.Needs.{needs}
 use Rattle.join_split.proofs.split_length.Statement.{statement}
 use Rattle.join_split.proofs.split_length.Tie as tie
@@ -32,7 +32,12 @@ sizes : (c : Took) → let r = c .before .before .before .take-rest .result in (
 sizes c =
     let r = c .before .before .before .take-rest .result in
     let rest = c .before .before .before .take-rest .ensures in
-    omega (arith, rest .count, front-size (splitLast (name-of c) (file-of c)) (r .last .bytes) (r .last .length) (rest .is-last) (omega (arith, rest .last-most)), result-size (name-of c) (file-of c) (header-of c) (known c))
+    omega (
+      arith,
+      rest .count,
+      front-size (splitLast (name-of c) (file-of c)) (r .last .bytes) (r .last .length) (rest .is-last) (omega (arith, rest .last-most)),
+      result-size (name-of c) (file-of c) (header-of c) (known c),
+    )
 
 small : (c : Took) → length (splitResult (name-of c) (file-of c)) ≤ 16777216 + 64
 small c = omega (arith, result-most (name-of c) (file-of c) (header-of c) (known c), known c .not-too-long)

@@ -5,12 +5,12 @@ use mathlib.Core.Path.{_≡_, ap, subst, _∙_}
 use lib.ListN.{length, take, drop}
 use Rattle.rules.specs.Bytes.{Bytes}
 use Rattle.rules.specs.Lines.{linesOf}
-use Rattle.base_quantities.specs.Kinds.{sumMeant}
-use Rattle.base_numerals.specs.Put.{Put}
-use Rattle.join_groups.specs.Ahead.{matching, Tallied}
-use Rattle.join_groups.proofs.Opening.{Opened, opened}
-use Rattle.join_trailer.proofs.Fitting.{part-most}
-use Rattle.join_split.proofs.Splitting.{last-is, groups-are}
+use Rattle.base_quantities.specs.QuantityMeanings.{sumMeant}
+use Rattle.base_numerals.specs.PutBytes.{Put}
+use Rattle.join_groups.specs.GroupsAhead.{matching, Tallied}
+use Rattle.join_groups.proofs.GroupOpens.{Opened, opened}
+use Rattle.join_trailer.proofs.FitsLaws.{part-most}
+use Rattle.join_split.proofs.SplitLaws.{last-is, groups-are}
 use borrow.Author.Needs.{needs}
 use Rattle.join_split.proofs.take_rest.Statement.{statement}
 use Rattle.join_split.proofs.take_rest.Tie as tie

@@ -6,8 +6,8 @@ use lib.ListN.{length, drop, length-drop, drop-of-length-le}
 use lib.Seq.{drop-drop}
 use Rattle.rules.specs.Bytes.{Bytes}
 use Rattle.rules.specs.Lines.{linesOf}
-use Rattle.read_lines.specs.Cut.{lineLen}
-use Rattle.read_lines.specs.Cutting.{first-of, line-some}
+use Rattle.read_lines.specs.LineLengths.{lineLen}
+use Rattle.read_lines.proofs.LineLengthLaws.{first-of, line-some}
 use borrow.Author.Needs.{needs}
 use Rattle.join_trailer.proofs.count_lines.Statement.{statement}
 use Rattle.join_trailer.proofs.count_lines.Tie as tie
@@ -22,8 +22,8 @@ abbrev μ-loop : tie.MeasureT-loop
 line-more : (s : Bytes) (at next : ℕ) → at < length s → next ≡ at + lineLen (drop at s) → (at < next) × (length (linesOf (drop at s)) ≡ 1 + length (linesOf (drop next s)))
 line-more s at next h e =
     let some : 0 < length (drop at s) = omega (arith, length-drop at s) in
-    let behind : length (linesOf (drop (lineLen (drop at s)) (drop at s))) ≡ length (linesOf (drop next s)) = rw e (ap (λ (xs : Bytes). length (linesOf xs)) (drop-drop (lineLen (drop at s)) at s)) in
-    (omega (arith, line-some (drop at s) some), ap length (first-of (drop at s) some) ∙ omega (arith, behind))
+    let after : length (linesOf (drop (lineLen (drop at s)) (drop at s))) ≡ length (linesOf (drop next s)) = rw e (ap (λ (xs : Bytes). length (linesOf xs)) (drop-drop (lineLen (drop at s)) at s)) in
+    (omega (arith, line-some (drop at s) some), ap length (first-of (drop at s) some) ∙ omega (arith, after))
 
 -- in a turn, once the next line is known
 abbrev Turn : Type 0

@@ -1,22 +1,19 @@
 -- `part_details::detail` meets its contract. Assumes nothing.
 use Prim.Native.Nat.{zero-le}
 use native.Mathlib.Omega.{arith}
-use Rattle.part_groups.specs.Meanings.{partMeant}
-use Rattle.part_details.proofs.Answering.{detail-refused, detail-found}
+use mathlib.Core.Path.{refl}
+use Rattle.part_groups.specs.PartMeaning.{partMeant}
+use Rattle.part_details.proofs.DetailLaws.{zero-without, detail-refused, detail-found}
 use borrow.Author.Needs.{needs}
 use Rattle.part_details.proofs.detail.Statement.{statement}
 use Rattle.part_details.proofs.detail.Tie as tie
-use Rattle.part_groups.proofs.find_detail.Reads as find-detail-reads
-use Rattle.part_details.proofs.text_in.Reads as text-in-reads
-use Rattle.find_field.proofs.amount_of.Reads as amount-of-reads
-use Rattle.find_field.proofs.type_of.Reads as type-of-reads
 
 returns : tie.Need-returns
 returns c =
     let a = c .before .before .before .before .before .args in
     let f = c .before .before .before .find-detail in
     let said = detail-refused (a .file .now) (a .g) (a .a) (a .n) (partMeant (f .result)) (f .ensures .0) (c .if1 .taken) in
-    (said .0, record { bytes = said .1; inside = zero-le })
+    (said .0, record { bytes = said .1; inside = zero-le }, λ z. refl)
 
 add-to : tie.Need-add-to
 add-to c = omega (arith, c .before .before .before .before .find-detail .ensures .1, c .before .before .before .before .before .before .good)
@@ -35,7 +32,7 @@ returns-2 c =
     let t = c .before .text-in in
     let said = detail-found (a .file .now) (partMeant (f .result)) _ _ _ _ _ (a .g) (a .a) (a .n) (f .ensures .0) (c .before .before .before .before .before .if1 .left)
     (record { type-is = c .type-of .ensures; given-is = m .ensures .0; amount-is = m .ensures .1; text-is = t .ensures .answer; inside = t .ensures .inside }) in
-    (said .0, record { bytes = said .1; inside = t .ensures .inside })
+    (said .0, record { bytes = said .1; inside = t .ensures .inside }, zero-without _ _ _ (m .ensures .0) (m .ensures .1))
 
 pub detail-spec : {M : Type 1} → statement M
 detail-spec =

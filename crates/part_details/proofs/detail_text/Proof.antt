@@ -6,7 +6,6 @@ use lib.ListN.{take, drop}
 use borrow.Author.Needs.{needs}
 use Rattle.part_details.proofs.detail_text.Statement.{statement}
 use Rattle.part_details.proofs.detail_text.Tie as tie
-use Rattle.part_details.proofs.detail.Reads as detail-reads
 
 add-to : tie.Need-add-to
 add-to c = omega (arith, c .before .detail .ensures .1 .inside, c .before .before .before .good)

@@ -3,12 +3,11 @@ use native.Mathlib.Omega.{arith}
 use Rattle.rules.specs.Parts.{accountAt}
 use Rattle.rules.specs.Answers.{accountPart}
 use Rattle.laws.proofs.FileTheorems.{account-is-slice}
-use Rattle.part_groups.specs.Meanings.{partMeant}
-use Rattle.part_groups.proofs.Moving.{named-slice}
+use Rattle.part_groups.specs.PartMeaning.{partMeant}
+use Rattle.part_groups.proofs.PartsMoved.{named-slice}
 use borrow.Author.Needs.{needs}
 use Rattle.part_groups.proofs.account.Statement.{statement}
 use Rattle.part_groups.proofs.account.Tie as tie
-use Rattle.part_groups.proofs.find_account.Reads as find-account-reads
 
 add-to : tie.Need-add-to
 add-to c = omega (arith, c .before .find-account .ensures .1, c .before .before .before .good)

@@ -3,12 +3,11 @@ use native.Mathlib.Omega.{arith}
 use Rattle.rules.specs.Parts.{groupAt}
 use Rattle.rules.specs.Answers.{groupPart}
 use Rattle.laws.proofs.FileTheorems.{group-is-slice}
-use Rattle.part_groups.specs.Meanings.{partMeant}
-use Rattle.part_groups.proofs.Moving.{named-slice}
+use Rattle.part_groups.specs.PartMeaning.{partMeant}
+use Rattle.part_groups.proofs.PartsMoved.{named-slice}
 use borrow.Author.Needs.{needs}
 use Rattle.part_groups.proofs.group.Statement.{statement}
 use Rattle.part_groups.proofs.group.Tie as tie
-use Rattle.part_groups.proofs.find_group.Reads as find-group-reads
 
 add-to : tie.Need-add-to
 add-to c = omega (arith, c .before .find-group .ensures .1, c .before .before .before .good)

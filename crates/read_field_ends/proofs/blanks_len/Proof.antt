@@ -4,8 +4,8 @@ use mathlib.Core.Path.{_≡_, _∙_}
 use native.Mathlib.Omega.{arith}
 use borrow.Author.Needs.{needs}
 use lib.ListN.{length, drop}
-use Rattle.read_field_ends.specs.Lengths.{until}
-use Rattle.read_field_ends.proofs.Cutting.{until-stop, until-on, until-end, noBlank, blank-none, blank-here, blanks-until}
+use Rattle.read_field_ends.specs.FieldLengths.{until}
+use Rattle.read_field_ends.proofs.FieldLengthLaws.{until-stop, until-on, until-end, noBlank, blank-none, blank-here, blanks-until}
 use Rattle.read_field_ends.proofs.blanks_len.Statement.{statement}
 use Rattle.read_field_ends.proofs.blanks_len.Tie as tie
 

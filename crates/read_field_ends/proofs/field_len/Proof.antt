@@ -4,8 +4,8 @@ use mathlib.Core.Path.{_≡_}
 use native.Mathlib.Omega.{arith}
 use borrow.Author.Needs.{needs}
 use lib.ListN.{length, drop}
-use Rattle.read_field_ends.specs.Lengths.{until, isMark}
-use Rattle.read_field_ends.proofs.Cutting.{until-stop, until-on, until-end, mark-comma, mark-slash, mark-none}
+use Rattle.read_field_ends.specs.FieldLengths.{until, isMark}
+use Rattle.read_field_ends.proofs.FieldLengthLaws.{until-stop, until-on, until-end, mark-comma, mark-slash, mark-none}
 use Rattle.read_field_ends.proofs.field_len.Statement.{statement}
 use Rattle.read_field_ends.proofs.field_len.Tie as tie
 

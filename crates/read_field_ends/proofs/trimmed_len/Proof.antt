@@ -5,7 +5,7 @@ use native.Mathlib.Omega.{arith}
 use borrow.Author.Needs.{needs}
 use lib.ListN.{length, take}
 use Rattle.rules.specs.Bytes.{trimmed}
-use Rattle.read_field_ends.proofs.Cutting.{trim-start, trim-stop, trim-on, trim-none}
+use Rattle.read_field_ends.proofs.FieldLengthLaws.{trim-start, trim-stop, trim-on, trim-none}
 use Rattle.read_field_ends.proofs.trimmed_len.Statement.{statement}
 use Rattle.read_field_ends.proofs.trimmed_len.Tie as tie
 

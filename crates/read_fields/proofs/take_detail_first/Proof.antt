@@ -4,7 +4,7 @@ use Rattle.rules.specs.Bytes.{Bytes}
 use Rattle.rules.specs.TypeCodes.{Class}
 use Rattle.rules.specs.Grammar.{judged, andThen, takeNext, fieldsOf, detailOf}
 use Rattle.read_wanted.specs.Wants.{wantedOf, wantedAfter, references}
-use Rattle.read_fields.proofs.Arms.{arm, arm-fits, arm-optional}
+use Rattle.read_fields.proofs.FieldArms.{arm, arm-fits, arm-optional}
 use borrow.Author.Needs.{needs}
 use Rattle.read_fields.proofs.take_detail_first.Statement.{statement}
 use Rattle.read_fields.proofs.take_detail_first.Tie as tie

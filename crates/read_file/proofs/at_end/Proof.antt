@@ -1,7 +1,7 @@
 -- `read_file::at_end` meets its contract. Assumes nothing.
 use mathlib.Core.Path.{refl, sym, _∙_}
 use borrow.Author.Needs.{needs}
-use Rattle.read_file.specs.Running.{atEnd}
+use Rattle.read_file.specs.FileAnswers.{atEnd}
 use Rattle.read_file.proofs.at_end.Statement.{statement}
 use Rattle.read_file.proofs.at_end.Tie as tie
 

@@ -4,12 +4,12 @@ use mathlib.Core.Path.{_≡_, ap, sym, _∙_}
 use native.Mathlib.Omega.{arith}
 use lib.ListN.{drop, length-drop}
 use borrow.Author.Needs.{needs}
-use Rattle.rules.specs.Outcome.{refused}
-use Rattle.base_codes.specs.Meanings.{codeMeant}
-use Rattle.read_lines.specs.Cut.{bodyLen}
-use Rattle.read_lines.specs.Answers.{codeFound}
-use Rattle.read_lines.proofs.Passing.{body-from, next-is, next-within}
-use Rattle.read_line_checks.proofs.Checking.{line-long, line-byte, line-code, line-fine}
+use Rattle.rules.specs.Outcome.{refuse}
+use Rattle.base_codes.specs.CodeMeaning.{codeMeant}
+use Rattle.read_lines.specs.LineLengths.{bodyLen}
+use Rattle.read_lines.specs.LineAnswers.{codeFound}
+use Rattle.read_lines.proofs.LineLaws.{body-from, next-is, next-within}
+use Rattle.read_line_checks.proofs.LineCheckLaws.{line-long, line-byte, line-code, line-fine}
 use Rattle.read_line_checks.proofs.good_line.Statement.{statement}
 use Rattle.read_line_checks.proofs.good_line.Tie as tie
 
@@ -30,26 +30,33 @@ returns c =
 returns-2 : tie.Need-returns-2
 returns-2 c =
     let a = c .before .before .before .before .before .args in let xs = drop (a .at) (a .s .now) in let l = length-drop (a .at) (a .s .now) in let p = c .before .before .before .plain-end .ensures .0 in (
-      line-byte xs (a .at) (a .limit) (omega (arith, the-end (c .before .before))) (omega (arith, the-end (c .before .before))) ∙ ap (λ (n : ℕ). refused 4 n) (sym p),
+      line-byte xs (a .at) (a .limit) (omega (arith, the-end (c .before .before))) (omega (arith, the-end (c .before .before))) ∙ ap (λ (n : ℕ). refuse 4 n) (sym p),
       omega (arith, the-end (c .before .before)),
     )
 
-add-t16 : tie.Need-add-t16
-add-t16 c =
-    let a = c .before .before .before .before .before .before .before .before .before .before .args in let e = c .before .before .before .before .before .before .before .body-end .result in
-    let h = next-within (a .s .now) (a .at) e (e + c .end-len .result) (the-end (c .before .before .before .before .before .before .before)) (rw (c .end-len .ensures)) in
+add-t19 : tie.Need-add-t19
+add-t19 c =
+    let ended = c .before .before .before .before .before .before .before in
+    let a = ended .before .before .before .args in
+    let e = ended .body-end .result in
+    let h = next-within (a .s .now) (a .at) e (e + c .end-len .result) (the-end ended) (rw (c .end-len .ensures)) in
     omega arith
 
 returns-3 : tie.Need-returns-3
 returns-3 c =
-    let a = c .before .before .before .before .before .before .before .before .args in let xs = drop (a .at) (a .s .now) in
-    (line-code xs (a .at) (a .limit) (omega (arith, the-end (c .before .before .before .before .before))) (omega (arith, the-end (c .before .before .before .before .before))) (ap codeFound (sym (c .enum-told .given .1)) ∙ c .before .before .code-at .ensures), omega arith)
+    let ended = c .before .before .before .before .before in
+    let a = ended .before .before .before .args in
+    let xs = drop (a .at) (a .s .now) in
+    (line-code xs (a .at) (a .limit) (omega (arith, the-end ended)) (omega (arith, the-end ended)) (ap codeFound (sym (c .enum-told .given .1)) ∙ c .before .before .code-at .ensures), omega arith)
 
 returns-4 : tie.Need-returns-4
 returns-4 c =
-    let a = c .before .before .before .before .before .before .before .before .before .before .args in let xs = drop (a .at) (a .s .now) in let e = c .before .before .before .before .before .before .before .body-end .result in (
-      line-fine xs (a .at) (a .limit) (omega (arith, the-end (c .before .before .before .before .before .before .before))) (omega (arith, the-end (c .before .before .before .before .before .before .before))) (codeMeant (c .before .before .code .given .0 .0)) (ap codeFound (sym (c .before .before .code .given .1)) ∙ c .before .before .before .before .code-at .ensures),
-      next-is (a .s .now) (a .at) e (e + c .end-len .result) (the-end (c .before .before .before .before .before .before .before)) (rw (c .end-len .ensures)),
+    let ended = c .before .before .before .before .before .before .before in
+    let a = ended .before .before .before .args in
+    let xs = drop (a .at) (a .s .now) in
+    let e = ended .body-end .result in (
+      line-fine xs (a .at) (a .limit) (omega (arith, the-end ended)) (omega (arith, the-end ended)) (codeMeant (c .before .before .code .given .0 .0)) (ap codeFound (sym (c .before .before .code .given .1)) ∙ c .before .before .before .before .code-at .ensures),
+      next-is (a .s .now) (a .at) e (e + c .end-len .result) (the-end ended) (rw (c .end-len .ensures)),
     )
 
 pub good-line-spec : {M : Type 1} → statement M
@@ -66,6 +73,6 @@ good-line-spec =
     (λ c. search needs)
     (λ c. search needs)
     (λ c κs. search needs)
-    add-t16
+    add-t19
     returns-3
     returns-4)

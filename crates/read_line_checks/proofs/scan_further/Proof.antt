@@ -6,11 +6,11 @@ use lib.ListN.{length, drop, length-drop}
 use borrow.Author.Needs.{needs}
 use Rattle.rules.specs.Lines.{linesOf, recordSize}
 use Rattle.rules.specs.Verdict.{goodLines}
-use Rattle.base_codes.specs.Meanings.{codeMeant}
-use Rattle.read_lines.specs.Cut.{firstLine, further, firstRecord}
-use Rattle.read_lines.specs.Cutting.{line-some, line-fits}
-use Rattle.read_lines.proofs.Passing.{further-some}
-use Rattle.read_line_checks.proofs.Checking.{Same, good-code, first-go, further-end, further-stop, further-go}
+use Rattle.base_codes.specs.CodeMeaning.{codeMeant}
+use Rattle.read_lines.specs.LineLengths.{firstLine, further, firstRecord}
+use Rattle.read_lines.proofs.LineLengthLaws.{line-some, line-fits}
+use Rattle.read_lines.proofs.LineLaws.{further-some}
+use Rattle.read_line_checks.proofs.LineCheckLaws.{Same, good-code, first-go, further-end, further-stop, further-go}
 use Rattle.read_line_checks.proofs.scan_further.Statement.{statement}
 use Rattle.read_line_checks.proofs.scan_further.Tie as tie
 
@@ -30,32 +30,43 @@ good-line-requires c κs = further-some (c .before .before .before .before .args
 
 returns : tie.Need-returns Inv-loop μ-loop
 returns c =
-    let a = c .before .before .before .before .before .before .before .before .args in let at = c .before .before .before .before .before .before .loop .at in let t = sym (c .before .before .before .before .before .begins-with .ensures) ∙ c .before .before .before .before .if1 .taken in let l = length-drop at (a .s .now) in
-    let g = rw (c .before .k .given .1) at (c .before .before .before .good-line .ensures) in
-    record { stops = further-stop (a .s .now) at t (a .limit) (firstRecord (linesOf (a .s .now))) (c .before .before .before .before .before .before .loop .n) (c .before .before .before .before .before .before .loop .inv .4) _ _ (g .0); some-byte = c .before .before .before .before .before .before .before .before .pre .0; within = omega arith }
+    let turn = c .before .before .before .before .before .before in let code-read = c .before .before .before .before in
+    let a = turn .before .before .args in
+    let at = turn .loop .at in
+    let t = sym (code-read .before .begins-with .ensures) ∙ code-read .if1 .taken in
+    let l = length-drop at (a .s .now) in
+    let g = rw (c .before .why .given .1) at (c .before .before .before .good-line .ensures) in
+    record { stops = further-stop (a .s .now) at t (a .limit) (firstRecord (linesOf (a .s .now))) (turn .loop .n) (turn .loop .inv .4) _ (g .0); some-byte = turn .before .before .pre .0; within = omega arith }
 
 add-n : tie.Need-add-n Inv-loop μ-loop
 add-n c = omega arith
 
 loop-less : tie.Need-loop-less Inv-loop μ-loop
 loop-less c =
-    let a = c .before .before .before .before .before .before .before .before .args in let at = c .before .before .before .before .before .before .loop .at in let l = length-drop at (a .s .now) in
-    let h = further-some (a .s .now) at (sym (c .before .before .before .before .before .begins-with .ensures) ∙ c .before .before .before .before .if1 .taken) in
-    let g = rw (c .before .behind .given .1) at (c .before .before .before .good-line .ensures) in
+    let turn = c .before .before .before .before .before .before in let code-read = c .before .before .before .before in
+    let a = turn .before .before .args in
+    let at = turn .loop .at in
+    let l = length-drop at (a .s .now) in
+    let h = further-some (a .s .now) at (sym (code-read .before .begins-with .ensures) ∙ code-read .if1 .taken) in
+    let g = rw (c .before .after .given .1) at (c .before .before .before .good-line .ensures) in
     let m = line-some (drop at (a .s .now)) (omega arith) in
     omega (arith, g .1)
 
 loop-again : tie.Need-loop-again Inv-loop μ-loop
 loop-again c =
-    let a = c .before .before .before .before .before .before .before .before .args in let at = c .before .before .before .before .before .before .loop .at in let t = sym (c .before .before .before .before .before .begins-with .ensures) ∙ c .before .before .before .before .if1 .taken in let l = length-drop at (a .s .now) in
+    let turn = c .before .before .before .before .before .before in let code-read = c .before .before .before .before in
+    let a = turn .before .before .args in
+    let at = turn .loop .at in
+    let t = sym (code-read .before .begins-with .ensures) ∙ code-read .if1 .taken in
+    let l = length-drop at (a .s .now) in
     let h = further-some (a .s .now) at t in
-    let g = rw (c .before .behind .given .1) at (c .before .before .before .good-line .ensures) in
+    let g = rw (c .before .after .given .1) at (c .before .before .before .good-line .ensures) in
     let m = line-some (drop at (a .s .now)) (omega arith) in let f = line-fits (drop at (a .s .now)) in (
       omega (arith, g .1),
       omega (arith, g .1),
       omega (arith, g .1),
       omega arith,
-      further-go (a .s .now) at t (a .limit) (firstRecord (linesOf (a .s .now))) (c .before .before .before .before .before .before .loop .n) (c .before .before .before .before .before .before .loop .inv .4) _ _ (g .0) (g .1),
+      further-go (a .s .now) at t (a .limit) (firstRecord (linesOf (a .s .now))) (turn .loop .n) (turn .loop .inv .4) _ _ (g .0) (g .1),
     )
 
 returns-2 : tie.Need-returns-2 Inv-loop μ-loop

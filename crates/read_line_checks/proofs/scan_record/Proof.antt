@@ -1,7 +1,7 @@
 -- `read_line_checks::scan_record` meets its contract. Assumes nothing.
 use native.Mathlib.Omega.{arith}
 use borrow.Author.Needs.{needs}
-use Rattle.read_line_checks.proofs.Checking.{first-stop}
+use Rattle.read_line_checks.proofs.LineCheckLaws.{first-stop}
 use Rattle.read_line_checks.proofs.scan_record.Statement.{statement}
 use Rattle.read_line_checks.proofs.scan_record.Tie as tie
 
@@ -11,8 +11,8 @@ scan-further-requires c κs = (omega arith, rw (c .before .code .given .1) at (c
 returns-2 : tie.Need-returns-2
 returns-2 c =
     let a = c .before .before .before .before .before .before .args in
-    let g = rw (c .before .k .given .1) at (c .before .before .before .good-line .ensures) in
-    record { stops = first-stop (a .limit) (a .s .now) (omega arith) _ _ (g .0); some-byte = omega arith; within = omega (arith, g .1) }
+    let g = rw (c .before .why .given .1) at (c .before .before .before .good-line .ensures) in
+    record { stops = first-stop (a .limit) (a .s .now) (omega arith) _ (g .0); some-byte = omega arith; within = omega (arith, g .1) }
 
 pub scan-record-spec : {M : Type 1} → statement M
 scan-record-spec =

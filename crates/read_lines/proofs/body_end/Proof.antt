@@ -4,9 +4,9 @@ use mathlib.Core.Path.{_≡_, _∙_}
 use native.Mathlib.Omega.{arith}
 use lib.ListN.{length, drop}
 use borrow.Author.Needs.{needs}
-use Rattle.read_lines.specs.Cut.{bodyLen, isEnd, endOf}
-use Rattle.read_lines.proofs.Runs.{run-none, run-stop, run-step, is-end-at, end-some, end-empty}
-use Rattle.read_lines.proofs.Passing.{body-from}
+use Rattle.read_lines.specs.LineLengths.{bodyLen, isEnd, endOf}
+use Rattle.read_lines.proofs.RunLengths.{run-none, run-stop, run-step, is-end-at, end-some, end-empty}
+use Rattle.read_lines.proofs.LineLaws.{body-from}
 use Rattle.read_lines.proofs.body_end.Statement.{statement}
 use Rattle.read_lines.proofs.body_end.Tie as tie
 

@@ -5,8 +5,8 @@ use native.Mathlib.Omega.{arith}
 use lib.ListN.{drop}
 use borrow.Author.Needs.{needs}
 use Rattle.rules.specs.Bytes.{Bytes}
-use Rattle.read_lines.specs.Cut.{bodyLen}
-use Rattle.read_lines.proofs.Passing.{next-within, body-in}
+use Rattle.read_lines.specs.LineLengths.{bodyLen}
+use Rattle.read_lines.proofs.LineLaws.{next-within, body-in}
 use Rattle.read_lines.proofs.body_end_in.Statement.{statement}
 use Rattle.read_lines.proofs.body_end_in.Tie as tie
 

@@ -7,7 +7,7 @@ use borrow.Author.Tests.{eq-eqb, ne-eqb}
 use lib.ListN.{length, getD}
 use borrow.Author.Needs.{needs}
 use Rattle.rules.specs.Lines.{endBytes, LineEnd}
-use Rattle.read_lines.proofs.Runs.{end-none, end-at, begins-none, begins-at}
+use Rattle.read_lines.proofs.RunLengths.{end-none, end-at, begins-none, begins-at}
 use Rattle.read_lines.proofs.end_len.Statement.{statement}
 use Rattle.read_lines.proofs.end_len.Tie as tie
 

@@ -2,7 +2,7 @@
 use Prim.Native.Nat.{_+_}
 use native.Mathlib.Omega.{arith}
 use borrow.Author.Needs.{needs}
-use Rattle.read_lines.proofs.Passing.{next-is, next-within}
+use Rattle.read_lines.proofs.LineLaws.{next-is, next-within}
 use Rattle.read_lines.proofs.next_line.Statement.{statement}
 use Rattle.read_lines.proofs.next_line.Tie as tie
 

@@ -5,9 +5,9 @@ use native.Mathlib.Omega.{arith}
 use lib.ListN.{length, drop, length-drop}
 use borrow.Author.Needs.{needs}
 use Rattle.rules.specs.Lines.{linesOf, recordSize}
-use Rattle.read_lines.specs.Cut.{further, firstRecord}
-use Rattle.read_lines.specs.Cutting.{line-some}
-use Rattle.read_lines.proofs.Passing.{record-start, further-some, further-none, further-size}
+use Rattle.read_lines.specs.LineLengths.{further, firstRecord}
+use Rattle.read_lines.proofs.LineLengthLaws.{line-some}
+use Rattle.read_lines.proofs.LineLaws.{record-start, further-some, further-none, further-size}
 use Rattle.read_lines.proofs.record_end.Statement.{statement}
 use Rattle.read_lines.proofs.record_end.Tie as tie
 
@@ -25,12 +25,12 @@ loop-holds c =
 loop-less : tie.Need-loop-less Inv-loop μ-loop
 loop-less c =
     let s = c .before .before .before .before .before .before .args .s .now in let e = c .before .before .before .loop .e in let l = length-drop e s in
-    let h = further-some s e (sym (c .before .before .begins-with .ensures) ∙ c .before .if1 .taken) in let m = line-some (drop e s) (omega arith) in
+    let h = further-some s e (sym (c .before .before .begins .ensures) ∙ c .before .if1 .taken) in let m = line-some (drop e s) (omega arith) in
     omega arith
 
 loop-again : tie.Need-loop-again Inv-loop μ-loop
 loop-again c =
-    let s = c .before .before .before .before .before .before .args .s .now in let e = c .before .before .before .loop .e in let t = sym (c .before .before .begins-with .ensures) ∙ c .before .if1 .taken in
+    let s = c .before .before .before .before .before .before .args .s .now in let e = c .before .before .before .loop .e in let t = sym (c .before .before .begins .ensures) ∙ c .before .if1 .taken in
     let h = further-some s e t in
     (omega arith, c .before .before .before .loop .inv .1 ∙ further-size s e t (c .next-line2 .result) (c .next-line2 .ensures .0))
 
@@ -38,7 +38,7 @@ returns : tie.Need-returns Inv-loop μ-loop
 unfolding recordSize
 returns c =
     let s = c .before .before .before .before .before .args .s .now in let e = c .before .before .loop .e in
-    let n = further-none s e (sym (c .before .begins-with .ensures) ∙ c .if1 .left) in
+    let n = further-none s e (sym (c .before .begins .ensures) ∙ c .if1 .left) in
     let q = rw n at (c .before .before .loop .inv .1) in
     (omega arith, omega arith)
 

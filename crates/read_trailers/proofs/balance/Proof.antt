@@ -1,7 +1,7 @@
 -- `read_trailers::balance` meets its contract. Assumes nothing.
 use mathlib.Core.Path.{sym, _∙_}
 use borrow.Author.Needs.{needs}
-use Rattle.read_trailers.specs.Controls.{balancedK}
+use Rattle.read_trailers.specs.TrailerChecks.{balancedK}
 use Rattle.read_trailers.proofs.balance.Statement.{statement}
 use Rattle.read_trailers.proofs.balance.Tie as tie
 

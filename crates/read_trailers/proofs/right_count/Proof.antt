@@ -1,5 +1,5 @@
 -- `read_trailers::right_count` meets its contract. Assumes nothing.
-use Rattle.read_trailers.proofs.Balancing.{count-fine, count-wrong}
+use Rattle.read_trailers.proofs.TrailerLaws.{count-fine, count-wrong}
 use Rattle.read_trailers.proofs.right_count.Statement.{statement}
 use Rattle.read_trailers.proofs.right_count.Tie as tie
 

@@ -1,6 +1,6 @@
 -- `read_trailers::right_records` meets its contract. Assumes nothing.
-use Rattle.base_totals.specs.Summaries.{summaryMeant}
-use Rattle.read_trailers.proofs.Balancing.{records-fine, records-wrong}
+use Rattle.base_totals.specs.SummaryMeaning.{summaryMeant}
+use Rattle.read_trailers.proofs.TrailerLaws.{records-fine, records-wrong}
 use Rattle.read_trailers.proofs.right_records.Statement.{statement}
 use Rattle.read_trailers.proofs.right_records.Tie as tie
 

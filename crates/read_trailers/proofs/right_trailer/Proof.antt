@@ -1,21 +1,21 @@
 -- `read_trailers::right_trailer` meets its contract. Assumes nothing.
 use mathlib.Core.Path.{ap, sym, _∙_}
 use borrow.Author.Needs.{needs}
-use Rattle.read_line_checks.specs.Answers.{checkedOf}
-use Rattle.read_trailers.specs.Controls.{trailerK}
+use Rattle.read_line_checks.specs.LineChecks.{checkedOf}
+use Rattle.read_trailers.specs.TrailerChecks.{trailerK}
 use Rattle.read_trailers.proofs.right_trailer.Statement.{statement}
 use Rattle.read_trailers.proofs.right_trailer.Tie as tie
 
 returns : tie.Need-returns
 unfolding trailerK
-returns c = sym (rw (sym (c .before .before .before .sum-within .ensures) ∙ ap checkedOf (c .before .k .given .1)))
+returns c = sym (rw (sym (c .before .before .before .sum-within .ensures) ∙ ap checkedOf (c .before .why .given .1)))
 
 returns-2 : tie.Need-returns-2
 unfolding trailerK
 returns-2 c =
     sym (rw (
       sym (c .before .before .before .before .before .before .sum-within .ensures) ∙ ap checkedOf (c .before .before .before .before .enum-told .given .1),
-      sym (c .before .before .before .right-total .ensures) ∙ ap checkedOf (c .before .k2 .given .1),
+      sym (c .before .before .before .right-total .ensures) ∙ ap checkedOf (c .before .why2 .given .1),
     ))
 
 returns-3 : tie.Need-returns-3
@@ -24,7 +24,7 @@ returns-3 c =
     sym (rw (
       sym (c .before .before .before .before .before .before .before .before .before .sum-within .ensures) ∙ ap checkedOf (c .before .before .before .before .before .before .before .enum-told .given .1),
       sym (c .before .before .before .before .before .before .right-total .ensures) ∙ ap checkedOf (c .before .before .before .before .enum-told2 .given .1),
-      sym (c .before .before .before .right-count .ensures) ∙ ap checkedOf (c .before .k3 .given .1),
+      sym (c .before .before .before .right-count .ensures) ∙ ap checkedOf (c .before .why3 .given .1),
     ))
 
 returns-4 : tie.Need-returns-4

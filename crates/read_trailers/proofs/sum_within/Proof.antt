@@ -1,8 +1,8 @@
 -- `read_trailers::sum_within` meets its contract. Assumes nothing.
 use native.Mathlib.Omega.{arith}
 use borrow.Author.Needs.{needs}
-use Rattle.base_totals.specs.Summaries.{summaryMeant}
-use Rattle.read_trailers.proofs.Balancing.{within-fine, within-above, within-below}
+use Rattle.base_totals.specs.SummaryMeaning.{summaryMeant}
+use Rattle.read_trailers.proofs.TrailerLaws.{within-fine, within-above, within-below}
 use Rattle.read_trailers.proofs.sum_within.Statement.{statement}
 use Rattle.read_trailers.proofs.sum_within.Tie as tie
 

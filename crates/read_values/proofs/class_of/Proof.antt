@@ -1,5 +1,5 @@
 -- `class_of` meets its contract. Assumes nothing.
-use Rattle.read_values.proofs.Types.{none, statuses, only-100, only-400, non-monetary, low, gap, high, beyond}
+use Rattle.read_values.proofs.TypeLaws.{none, statuses, only-100, only-400, non-monetary, low, gap, high, beyond}
 use Rattle.read_values.proofs.class_of.Statement.{statement}
 use Rattle.read_values.proofs.class_of.Tie as tie
 

@@ -1,5 +1,5 @@
 -- `is_currency` meets its contract. Assumes nothing.
-use Rattle.read_values.proofs.Shapes.{currency-none, currency-not, currency-three}
+use Rattle.read_values.proofs.ValueShapes.{currency-none, currency-not, currency-three}
 use borrow.Author.Needs.{needs}
 use Rattle.read_values.proofs.is_currency.Statement.{statement}
 use Rattle.read_values.proofs.is_currency.Tie as tie

@@ -1,5 +1,5 @@
 -- `is_empty` meets its contract. Assumes nothing.
-use Rattle.read_values.proofs.Shapes.{empty-is}
+use Rattle.read_values.proofs.ValueShapes.{empty-is}
 use Rattle.read_values.proofs.is_empty.Statement.{statement}
 use Rattle.read_values.proofs.is_empty.Tie as tie
 

@@ -1,8 +1,8 @@
 -- `is_length` meets its contract. Assumes nothing.
 use mathlib.Core.Path.{sym, _∙_}
 use borrow.Author.Tests.{not-true, not-false}
-use Rattle.base_digits.proofs.Tests.{below, from-low}
-use Rattle.read_values.proofs.Numerals.{length-not, length-is}
+use Rattle.base_digits.proofs.DigitTests.{below, from-low}
+use Rattle.read_values.proofs.NumberValues.{length-not, length-is}
 use borrow.Author.Needs.{needs}
 use Rattle.read_values.proofs.is_length.Statement.{statement}
 use Rattle.read_values.proofs.is_length.Tie as tie

@@ -1,7 +1,7 @@
 -- `is_one_of` meets its contract. Assumes nothing.
 use mathlib.Core.Path.{sym, _∙_}
-use Rattle.base_digits.proofs.Tests.{below, from-low}
-use Rattle.read_values.proofs.Shapes.{not-one, one}
+use Rattle.base_digits.proofs.DigitTests.{below, from-low}
+use Rattle.read_values.proofs.ValueShapes.{not-one, one}
 use borrow.Author.Needs.{needs}
 use Rattle.read_values.proofs.is_one_of.Statement.{statement}
 use Rattle.read_values.proofs.is_one_of.Tie as tie

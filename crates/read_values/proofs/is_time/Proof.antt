@@ -4,8 +4,8 @@ use mathlib.Core.Bool.{true}
 use native.Mathlib.Omega.{arith}
 use borrow.Author.Tests.{not-true, not-false}
 use Rattle.rules.specs.Numbers.{digits}
-use Rattle.base_digits.proofs.Reading.{digits-length}
-use Rattle.read_values.proofs.Numerals.{time-not, time-2400, time-9999, time-late, time-minutes}
+use Rattle.base_digits.proofs.ReadingLaws.{digits-length}
+use Rattle.read_values.proofs.NumberValues.{time-not, time-2400, time-9999, time-late, time-minutes}
 use borrow.Author.Needs.{needs}
 use Rattle.read_values.proofs.is_time.Statement.{statement}
 use Rattle.read_values.proofs.is_time.Tie as tie

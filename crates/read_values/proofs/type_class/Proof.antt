@@ -1,7 +1,7 @@
 -- `type_class` meets its contract. Assumes nothing.
 use mathlib.Core.Path.{sym, _∙_}
 use borrow.Author.Tests.{not-true, not-false}
-use Rattle.read_values.proofs.Types.{type-not, type-is}
+use Rattle.read_values.proofs.TypeLaws.{type-not, type-is}
 use borrow.Author.Needs.{needs}
 use Rattle.read_values.proofs.type_class.Statement.{statement}
 use Rattle.read_values.proofs.type_class.Tie as tie

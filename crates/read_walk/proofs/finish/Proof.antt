@@ -1,6 +1,6 @@
 -- `finish` meets its contract. Assumes nothing.
 use mathlib.Core.Path.{sym, _∙_}
-use Rattle.read_walk.specs.Working.{endK}
+use Rattle.read_walk.specs.WalkKept.{endK}
 use borrow.Author.Needs.{needs}
 use Rattle.read_walk.proofs.finish.Statement.{statement}
 use Rattle.read_walk.proofs.finish.Tie as tie

@@ -8,24 +8,28 @@ use lib.ListN.{length, drop, take, length-drop}
 use lib.Seq.{slice, length-slice}
 use borrow.Author.Needs.{needs}
 use Rattle.rules.specs.Bytes.{Bytes}
-use Rattle.rules.specs.Outcome.{refused, fine}
+use Rattle.rules.specs.Outcome.{refuse, fine}
 use Rattle.rules.specs.Lines.{linesOf}
 use Rattle.rules.specs.Cells.{cellsFrom, leadingBlanks}
 use Rattle.rules.specs.Grammar.{takeNext, nextKind, isText}
-use Rattle.read_lines.specs.Cut.{bodyLen, isEnd, lineLen}
-use Rattle.read_lines.specs.Cutting.{run-le}
-use Rattle.read_lines.proofs.Passing.{next-is, next-within, next-behind}
+use Rattle.read_lines.specs.LineLengths.{bodyLen, isEnd, lineLen}
+use Rattle.read_lines.proofs.LineLengthLaws.{run-le}
+use Rattle.read_lines.proofs.LineLaws.{next-is, next-within, next-after}
 use Rattle.read_wanted.specs.Wants.{wantedOf, purpose}
-use Rattle.read_wanted.specs.Takes.{judgedOf}
-use Rattle.read_field_ends.specs.declared.Cut.the-variants as cut
-use Rattle.read_field_ends.specs.Lengths.{cutOf}
+use Rattle.read_wanted.specs.TakenMeaning.{judgedOf}
+use Rattle.read_field_ends.specs.declared.Extent.the-variants as extent
+use Rattle.read_field_ends.specs.FieldLengths.{extentOf}
 use Rattle.read_kept.specs.declared.Kept.{Kept}
-use Rattle.read_kept.specs.Keeping.{fresh, keepRead}
-use Rattle.read_kept.proofs.Adding.{kept-for-nothing}
-use Rattle.read_walk.specs.Working.{WalkK, point, takenK, walkCellsK, walkLinesK, walkFrom}
-use Rattle.read_walk.proofs.Parts.{part-slice}
-use Rattle.read_walk.proofs.Bounding.{Fits, start-fits, taken-fits, end-bounds}
-use Rattle.read_walk.proofs.Walking.{took-bad, took-good, open-here, field-within, wrong-here, text-here, field-short, comma-here, blanks-here, byte-here, short-here, line-stop, line-go, lines-end, from-stop, from-end}
+use Rattle.read_kept.specs.KeepFields.{nothingKept, keepRead}
+use Rattle.read_kept.proofs.AddAmounts.{kept-for-nothing}
+use Rattle.read_wanted.specs.declared.want.Want.{Want}
+use Rattle.read_walk.specs.declared.Walked.{Walked}
+use Rattle.read_walk.specs.declared.Walked.the-variants.{Refused}
+use Rattle.read_walk.specs.WalkAnswers.{Walks}
+use Rattle.read_walk.specs.WalkKept.{WalkK, point, takenK, walkCellsK, walkLinesK, walkFrom}
+use Rattle.read_walk.proofs.LineParts.{part-slice}
+use Rattle.read_walk.proofs.WalkBounds.{Fits, start-fits, taken-fits, end-bounds}
+use Rattle.read_walk.proofs.WalkLaws.{took-bad, took-good, open-here, field-within, wrong-here, text-here, field-short, comma-here, blanks-here, byte-here, short-here, line-stop, line-go, lines-end, from-stop, from-end}
 use Rattle.read_walk.proofs.walk_lines.Statement.{statement}
 use Rattle.read_walk.proofs.walk_lines.Tie as tie
 
@@ -80,7 +84,7 @@ Made = tie.After-none Inv-loop μ-loop Inv-walk μ-walk
 abbrev first-of : Made → WalkK
 first-of c = point (wantedOf (c .before .before .before .args .first)) (c .none .result) 0
 
-first-is : (c : Made) → first-of c ≡ point (wantedOf (c .before .before .before .args .first)) (fresh (c .before .before .before .args .before)) 0
+first-is : (c : Made) → first-of c ≡ point (wantedOf (c .before .before .before .args .first)) (nothingKept (c .before .before .before .args .before)) 0
 first-is c = ap (λ (k : Kept). point (wantedOf (c .before .before .before .args .first)) k 0) (c .none .ensures)
 
 some-byte : (c : Line) → start-of c < length (rec-of c)
@@ -104,13 +108,18 @@ within c =
       next-within (rec-of c) (start-of c) (end-of c) (next-of c) (end-is c) (ap (λ (n : ℕ). end-of c + n) (c .end-len .ensures)),
     )
 
-behind : (c : Line) → start-of c < next-of c
-behind c =
-    next-behind (rec-of c) (start-of c) (end-of c) (next-of c) (end-is c) (ap (λ (n : ℕ). end-of c + n) (c .end-len .ensures)) (some-byte c)
+after : (c : Line) → start-of c < next-of c
+after c =
+    next-after (rec-of c) (start-of c) (end-of c) (next-of c) (end-is c) (ap (λ (n : ℕ). end-of c + n) (c .end-len .ensures)) (some-byte c)
+
+-- a walk that stops at this place answers so
+stopped-at : (rec : Bytes) (first : Want) (before number place : ℕ) (r : Walked) → r ≡ Refused (record { number = number; place = record { 0 = place } })
+    → refuse number place ≡ walkFrom (wantedOf first) (nothingKept before) (linesOf rec) → place ≤ length rec + 3 → Walks rec first before r
+stopped-at rec first before number place r e answers within = rw e (record { answer = answers; bounds = within })
 
 -- the record is refused where this line is
-stop : (c : Line) (n q : ℕ) → walkCellsK (from-of c) (cellsFrom (start-of c + 3) (slice (start-of c + 3) (end-of c) (rec-of c))) ≡ refused n q
-    → refused n q ≡ walkFrom (wantedOf (entry c .args .first)) (fresh (entry c .args .before)) (linesOf (rec-of c))
+stop : (c : Line) (n q : ℕ) → walkCellsK (from-of c) (cellsFrom (start-of c + 3) (slice (start-of c + 3) (end-of c) (rec-of c))) ≡ refuse n q
+    → refuse n q ≡ walkFrom (wantedOf (entry c .args .first)) (nothingKept (entry c .args .before)) (linesOf (rec-of c))
 stop c n q r =
     from-stop _ _ (linesOf (rec-of c)) (first-of (c .before .before .before .before)) (first-is (c .before .before .before .before)) n q
     (c .before .before .before .walk .inv .2 ∙ line-stop (rec-of c) (start-of c) (end-of c) (next-of c) (some-byte c) (end-is c) (next-at c) (from-of c) n q r)
@@ -141,17 +150,17 @@ left c = slice (at-of c) (end-of (line c)) (rec-of (line c))
 abbrev wants-text : Head → Bool
 wants-text c = isText (nextKind (wantedOf (c .loop .want)))
 
--- ---- the field is cut
+-- ---- how far the field goes
 
 abbrev Cutting : Type 0
-Cutting = tie.After-cut-field Inv-loop μ-loop Inv-walk μ-walk
+Cutting = tie.After-field-extent Inv-loop μ-loop Inv-walk μ-walk
 
-cut-is : (c : Cutting) → c .cut-field .result ≡ cutOf (wants-text (c .before .before .before)) (left (c .before .before .before))
-cut-is c =
+extent-is : (c : Cutting) → c .field-extent .result ≡ extentOf (wants-text (c .before .before .before)) (left (c .before .before .before))
+extent-is c =
     let h = c .before .before .before in
-    c .cut-field .ensures
-    ∙ ap (λ (t : Bool). cutOf t (take (end-of (line h) - at-of h) (drop (at-of h) (rec-of (line h))))) (c .before .before .is-text .ensures)
-    ∙ ap (λ (bs : Bytes). cutOf (wants-text h) bs) (part-slice (at-of h) (end-of (line h)) (rec-of (line h)) (h .loop .inv .0))
+    c .field-extent .ensures
+    ∙ ap (λ (t : Bool). extentOf t (take (end-of (line h) - at-of h) (drop (at-of h) (rec-of (line h))))) (c .before .before .is-text .ensures)
+    ∙ ap (λ (bs : Bytes). extentOf (wants-text h) bs) (part-slice (at-of h) (end-of (line h)) (rec-of (line h)) (h .loop .inv .0))
 
 abbrev Field : Type 0
 Field = tie.After-known-told Inv-loop μ-loop Inv-walk μ-walk
@@ -165,12 +174,12 @@ asked c = c .before .before .before .before .before
 abbrev size : Field → ℕ
 size c = c .before .n .given .0 .0
 
-field-cut : (c : Field) → cut.Field (size c) ≡ cutOf (wants-text (head c)) (left (head c))
-field-cut c = sym (c .before .n .given .1) ∙ cut-is (c .before .before .before)
+field-extent : (c : Field) → extent.Field (size c) ≡ extentOf (wants-text (head c)) (left (head c))
+field-extent c = sym (c .before .n .given .1) ∙ extent-is (c .before .before .before)
 
 inside : (c : Field) → at-of (head c) + size c ≤ end-of (line (head c))
 inside c =
-    field-within (rec-of (line (head c))) (here (head c)) (at-of (head c)) (end-of (line (head c))) (head c .loop .inv .0) (head c .loop .inv .1) (size c) (field-cut c)
+    field-within (rec-of (line (head c))) (here (head c)) (at-of (head c)) (end-of (line (head c))) (head c .loop .inv .0) (head c .loop .inv .1) (size c) (field-extent c)
 
 abbrev bytes : Field → Bytes
 bytes c = slice (at-of (head c)) (at-of (head c) + size c) (rec-of (line (head c)))
@@ -243,9 +252,9 @@ short : (c : Plain) → at-of (head (good-field (c .before))) + size (good-field
 short c =
     let g = good-field (c .before) in
     field-short (rec-of (line (head g))) (here (head g)) (at-of (head g)) (end-of (line (head g)))
-    (head g .loop .inv .0) (head g .loop .inv .1) (size g) (field-cut g) (no-text c)
+    (head g .loop .inv .0) (head g .loop .inv .1) (size g) (field-extent g) (no-text c)
 
--- ---- behind a slash, blanks
+-- ---- after a slash, blanks
 
 abbrev Blanks : Type 0
 Blanks = tie.After-blanks-len Inv-loop μ-loop Inv-walk μ-walk
@@ -298,7 +307,7 @@ part-take-detail-first-end : tie.Need-part-take-detail-first-end Inv-loop μ-loo
 part-take-detail-first-end c = let g = noted-field c in omega (arith, inside g, ends (line (head g)))
 
 walk-less : tie.Need-walk-less Inv-loop μ-loop Inv-walk μ-walk
-walk-less c = let l = line (head (good-field (c .before))) in omega (arith, behind l, within l)
+walk-less c = let l = line (head (good-field (c .before))) in omega (arith, after l, within l)
 
 walk-again : tie.Need-walk-again Inv-loop μ-loop Inv-walk μ-walk
 walk-again c =
@@ -308,7 +317,7 @@ walk-again c =
       fits (c .before),
       go-on (line h) (then (c .before)) (h .loop .inv .3
           ∙ text-here (rec-of (line h)) (here h) (at-of h) (end-of (line h))
-          (h .loop .inv .0) (h .loop .inv .1) (size g) (field-cut g) (then (c .before))
+          (h .loop .inv .0) (h .loop .inv .1) (size g) (field-extent g) (then (c .before))
           (sym (asked (good-field (c .before)) .is-text .ensures) ∙ c .if4 .taken) (took (c .before))),
     )
 
@@ -330,7 +339,7 @@ add-t c =
     omega (arith, blanks-in c, ends l, entry l .good)
 
 walk-less-2 : tie.Need-walk-less-2 Inv-loop μ-loop Inv-walk μ-walk
-walk-less-2 c = let l = line (head (good-field (c .before .before .before .before .before .before))) in omega (arith, behind l, within l)
+walk-less-2 c = let l = line (head (good-field (c .before .before .before .before .before .before))) in omega (arith, after l, within l)
 
 walk-again-2 : tie.Need-walk-again-2 Inv-loop μ-loop Inv-walk μ-walk
 walk-again-2 c =
@@ -343,7 +352,7 @@ walk-again-2 c =
       record { kept = fits good .kept; slash = omega (arith, short plain, ends (line h)) },
       go-on (line h) _ (h .loop .inv .3
           ∙ blanks-here (rec-of (line h)) (here h) (at-of h) (end-of (line h))
-          (h .loop .inv .0) (h .loop .inv .1) (size g) (field-cut g)
+          (h .loop .inv .0) (h .loop .inv .1) (size g) (field-extent g)
           (no-text plain) (then good) (took good) (c .before .before .before .if5 .taken) _ b (c .if6 .left) (blanks-in (c .before))),
     )
 
@@ -361,7 +370,7 @@ loop-again c =
       fits good,
       h .loop .inv .3
           ∙ comma-here (rec-of (line h)) (here h) (at-of h) (end-of (line h))
-          (h .loop .inv .0) (h .loop .inv .1) (size g) (field-cut g)
+          (h .loop .inv .0) (h .loop .inv .1) (size g) (field-extent g)
           (no-text plain) (then good) (took good) (c .if5 .left),
     )
 
@@ -378,48 +387,47 @@ returns c =
 
 returns-2 : tie.Need-returns-2 Inv-loop μ-loop Inv-walk μ-walk
 returns-2 c =
-    let l = c .before in
-    record {
-      answer = stop l 7 (start-of l + 3) (short-here (rec-of l) (from-of l) (start-of l + 3) (end-of l) (c .if2 .taken));
-      bounds = omega (arith, some-byte l);
-    }
+    let l = c .before .before in
+    stopped-at _ _ _ 7 (start-of l + 3) (c .stop .result) (c .stop .ensures)
+    (stop l 7 (start-of l + 3) (short-here (rec-of l) (from-of l) (start-of l + 3) (end-of l) (c .before .if2 .taken)))
+    (omega (arith, some-byte l))
 
 returns-3 : tie.Need-returns-3 Inv-loop μ-loop Inv-walk μ-walk
 returns-3 c =
-    let h = c .before .before .before .before .before in
-    record {
-      answer = stop (line h) 7 (end-of (line h)) (h .loop .inv .3 ∙ open-here (rec-of (line h)) (here h) (at-of h) (end-of (line h))
-          (h .loop .inv .0) (h .loop .inv .1) (sym (c .enum-told .given .1) ∙ cut-is (c .before .before)));
-      bounds = omega (arith, ends (line h));
-    }
+    let d = c .before in
+    let h = d .before .before .before .before .before in
+    stopped-at _ _ _ 7 (end-of (line h)) (c .stop2 .result) (c .stop2 .ensures)
+    (stop (line h) 7 (end-of (line h)) (h .loop .inv .3 ∙ open-here (rec-of (line h)) (here h) (at-of h) (end-of (line h))
+    (h .loop .inv .0) (h .loop .inv .1) (sym (d .enum-told .given .1) ∙ extent-is (d .before .before))))
+    (omega (arith, ends (line h)))
 
 returns-4 : tie.Need-returns-4 Inv-loop μ-loop Inv-walk μ-walk
 unfolding judgedOf
 returns-4 c =
-    let g = field (c .before .before .before) in
+    let d = c .before in
+    let g = field (d .before .before .before) in
     let h = head g in
-    record {
-      answer = stop (line h) _ (at-of h) (h .loop .inv .3
-          ∙ wrong-here (rec-of (line h)) (here h) (at-of h) (end-of (line h))
-          (h .loop .inv .0) (h .loop .inv .1) (size g) (field-cut g) _
-          (took-bad (at-of h) (bytes g) (here h) _ (sym (judged-is (c .before .before .before)) ∙ ap judgedOf (c .before .k .given .1))));
-      bounds = omega (arith, ends (line h), h .loop .inv .0);
-    }
+    stopped-at _ _ _ _ (at-of h) (c .stop3 .result) (c .stop3 .ensures)
+    (stop (line h) _ (at-of h) (h .loop .inv .3
+    ∙ wrong-here (rec-of (line h)) (here h) (at-of h) (end-of (line h))
+    (h .loop .inv .0) (h .loop .inv .1) (size g) (field-extent g) _
+    (took-bad (at-of h) (bytes g) (here h) _ (sym (judged-is (d .before .before .before)) ∙ ap judgedOf (d .before .number .given .1)))))
+    (omega (arith, ends (line h), h .loop .inv .0))
 
 returns-5 : tie.Need-returns-5 Inv-loop μ-loop Inv-walk μ-walk
 returns-5 c =
-    let good = c .before .before .before .before .before .before in
-    let plain = c .before .before .before .before .before in
+    let d = c .before in
+    let good = d .before .before .before .before .before .before in
+    let plain = d .before .before .before .before .before in
     let g = good-field good in
     let h = head g in
-    let b = blanks-from (c .before) in
-    record {
-      answer = stop (line h) 7 _ (h .loop .inv .3
-          ∙ byte-here (rec-of (line h)) (here h) (at-of h) (end-of (line h))
-          (h .loop .inv .0) (h .loop .inv .1) (size g) (field-cut g)
-          (no-text plain) (then good) (took good) (c .before .before .before .if5 .taken) _ b (c .if6 .taken));
-      bounds = omega (arith, ends (line h), c .if6 .taken);
-    }
+    let b = blanks-from (d .before) in
+    stopped-at _ _ _ 7 _ (c .stop4 .result) (c .stop4 .ensures)
+    (stop (line h) 7 _ (h .loop .inv .3
+    ∙ byte-here (rec-of (line h)) (here h) (at-of h) (end-of (line h))
+    (h .loop .inv .0) (h .loop .inv .1) (size g) (field-extent g)
+    (no-text plain) (then good) (took good) (d .before .before .before .if5 .taken) _ b (d .if6 .taken)))
+    (omega (arith, ends (line h), d .if6 .taken))
 
 pub walk-lines-spec : {M : Type 1} → statement M
 walk-lines-spec =
@@ -436,6 +444,7 @@ walk-lines-spec =
     add-a
     (λ c κs. search needs)
     add-at
+    (λ c κs. search needs)
     loop-holds
     (λ c κs. search needs)
     (λ c. search needs)
@@ -444,6 +453,7 @@ walk-lines-spec =
     (λ c κs. search needs)
     (λ c. search needs)
     (λ c. search needs)
+    (λ c κs. search needs)
     add-f
     (λ c κs. search needs)
     (λ c. search needs)
@@ -455,6 +465,7 @@ walk-lines-spec =
     part-take-detail-first-end
     (λ c κs. search needs)
     (λ c. search needs)
+    (λ c κs. search needs)
     (λ c. search needs)
     walk-less
     walk-again
@@ -465,6 +476,7 @@ walk-lines-spec =
     (λ c. search needs)
     (λ c κs. search needs)
     add-t
+    (λ c κs. search needs)
     walk-less-2
     walk-again-2
     loop-less

@@ -3,8 +3,8 @@ use mathlib.Core.Path.{sym, ap, subst, _∙_}
 use lib.ListN.{length, take}
 use borrow.Author.Needs.{needs}
 use Rattle.rules.specs.Bytes.{Bytes}
-use Rattle.read_walk.specs.Answers.{Walks}
-use Rattle.read_walk.proofs.Parts.{front-length}
+use Rattle.read_walk.specs.WalkAnswers.{Walks}
+use Rattle.read_walk.proofs.LineParts.{front-length}
 use Rattle.read_walk.proofs.walk_record.Statement.{statement}
 use Rattle.read_walk.proofs.walk_record.Tie as tie
 

@@ -1,5 +1,5 @@
 -- `fitted` meets its contract. Assumes nothing.
-use Rattle.read_wanted.proofs.Nexts.{fit, unfit}
+use Rattle.read_wanted.proofs.NextWants.{fit, unfit}
 use Rattle.read_wanted.proofs.fitted.Statement.{statement}
 use Rattle.read_wanted.proofs.fitted.Tie as tie
 

@@ -1,6 +1,6 @@
 -- `fitted_or_none` meets its contract. Assumes nothing.
 use mathlib.Core.Path.{sym, _∙_}
-use Rattle.read_wanted.proofs.Nexts.{none-fits, some-fits}
+use Rattle.read_wanted.proofs.NextWants.{none-fits, some-fits}
 use borrow.Author.Needs.{needs}
 use Rattle.read_wanted.proofs.fitted_or_none.Statement.{statement}
 use Rattle.read_wanted.proofs.fitted_or_none.Tie as tie

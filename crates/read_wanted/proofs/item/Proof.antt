@@ -1,7 +1,7 @@
 -- `item` meets its contract. Assumes nothing.
 use Rattle.read_wanted.specs.Wants.{wantedOf}
 use Rattle.rules.specs.Grammar.{andThen}
-use Rattle.read_wanted.specs.Takes.{judgedOf}
+use Rattle.read_wanted.specs.TakenMeaning.{judgedOf}
 use borrow.Author.Needs.{needs}
 use Rattle.read_wanted.proofs.item.Statement.{statement}
 use Rattle.read_wanted.proofs.item.Tie as tie

@@ -1,6 +1,6 @@
 -- `take_first_piece` meets its contract. Assumes nothing.
 use mathlib.Core.Path.{sym, _∙_}
-use Rattle.read_wanted.proofs.Judging.{text-none, text-some}
+use Rattle.read_wanted.proofs.TakeLaws.{text-none, text-some}
 use borrow.Author.Needs.{needs}
 use Rattle.read_wanted.proofs.take_first_piece.Statement.{statement}
 use Rattle.read_wanted.proofs.take_first_piece.Tie as tie

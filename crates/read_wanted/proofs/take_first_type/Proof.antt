@@ -1,6 +1,6 @@
 -- `take_first_type` meets its contract. Assumes nothing.
 use mathlib.Core.Path.{sym, _∙_}
-use Rattle.read_wanted.proofs.Judging.{first-none, first-some}
+use Rattle.read_wanted.proofs.TakeLaws.{first-none, first-some}
 use borrow.Author.Needs.{needs}
 use Rattle.read_wanted.proofs.take_first_type.Statement.{statement}
 use Rattle.read_wanted.proofs.take_first_type.Tie as tie

@@ -3,7 +3,7 @@ use mathlib.Core.Path.{_≡_, sym, _∙_}
 use mathlib.Core.Bool.{false}
 use Rattle.rules.specs.Bytes.{isEmpty}
 use Rattle.rules.specs.Bytes.{oneOf}
-use Rattle.read_wanted.proofs.Judging.{funds-none, funds-digit, funds-z, funds-s, funds-v, funds-d, funds-bad}
+use Rattle.read_wanted.proofs.TakeLaws.{funds-none, funds-digit, funds-z, funds-s, funds-v, funds-d, funds-bad}
 use borrow.Author.Needs.{needs}
 use Rattle.read_wanted.proofs.take_funds.Statement.{statement}
 use Rattle.read_wanted.proofs.take_funds.Tie as tie

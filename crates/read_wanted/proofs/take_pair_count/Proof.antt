@@ -1,7 +1,7 @@
 -- `take_pair_count` meets its contract. Assumes nothing.
 use mathlib.Core.Path.{sym, _∙_}
 use borrow.Author.Tests.{not-true, not-false}
-use Rattle.read_wanted.proofs.Judging.{pairs-not, pairs-zero, pairs-some}
+use Rattle.read_wanted.proofs.TakeLaws.{pairs-not, pairs-zero, pairs-some}
 use borrow.Author.Needs.{needs}
 use Rattle.read_wanted.proofs.take_pair_count.Statement.{statement}
 use Rattle.read_wanted.proofs.take_pair_count.Tie as tie

@@ -1,5 +1,5 @@
 -- `take_piece` meets its contract. Assumes nothing.
-use Rattle.read_wanted.proofs.Judging.{piece-none, piece-slash, piece-good}
+use Rattle.read_wanted.proofs.TakeLaws.{piece-none, piece-slash, piece-good}
 use borrow.Author.Needs.{needs}
 use Rattle.read_wanted.proofs.take_piece.Statement.{statement}
 use Rattle.read_wanted.proofs.take_piece.Tie as tie

@@ -1,6 +1,6 @@
 -- `take_version` meets its contract. Assumes nothing.
 use mathlib.Core.Path.{sym, _∙_}
-use Rattle.read_wanted.proofs.Judging.{version-two, version-other}
+use Rattle.read_wanted.proofs.TakeLaws.{version-two, version-other}
 use borrow.Author.Needs.{needs}
 use Rattle.read_wanted.proofs.take_version.Statement.{statement}
 use Rattle.read_wanted.proofs.take_version.Tie as tie

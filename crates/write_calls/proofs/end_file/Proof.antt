@@ -1,40 +1,21 @@
--- `end_file` meets its contract: the drafted line is closed as the rules say. Assumes nothing.
-use mathlib.Core.Path.{sym}
-use mathlib.Core.Bool.{false}
-use mathlib.Core.List.{[], _∷_}
+-- `end_file` meets its contract: the line that `end` commits is the rules' line. Assumes nothing.
+use mathlib.Core.Path.{_∙_}
+use Rattle.write_calls.proofs.CallLaws.{file-end-written}
+use Rattle.write_state.specs.WriterMeaning.{writerMeant}
 use borrow.Author.Needs.{needs}
-use lib.ListN.{length}
-use Rattle.rules.specs.Numbers.{decimal, totalBytes}
-use Rattle.rules.specs.Lines.{fileTrailer}
-use Rattle.rules.specs.Grammar.{fieldsOf}
-use Rattle.rules.specs.Writer as rules
-use Rattle.base_quantities.specs.Kinds.{sumMeant}
-use Rattle.write_line.specs.Drafts.{draftOf}
-use Rattle.write_state.specs.States.{writerMeant}
-use Rattle.write_commit.specs.Closing.{closing}
-use Rattle.write_calls.proofs.Calls.{file-end-closes, in-space, answers}
 use Rattle.write_calls.proofs.end_file.Statement.{statement}
 use Rattle.write_calls.proofs.end_file.Tie as tie
 
 returns : tie.Need-returns
 returns c =
-    let s = c .before .before .before .before .before .before .before .before .before .before .before .before .before in
-    let l = c .before .before .before .before .before .before .before .before .before in
-    let d = c .before .before .before .before .before .before .before in
-    let r = c .before .before .before .before .before .before .before .before .before .before .add in
-    answers (writerMeant (s .args .w)) rules.fileEnd (s .args .out .now) (closing (writerMeant (s .args .w)) fileTrailer (draftOf (d .trailer .last .0) (d .trailer .result)) (sumMeant (c .before .before .before .before .none .result)) false (length (s .args .out .now))) (c .before .before .finish .ensures)
-    (file-end-closes (writerMeant (s .args .w)) (length (s .args .out .now)) (draftOf (d .trailer .last .0) (d .trailer .result)) (sumMeant (c .before .before .before .before .none .result)) (r .result .0) (c .before .before .before .before .none .ensures) (r .ensures) (in-space (length (l .line-space .result)) (sym (l .line-space .ensures)) fileTrailer (fieldsOf fileTrailer) (totalBytes (sumMeant (s .args .w .file .total)) ∷ decimal (s .args .w .file .groups) ∷ decimal (r .result .0) ∷ []) 47 (d .trailer .ensures)))
+    let done = c .before .before in
+    let s = done .before .before .before .before in
+    done .end .ensures ∙ file-end-written (writerMeant (s .args .w)) (s .args .out .now)
 
 pub end-file-spec : {M : Type 1} → statement M
 end-file-spec =
     tie.close
     (tie.spec
-    (λ c κs. search needs)
-    (λ c κs. search needs)
-    (λ c. search needs)
-    (λ c κs. search needs)
-    (λ c. search needs)
-    (λ c κs. search needs)
     (λ c κs. search needs)
     (λ c. search needs)
     returns)

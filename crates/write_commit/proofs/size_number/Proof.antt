@@ -1,6 +1,6 @@
 -- `size_number` meets its contract. Assumes nothing.
 use native.Mathlib.Omega.{arith}
-use Rattle.write_commit.proofs.Rooms.{too-large, too-short, fits-in}
+use Rattle.write_commit.proofs.RoomLaws.{too-large, too-short, fits-in}
 use borrow.Author.Needs.{needs}
 use Rattle.write_commit.proofs.size_number.Statement.{statement}
 use Rattle.write_commit.proofs.size_number.Tie as tie

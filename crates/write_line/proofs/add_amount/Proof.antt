@@ -1,14 +1,14 @@
--- `add_amount` meets its contract. Assumes nothing.
+-- `add_amount` meets its contract: the amount's number, or an empty field. Assumes nothing.
 use mathlib.Core.Path.{_∙_}
 use borrow.Author.Needs.{needs}
 use Rattle.write_line.proofs.add_amount.Statement.{statement}
 use Rattle.write_line.proofs.add_amount.Tie as tie
 
 returns : tie.Need-returns
-returns c = c .before .before .add-total .ensures ∙ rw (c .before .before .before .before .before .before .amount .given .1, c .before .before .before .units-of .ensures)
+returns c = c .add-total .ensures ∙ rw (c .before .before .before .before .amount .given .1, c .before .of .ensures)
 
 returns-2 : tie.Need-returns-2
-returns-2 c = c .before .before .add-empty .ensures ∙ rw (c .before .before .before .before .enum-told .given .1)
+returns-2 c = c .add-empty .ensures ∙ rw (c .before .before .enum-told .given .1)
 
 pub add-amount-spec : {M : Type 1} → statement M
 add-amount-spec =
@@ -19,7 +19,5 @@ add-amount-spec =
     (λ c κs. search needs)
     (λ c. search needs)
     (λ c κs. search needs)
-    (λ c. search needs)
     returns
-    (λ c. search needs)
     returns-2)

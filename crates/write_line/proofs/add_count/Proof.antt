@@ -1,12 +1,16 @@
--- `add_count` meets its contract. Assumes nothing.
-use Rattle.write_line.proofs.Spaces.{number-bytes, decimal-short}
+-- `add_count` meets its contract: a number's digits fit their space. Assumes nothing.
 use native.Mathlib.Omega.{arith}
+use Rattle.write_line.proofs.LineSpace.{number-bytes, decimal-short}
 use borrow.Author.Needs.{needs}
 use Rattle.write_line.proofs.add_count.Statement.{statement}
 use Rattle.write_line.proofs.add_count.Tie as tie
 
 returns : tie.Need-returns
-returns c = rw (number-bytes (c .before .before .before .before .before .before .before .put-digits .ensures) (omega (arith, decimal-short (c .before .before .before .before .before .before .before .before .before .before .before .args .n) (omega arith), c .before .before .before .before .before .before .before .before .before .number-space .ensures))) at (c .before .before .add .ensures)
+returns c =
+    let put = c .before .before .before .before .before in
+    let space = put .before .before in
+    let short = decimal-short (space .before .args .n) (omega arith) in
+    rw (number-bytes (put .put-digits .ensures) (omega (arith, short, space .number-space .ensures))) at (c .add .ensures)
 
 pub add-count-spec : {M : Type 1} → statement M
 add-count-spec =
@@ -19,5 +23,4 @@ add-count-spec =
     (λ c. search needs)
     (λ c. search needs)
     (λ c κs. search needs)
-    (λ c. search needs)
     returns)

@@ -1,14 +1,14 @@
--- `add_items` meets its contract. Assumes nothing.
+-- `add_items` meets its contract: the number's digits, or an empty field. Assumes nothing.
 use mathlib.Core.Path.{_∙_}
 use borrow.Author.Needs.{needs}
 use Rattle.write_line.proofs.add_items.Statement.{statement}
 use Rattle.write_line.proofs.add_items.Tie as tie
 
 returns : tie.Need-returns
-returns c = c .before .before .add-count .ensures ∙ rw (c .before .before .before .before .before .count .given .1)
+returns c = c .add-count .ensures ∙ rw (c .before .before .before .count .given .1)
 
 returns-2 : tie.Need-returns-2
-returns-2 c = c .before .before .add-empty .ensures ∙ rw (c .before .before .before .before .enum-told .given .1)
+returns-2 c = c .add-empty .ensures ∙ rw (c .before .before .enum-told .given .1)
 
 pub add-items-spec : {M : Type 1} → statement M
 add-items-spec =
@@ -18,7 +18,5 @@ add-items-spec =
     (λ c κs. search needs)
     (λ c. search needs)
     (λ c κs. search needs)
-    (λ c. search needs)
     returns
-    (λ c. search needs)
     returns-2)

@@ -1,13 +1,17 @@
--- `add_total` meets its contract. Assumes nothing.
-use Rattle.base_quantities.specs.Kinds.{sumMeant}
-use Rattle.write_line.proofs.Spaces.{number-bytes, total-short}
+-- `add_total` meets its contract: a total's bytes fit their space. Assumes nothing.
 use native.Mathlib.Omega.{arith}
+use Rattle.base_quantities.specs.QuantityMeanings.{sumMeant}
+use Rattle.write_line.proofs.LineSpace.{number-bytes, total-short}
 use borrow.Author.Needs.{needs}
 use Rattle.write_line.proofs.add_total.Statement.{statement}
 use Rattle.write_line.proofs.add_total.Tie as tie
 
 returns : tie.Need-returns
-returns c = rw (number-bytes (c .before .before .before .before .before .before .before .put-total .ensures) (omega (arith, total-short (sumMeant (c .before .before .before .before .before .before .before .before .before .before .before .args .total)) (omega arith) (omega arith), c .before .before .before .before .before .before .before .before .before .number-space .ensures))) at (c .before .before .add .ensures)
+returns c =
+    let put = c .before .before .before .before .before in
+    let space = put .before .before in
+    let short = total-short (sumMeant (space .before .args .total)) (omega arith) (omega arith) in
+    rw (number-bytes (put .put-total .ensures) (omega (arith, short, space .number-space .ensures))) at (c .add .ensures)
 
 pub add-total-spec : {M : Type 1} → statement M
 add-total-spec =
@@ -20,5 +24,4 @@ add-total-spec =
     (λ c. search needs)
     (λ c. search needs)
     (λ c κs. search needs)
-    (λ c. search needs)
     returns)

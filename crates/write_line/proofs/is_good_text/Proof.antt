@@ -2,7 +2,7 @@
 use mathlib.Core.Path.{refl, sym, _∙_}
 use borrow.Author.Needs.{needs}
 use borrow.Author.Tests.{not-true, not-false}
-use Rattle.write_line.proofs.Pieces.{text-long, text-unclean, text-none, text-slash, text-last}
+use Rattle.write_line.proofs.DraftBytes.{text-long, text-unclean, text-none, text-slash, text-last}
 use Rattle.write_line.proofs.is_good_text.Statement.{statement}
 use Rattle.write_line.proofs.is_good_text.Tie as tie
 

@@ -5,7 +5,7 @@ use Rattle.write_line.proofs.sum_given.Statement.{statement}
 use Rattle.write_line.proofs.sum_given.Tie as tie
 
 returns : tie.Need-returns
-returns c = c .units-of .ensures ∙ rw (c .before .before .amount .given .1)
+returns c = c .of .ensures ∙ rw (c .before .before .amount .given .1)
 
 returns-2 : tie.Need-returns-2
 returns-2 c = c .none .ensures ∙ rw (c .before .enum-told .given .1)

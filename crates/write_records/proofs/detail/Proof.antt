@@ -1,51 +1,26 @@
--- `detail` meets its contract: the fields are added one after the other, and the line keeps its length. Assumes nothing.
-use mathlib.Core.Path.{_≡_}
-use native.Mathlib.Omega.{arith}
-use lib.ListN.{length}
+-- `detail` meets its contract: the code, each field in turn, and the text. Assumes nothing.
 use borrow.Author.Needs.{needs}
-use mathlib.Core.List.{[]}
-use Rattle.rules.specs.Lines.{detail}
-use Rattle.rules.specs.Grammar.{fieldsOf}
-use Rattle.rules.specs.Writer.{amountBytes}
-use Rattle.read_wanted.specs.Wants.{wantedOf}
-use Rattle.write_line.specs.Drafts.{draftOf, amountGiven}
-use Rattle.write_records.proofs.Steps.{begins-so, adds-so, texts-so}
 use Rattle.write_records.proofs.detail.Statement.{statement}
 use Rattle.write_records.proofs.detail.Tie as tie
 
-len1 : (c : tie.After-slice-known2) → length (c .before .before .begin .last .0) ≡ length (c .before .before .before .before .before .before .before .before .before .before .args .line .now)
-len1 c = omega arith
-
-len2 : (c : tie.After-slice-known3) → length (c .before .before .add .last .0) ≡ length (c .before .before .before .before .before .before .before .before .before .before .before .before .before .before .args .line .now)
-len2 c = omega (arith, len1 (c .before .before .before .before))
-
-len3 : (c : tie.After-slice-known4) → length (c .before .before .add-amount .last .0) ≡ length (c .before .before .before .before .before .before .before .before .before .before .before .before .before .before .before .before .before .before .args .line .now)
-len3 c = omega (arith, len2 (c .before .before .before .before))
-
-len4 : (c : tie.After-slice-known5) → length (c .before .before .add-empty .last .0) ≡ length (c .before .before .before .before .before .before .before .before .before .before .before .before .before .before .before .before .before .before .before .before .before .before .args .line .now)
-len4 c = omega (arith, len3 (c .before .before .before .before))
-
-len5 : (c : tie.After-slice-known6) → length (c .before .before .add2 .last .0) ≡ length (c .before .before .before .before .before .before .before .before .before .before .before .before .before .before .before .before .before .before .before .before .before .before .before .before .before .before .args .line .now)
-len5 c = omega (arith, len4 (c .before .before .before .before))
-
-len6 : (c : tie.After-slice-known7) → length (c .before .before .add3 .last .0) ≡ length (c .before .before .before .before .before .before .before .before .before .before .before .before .before .before .before .before .before .before .before .before .before .before .before .before .before .before .before .before .before .before .args .line .now)
-len6 c = omega (arith, len5 (c .before .before .before .before))
-
-len7 : (c : tie.After-slice-known8) → length (c .before .before .add-text .last .0) ≡ length (c .before .before .before .before .before .before .before .before .before .before .before .before .before .before .before .before .before .before .before .before .before .before .before .before .before .before .before .before .before .before .before .before .before .before .args .line .now)
-len7 c = omega (arith, len6 (c .before .before .before .before))
-
-same-length : tie.Need-same-length
-same-length c = len7 (c)
-
 returns : tie.Need-returns
 returns c =
-    texts-so (length (c .before .before .before .before .before .before .before .before .before .before .before .before .before .before .before .before .before .before .before .before .before .before .before .before .before .before .before .before .before .before .before .before .before .before .args .line .now)) (c .before .before .before .before .before .before .before .before .before .before .before .before .before .before .before .before .before .before .before .before .before .before .before .before .before .before .before .before .before .before .before .before .before .before .args .text .now) (length (c .before .before .before .before .before .before .add3 .last .0)) (draftOf (c .before .before .before .before .before .before .add3 .last .0) (c .before .before .before .before .before .before .add3 .result)) (c .before .before .add-text .ensures) (len6 (c .before .before .before .before))
-    (adds-so (length (c .before .before .before .before .before .before .before .before .before .before .before .before .before .before .before .before .before .before .before .before .before .before .before .before .before .before .before .before .before .before .before .before .before .before .args .line .now)) (c .before .before .before .before .before .before .before .before .before .before .before .before .before .before .before .before .before .before .before .before .before .before .before .before .before .before .before .before .before .before .before .before .before .before .args .customer-reference .now) 44 (length (c .before .before .before .before .before .before .before .before .before .before .add2 .last .0)) (draftOf (c .before .before .before .before .before .before .before .before .before .before .add2 .last .0) (c .before .before .before .before .before .before .before .before .before .before .add2 .result)) (c .before .before .before .before .before .before .add3 .ensures) (len5 (c .before .before .before .before .before .before .before .before))
-    (adds-so (length (c .before .before .before .before .before .before .before .before .before .before .before .before .before .before .before .before .before .before .before .before .before .before .before .before .before .before .before .before .before .before .before .before .before .before .args .line .now)) (c .before .before .before .before .before .before .before .before .before .before .before .before .before .before .before .before .before .before .before .before .before .before .before .before .before .before .before .before .before .before .before .before .before .before .args .bank-reference .now) 44 (length (c .before .before .before .before .before .before .before .before .before .before .before .before .before .before .add-empty .last .0)) (draftOf (c .before .before .before .before .before .before .before .before .before .before .before .before .before .before .add-empty .last .0) (c .before .before .before .before .before .before .before .before .before .before .before .before .before .before .add-empty .result)) (c .before .before .before .before .before .before .before .before .before .before .add2 .ensures) (len4 (c .before .before .before .before .before .before .before .before .before .before .before .before))
-    (adds-so (length (c .before .before .before .before .before .before .before .before .before .before .before .before .before .before .before .before .before .before .before .before .before .before .before .before .before .before .before .before .before .before .before .before .before .before .args .line .now)) [] 44 (length (c .before .before .before .before .before .before .before .before .before .before .before .before .before .before .before .before .before .before .add-amount .last .0)) (draftOf (c .before .before .before .before .before .before .before .before .before .before .before .before .before .before .before .before .before .before .add-amount .last .0) (c .before .before .before .before .before .before .before .before .before .before .before .before .before .before .before .before .before .before .add-amount .result)) (c .before .before .before .before .before .before .before .before .before .before .before .before .before .before .add-empty .ensures) (len3 (c .before .before .before .before .before .before .before .before .before .before .before .before .before .before .before .before))
-    (adds-so (length (c .before .before .before .before .before .before .before .before .before .before .before .before .before .before .before .before .before .before .before .before .before .before .before .before .before .before .before .before .before .before .before .before .before .before .args .line .now)) (amountBytes (amountGiven (c .before .before .before .before .before .before .before .before .before .before .before .before .before .before .before .before .before .before .before .before .before .before .before .before .before .before .before .before .before .before .before .before .before .before .args .amount))) 44 (length (c .before .before .before .before .before .before .before .before .before .before .before .before .before .before .before .before .before .before .before .before .before .before .add .last .0)) (draftOf (c .before .before .before .before .before .before .before .before .before .before .before .before .before .before .before .before .before .before .before .before .before .before .add .last .0) (c .before .before .before .before .before .before .before .before .before .before .before .before .before .before .before .before .before .before .before .before .before .before .add .result)) (c .before .before .before .before .before .before .before .before .before .before .before .before .before .before .before .before .before .before .add-amount .ensures) (len2 (c .before .before .before .before .before .before .before .before .before .before .before .before .before .before .before .before .before .before .before .before))
-    (adds-so (length (c .before .before .before .before .before .before .before .before .before .before .before .before .before .before .before .before .before .before .before .before .before .before .before .before .before .before .before .before .before .before .before .before .before .before .args .line .now)) (c .before .before .before .before .before .before .before .before .before .before .before .before .before .before .before .before .before .before .before .before .before .before .before .before .before .before .before .before .before .before .before .before .before .before .args .type-code .now) 44 (length (c .before .before .before .before .before .before .before .before .before .before .before .before .before .before .before .before .before .before .before .before .before .before .before .before .before .before .begin .last .0)) (draftOf (c .before .before .before .before .before .before .before .before .before .before .before .before .before .before .before .before .before .before .before .before .before .before .before .before .before .before .begin .last .0) (c .before .before .before .before .before .before .before .before .before .before .before .before .before .before .before .before .before .before .before .before .before .before .before .before .before .before .begin .result)) (c .before .before .before .before .before .before .before .before .before .before .before .before .before .before .before .before .before .before .before .before .before .before .add .ensures) (len1 (c .before .before .before .before .before .before .before .before .before .before .before .before .before .before .before .before .before .before .before .before .before .before .before .before))
-    (begins-so (length (c .before .before .before .before .before .before .before .before .before .before .before .before .before .before .before .before .before .before .before .before .before .before .before .before .before .before .before .before .before .before .before .before .before .before .args .line .now)) detail (wantedOf (c .before .before .before .before .before .before .before .before .before .before .before .before .before .before .before .before .before .before .before .before .before .before .before .before .before .before .before .first-want .result)) (fieldsOf detail) (c .before .before .before .before .before .before .before .before .before .before .before .before .before .before .before .before .before .before .before .before .before .before .before .before .before .before .begin .ensures) (c .before .before .before .before .before .before .before .before .before .before .before .before .before .before .before .before .before .before .before .before .before .before .before .before .before .before .before .first-want .ensures)))))))
+    let customer = c .before .before in
+    let bank = customer .before .before in
+    let funds = bank .before .before in
+    let amount = funds .before .before in
+    let type = amount .before .before in
+    let code = type .before .before in
+    rw (
+      c .add-text .ensures,
+      customer .add3 .ensures,
+      bank .add2 .ensures,
+      funds .add-empty .ensures,
+      amount .add-amount .ensures,
+      type .add .ensures,
+      code .begin .ensures,
+      code .before .first-want .ensures,
+    )
 
 pub detail-spec : {M : Type 1} → statement M
 detail-spec =
@@ -59,5 +34,4 @@ detail-spec =
     (λ c κs. search needs)
     (λ c κs. search needs)
     (λ c κs. search needs)
-    same-length
     returns)

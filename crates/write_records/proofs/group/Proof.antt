@@ -1,53 +1,28 @@
--- `group` meets its contract: the fields are added one after the other, and the line keeps its length. Assumes nothing.
-use mathlib.Core.Path.{_≡_}
-use native.Mathlib.Omega.{arith}
-use lib.ListN.{length}
+-- `group` meets its contract: the code and each field in turn. Assumes nothing.
 use borrow.Author.Needs.{needs}
-use Rattle.rules.specs.Lines.{groupHeader}
-use Rattle.rules.specs.Grammar.{fieldsOf}
-use Rattle.read_wanted.specs.Wants.{wantedOf}
-use Rattle.write_line.specs.Drafts.{draftOf}
-use Rattle.write_records.proofs.Steps.{begins-so, adds-so}
 use Rattle.write_records.proofs.group.Statement.{statement}
 use Rattle.write_records.proofs.group.Tie as tie
 
-len1 : (c : tie.After-slice-known2) → length (c .before .before .begin .last .0) ≡ length (c .before .before .before .before .before .before .before .before .before .before .before .before .before .args .line .now)
-len1 c = omega arith
-
-len2 : (c : tie.After-slice-known3) → length (c .before .before .add .last .0) ≡ length (c .before .before .before .before .before .before .before .before .before .before .before .before .before .before .before .before .before .args .line .now)
-len2 c = omega (arith, len1 (c .before .before .before .before))
-
-len3 : (c : tie.After-slice-known4) → length (c .before .before .add2 .last .0) ≡ length (c .before .before .before .before .before .before .before .before .before .before .before .before .before .before .before .before .before .before .before .before .before .args .line .now)
-len3 c = omega (arith, len2 (c .before .before .before .before))
-
-len4 : (c : tie.After-slice-known5) → length (c .before .before .add3 .last .0) ≡ length (c .before .before .before .before .before .before .before .before .before .before .before .before .before .before .before .before .before .before .before .before .before .before .before .before .before .args .line .now)
-len4 c = omega (arith, len3 (c .before .before .before .before))
-
-len5 : (c : tie.After-slice-known6) → length (c .before .before .add4 .last .0) ≡ length (c .before .before .before .before .before .before .before .before .before .before .before .before .before .before .before .before .before .before .before .before .before .before .before .before .before .before .before .before .before .args .line .now)
-len5 c = omega (arith, len4 (c .before .before .before .before))
-
-len6 : (c : tie.After-slice-known7) → length (c .before .before .add5 .last .0) ≡ length (c .before .before .before .before .before .before .before .before .before .before .before .before .before .before .before .before .before .before .before .before .before .before .before .before .before .before .before .before .before .before .before .before .before .args .line .now)
-len6 c = omega (arith, len5 (c .before .before .before .before))
-
-len7 : (c : tie.After-slice-known8) → length (c .before .before .add6 .last .0) ≡ length (c .before .before .before .before .before .before .before .before .before .before .before .before .before .before .before .before .before .before .before .before .before .before .before .before .before .before .before .before .before .before .before .before .before .before .before .before .before .args .line .now)
-len7 c = omega (arith, len6 (c .before .before .before .before))
-
-len8 : (c : tie.After-slice-known9) → length (c .before .before .add7 .last .0) ≡ length (c .before .before .before .before .before .before .before .before .before .before .before .before .before .before .before .before .before .before .before .before .before .before .before .before .before .before .before .before .before .before .before .before .before .before .before .before .before .before .before .before .before .args .line .now)
-len8 c = omega (arith, len7 (c .before .before .before .before))
-
-same-length : tie.Need-same-length
-same-length c = len8 (c)
-
 returns : tie.Need-returns
 returns c =
-    adds-so (length (c .before .before .before .before .before .before .before .before .before .before .before .before .before .before .before .before .before .before .before .before .before .before .before .before .before .before .before .before .before .before .before .before .before .before .before .before .before .before .before .before .before .args .line .now)) (c .before .before .before .before .before .before .before .before .before .before .before .before .before .before .before .before .before .before .before .before .before .before .before .before .before .before .before .before .before .before .before .before .before .before .before .before .before .before .before .before .before .args .modifier .now) 47 (length (c .before .before .before .before .before .before .add6 .last .0)) (draftOf (c .before .before .before .before .before .before .add6 .last .0) (c .before .before .before .before .before .before .add6 .result)) (c .before .before .add7 .ensures) (len7 (c .before .before .before .before))
-    (adds-so (length (c .before .before .before .before .before .before .before .before .before .before .before .before .before .before .before .before .before .before .before .before .before .before .before .before .before .before .before .before .before .before .before .before .before .before .before .before .before .before .before .before .before .args .line .now)) (c .before .before .before .before .before .before .before .before .before .before .before .before .before .before .before .before .before .before .before .before .before .before .before .before .before .before .before .before .before .before .before .before .before .before .before .before .before .before .before .before .before .args .currency .now) 44 (length (c .before .before .before .before .before .before .before .before .before .before .add5 .last .0)) (draftOf (c .before .before .before .before .before .before .before .before .before .before .add5 .last .0) (c .before .before .before .before .before .before .before .before .before .before .add5 .result)) (c .before .before .before .before .before .before .add6 .ensures) (len6 (c .before .before .before .before .before .before .before .before))
-    (adds-so (length (c .before .before .before .before .before .before .before .before .before .before .before .before .before .before .before .before .before .before .before .before .before .before .before .before .before .before .before .before .before .before .before .before .before .before .before .before .before .before .before .before .before .args .line .now)) (c .before .before .before .before .before .before .before .before .before .before .before .before .before .before .before .before .before .before .before .before .before .before .before .before .before .before .before .before .before .before .before .before .before .before .before .before .before .before .before .before .before .args .time .now) 44 (length (c .before .before .before .before .before .before .before .before .before .before .before .before .before .before .add4 .last .0)) (draftOf (c .before .before .before .before .before .before .before .before .before .before .before .before .before .before .add4 .last .0) (c .before .before .before .before .before .before .before .before .before .before .before .before .before .before .add4 .result)) (c .before .before .before .before .before .before .before .before .before .before .add5 .ensures) (len5 (c .before .before .before .before .before .before .before .before .before .before .before .before))
-    (adds-so (length (c .before .before .before .before .before .before .before .before .before .before .before .before .before .before .before .before .before .before .before .before .before .before .before .before .before .before .before .before .before .before .before .before .before .before .before .before .before .before .before .before .before .args .line .now)) (c .before .before .before .before .before .before .before .before .before .before .before .before .before .before .before .before .before .before .before .before .before .before .before .before .before .before .before .before .before .before .before .before .before .before .before .before .before .before .before .before .before .args .date .now) 44 (length (c .before .before .before .before .before .before .before .before .before .before .before .before .before .before .before .before .before .before .add3 .last .0)) (draftOf (c .before .before .before .before .before .before .before .before .before .before .before .before .before .before .before .before .before .before .add3 .last .0) (c .before .before .before .before .before .before .before .before .before .before .before .before .before .before .before .before .before .before .add3 .result)) (c .before .before .before .before .before .before .before .before .before .before .before .before .before .before .add4 .ensures) (len4 (c .before .before .before .before .before .before .before .before .before .before .before .before .before .before .before .before))
-    (adds-so (length (c .before .before .before .before .before .before .before .before .before .before .before .before .before .before .before .before .before .before .before .before .before .before .before .before .before .before .before .before .before .before .before .before .before .before .before .before .before .before .before .before .before .args .line .now)) (c .before .before .before .before .before .before .before .before .before .before .before .before .before .before .before .before .before .before .before .before .before .before .before .before .before .before .before .before .before .before .before .before .before .before .before .before .before .before .before .before .before .args .status .now) 44 (length (c .before .before .before .before .before .before .before .before .before .before .before .before .before .before .before .before .before .before .before .before .before .before .add2 .last .0)) (draftOf (c .before .before .before .before .before .before .before .before .before .before .before .before .before .before .before .before .before .before .before .before .before .before .add2 .last .0) (c .before .before .before .before .before .before .before .before .before .before .before .before .before .before .before .before .before .before .before .before .before .before .add2 .result)) (c .before .before .before .before .before .before .before .before .before .before .before .before .before .before .before .before .before .before .add3 .ensures) (len3 (c .before .before .before .before .before .before .before .before .before .before .before .before .before .before .before .before .before .before .before .before))
-    (adds-so (length (c .before .before .before .before .before .before .before .before .before .before .before .before .before .before .before .before .before .before .before .before .before .before .before .before .before .before .before .before .before .before .before .before .before .before .before .before .before .before .before .before .before .args .line .now)) (c .before .before .before .before .before .before .before .before .before .before .before .before .before .before .before .before .before .before .before .before .before .before .before .before .before .before .before .before .before .before .before .before .before .before .before .before .before .before .before .before .before .args .originator .now) 44 (length (c .before .before .before .before .before .before .before .before .before .before .before .before .before .before .before .before .before .before .before .before .before .before .before .before .before .before .add .last .0)) (draftOf (c .before .before .before .before .before .before .before .before .before .before .before .before .before .before .before .before .before .before .before .before .before .before .before .before .before .before .add .last .0) (c .before .before .before .before .before .before .before .before .before .before .before .before .before .before .before .before .before .before .before .before .before .before .before .before .before .before .add .result)) (c .before .before .before .before .before .before .before .before .before .before .before .before .before .before .before .before .before .before .before .before .before .before .add2 .ensures) (len2 (c .before .before .before .before .before .before .before .before .before .before .before .before .before .before .before .before .before .before .before .before .before .before .before .before))
-    (adds-so (length (c .before .before .before .before .before .before .before .before .before .before .before .before .before .before .before .before .before .before .before .before .before .before .before .before .before .before .before .before .before .before .before .before .before .before .before .before .before .before .before .before .before .args .line .now)) (c .before .before .before .before .before .before .before .before .before .before .before .before .before .before .before .before .before .before .before .before .before .before .before .before .before .before .before .before .before .before .before .before .before .before .before .before .before .before .before .before .before .args .receiver .now) 44 (length (c .before .before .before .before .before .before .before .before .before .before .before .before .before .before .before .before .before .before .before .before .before .before .before .before .before .before .before .before .before .before .begin .last .0)) (draftOf (c .before .before .before .before .before .before .before .before .before .before .before .before .before .before .before .before .before .before .before .before .before .before .before .before .before .before .before .before .before .before .begin .last .0) (c .before .before .before .before .before .before .before .before .before .before .before .before .before .before .before .before .before .before .before .before .before .before .before .before .before .before .before .before .before .before .begin .result)) (c .before .before .before .before .before .before .before .before .before .before .before .before .before .before .before .before .before .before .before .before .before .before .before .before .before .before .add .ensures) (len1 (c .before .before .before .before .before .before .before .before .before .before .before .before .before .before .before .before .before .before .before .before .before .before .before .before .before .before .before .before))
-    (begins-so (length (c .before .before .before .before .before .before .before .before .before .before .before .before .before .before .before .before .before .before .before .before .before .before .before .before .before .before .before .before .before .before .before .before .before .before .before .before .before .before .before .before .before .args .line .now)) groupHeader (wantedOf (c .before .before .before .before .before .before .before .before .before .before .before .before .before .before .before .before .before .before .before .before .before .before .before .before .before .before .before .before .before .before .before .first-want .result)) (fieldsOf groupHeader) (c .before .before .before .before .before .before .before .before .before .before .before .before .before .before .before .before .before .before .before .before .before .before .before .before .before .before .before .before .before .before .begin .ensures) (c .before .before .before .before .before .before .before .before .before .before .before .before .before .before .before .before .before .before .before .before .before .before .before .before .before .before .before .before .before .before .before .first-want .ensures))))))))
+    let currency = c .before .before in
+    let time = currency .before .before in
+    let date = time .before .before in
+    let status = date .before .before in
+    let originator = status .before .before in
+    let receiver = originator .before .before in
+    let code = receiver .before .before in
+    rw (
+      c .add7 .ensures,
+      currency .add6 .ensures,
+      time .add5 .ensures,
+      date .add4 .ensures,
+      status .add3 .ensures,
+      originator .add2 .ensures,
+      receiver .add .ensures,
+      code .begin .ensures,
+      code .before .first-want .ensures,
+    )
 
 pub group-spec : {M : Type 1} → statement M
 group-spec =
@@ -62,5 +37,4 @@ group-spec =
     (λ c κs. search needs)
     (λ c κs. search needs)
     (λ c κs. search needs)
-    same-length
     returns)

@@ -1,58 +1,30 @@
--- `header` meets its contract: the fields are added one after the other, and the line keeps its length. Assumes nothing.
-use mathlib.Core.Path.{_≡_}
-use native.Mathlib.Omega.{arith}
-use lib.ListN.{length}
+-- `header` meets its contract: the code and each field in turn. Assumes nothing.
 use borrow.Author.Needs.{needs}
-use mathlib.Core.List.{[], _∷_}
-use Rattle.rules.specs.Lines.{fileHeader}
-use Rattle.rules.specs.Grammar.{fieldsOf}
-use Rattle.read_wanted.specs.Wants.{wantedOf}
-use Rattle.write_line.specs.Drafts.{draftOf}
-use Rattle.write_records.proofs.Steps.{begins-so, adds-so}
 use Rattle.write_records.proofs.header.Statement.{statement}
 use Rattle.write_records.proofs.header.Tie as tie
 
-len1 : (c : tie.After-slice-known2) → length (c .before .before .begin .last .0) ≡ length (c .before .before .before .before .before .before .before .before .before .before .before .args .line .now)
-len1 c = omega arith
-
-len2 : (c : tie.After-slice-known3) → length (c .before .before .add .last .0) ≡ length (c .before .before .before .before .before .before .before .before .before .before .before .before .before .before .before .args .line .now)
-len2 c = omega (arith, len1 (c .before .before .before .before))
-
-len3 : (c : tie.After-slice-known4) → length (c .before .before .add2 .last .0) ≡ length (c .before .before .before .before .before .before .before .before .before .before .before .before .before .before .before .before .before .before .before .args .line .now)
-len3 c = omega (arith, len2 (c .before .before .before .before))
-
-len4 : (c : tie.After-slice-known5) → length (c .before .before .add3 .last .0) ≡ length (c .before .before .before .before .before .before .before .before .before .before .before .before .before .before .before .before .before .before .before .before .before .before .before .args .line .now)
-len4 c = omega (arith, len3 (c .before .before .before .before))
-
-len5 : (c : tie.After-slice-known6) → length (c .before .before .add4 .last .0) ≡ length (c .before .before .before .before .before .before .before .before .before .before .before .before .before .before .before .before .before .before .before .before .before .before .before .before .before .before .before .args .line .now)
-len5 c = omega (arith, len4 (c .before .before .before .before))
-
-len6 : (c : tie.After-slice-known7) → length (c .before .before .add5 .last .0) ≡ length (c .before .before .before .before .before .before .before .before .before .before .before .before .before .before .before .before .before .before .before .before .before .before .before .before .before .before .before .before .before .before .before .args .line .now)
-len6 c = omega (arith, len5 (c .before .before .before .before))
-
-len7 : (c : tie.After-slice-known8) → length (c .before .before .add-empty .last .0) ≡ length (c .before .before .before .before .before .before .before .before .before .before .before .before .before .before .before .before .before .before .before .before .before .before .before .before .before .before .before .before .before .before .before .before .before .before .before .args .line .now)
-len7 c = omega (arith, len6 (c .before .before .before .before))
-
-len8 : (c : tie.After-slice-known9) → length (c .before .before .add-empty2 .last .0) ≡ length (c .before .before .before .before .before .before .before .before .before .before .before .before .before .before .before .before .before .before .before .before .before .before .before .before .before .before .before .before .before .before .before .before .before .before .before .before .before .before .before .args .line .now)
-len8 c = omega (arith, len7 (c .before .before .before .before))
-
-len9 : (c : tie.After-slice-known10) → length (c .before .before .add-version .last .0) ≡ length (c .before .before .before .before .before .before .before .before .before .before .before .before .before .before .before .before .before .before .before .before .before .before .before .before .before .before .before .before .before .before .before .before .before .before .before .before .before .before .before .before .before .before .before .args .line .now)
-len9 c = omega (arith, len8 (c .before .before .before .before))
-
-same-length : tie.Need-same-length
-same-length c = len9 (c)
-
 returns : tie.Need-returns
 returns c =
-    adds-so (length (c .before .before .before .before .before .before .before .before .before .before .before .before .before .before .before .before .before .before .before .before .before .before .before .before .before .before .before .before .before .before .before .before .before .before .before .before .before .before .before .before .before .before .before .args .line .now)) (50 ∷ []) 47 (length (c .before .before .before .before .before .before .add-empty2 .last .0)) (draftOf (c .before .before .before .before .before .before .add-empty2 .last .0) (c .before .before .before .before .before .before .add-empty2 .result)) (c .before .before .add-version .ensures) (len8 (c .before .before .before .before))
-    (adds-so (length (c .before .before .before .before .before .before .before .before .before .before .before .before .before .before .before .before .before .before .before .before .before .before .before .before .before .before .before .before .before .before .before .before .before .before .before .before .before .before .before .before .before .before .before .args .line .now)) [] 44 (length (c .before .before .before .before .before .before .before .before .before .before .add-empty .last .0)) (draftOf (c .before .before .before .before .before .before .before .before .before .before .add-empty .last .0) (c .before .before .before .before .before .before .before .before .before .before .add-empty .result)) (c .before .before .before .before .before .before .add-empty2 .ensures) (len7 (c .before .before .before .before .before .before .before .before))
-    (adds-so (length (c .before .before .before .before .before .before .before .before .before .before .before .before .before .before .before .before .before .before .before .before .before .before .before .before .before .before .before .before .before .before .before .before .before .before .before .before .before .before .before .before .before .before .before .args .line .now)) [] 44 (length (c .before .before .before .before .before .before .before .before .before .before .before .before .before .before .add5 .last .0)) (draftOf (c .before .before .before .before .before .before .before .before .before .before .before .before .before .before .add5 .last .0) (c .before .before .before .before .before .before .before .before .before .before .before .before .before .before .add5 .result)) (c .before .before .before .before .before .before .before .before .before .before .add-empty .ensures) (len6 (c .before .before .before .before .before .before .before .before .before .before .before .before))
-    (adds-so (length (c .before .before .before .before .before .before .before .before .before .before .before .before .before .before .before .before .before .before .before .before .before .before .before .before .before .before .before .before .before .before .before .before .before .before .before .before .before .before .before .before .before .before .before .args .line .now)) (c .before .before .before .before .before .before .before .before .before .before .before .before .before .before .before .before .before .before .before .before .before .before .before .before .before .before .before .before .before .before .before .before .before .before .before .before .before .before .before .before .before .before .before .args .file-number .now) 44 (length (c .before .before .before .before .before .before .before .before .before .before .before .before .before .before .before .before .before .before .add4 .last .0)) (draftOf (c .before .before .before .before .before .before .before .before .before .before .before .before .before .before .before .before .before .before .add4 .last .0) (c .before .before .before .before .before .before .before .before .before .before .before .before .before .before .before .before .before .before .add4 .result)) (c .before .before .before .before .before .before .before .before .before .before .before .before .before .before .add5 .ensures) (len5 (c .before .before .before .before .before .before .before .before .before .before .before .before .before .before .before .before))
-    (adds-so (length (c .before .before .before .before .before .before .before .before .before .before .before .before .before .before .before .before .before .before .before .before .before .before .before .before .before .before .before .before .before .before .before .before .before .before .before .before .before .before .before .before .before .before .before .args .line .now)) (c .before .before .before .before .before .before .before .before .before .before .before .before .before .before .before .before .before .before .before .before .before .before .before .before .before .before .before .before .before .before .before .before .before .before .before .before .before .before .before .before .before .before .before .args .time .now) 44 (length (c .before .before .before .before .before .before .before .before .before .before .before .before .before .before .before .before .before .before .before .before .before .before .add3 .last .0)) (draftOf (c .before .before .before .before .before .before .before .before .before .before .before .before .before .before .before .before .before .before .before .before .before .before .add3 .last .0) (c .before .before .before .before .before .before .before .before .before .before .before .before .before .before .before .before .before .before .before .before .before .before .add3 .result)) (c .before .before .before .before .before .before .before .before .before .before .before .before .before .before .before .before .before .before .add4 .ensures) (len4 (c .before .before .before .before .before .before .before .before .before .before .before .before .before .before .before .before .before .before .before .before))
-    (adds-so (length (c .before .before .before .before .before .before .before .before .before .before .before .before .before .before .before .before .before .before .before .before .before .before .before .before .before .before .before .before .before .before .before .before .before .before .before .before .before .before .before .before .before .before .before .args .line .now)) (c .before .before .before .before .before .before .before .before .before .before .before .before .before .before .before .before .before .before .before .before .before .before .before .before .before .before .before .before .before .before .before .before .before .before .before .before .before .before .before .before .before .before .before .args .date .now) 44 (length (c .before .before .before .before .before .before .before .before .before .before .before .before .before .before .before .before .before .before .before .before .before .before .before .before .before .before .add2 .last .0)) (draftOf (c .before .before .before .before .before .before .before .before .before .before .before .before .before .before .before .before .before .before .before .before .before .before .before .before .before .before .add2 .last .0) (c .before .before .before .before .before .before .before .before .before .before .before .before .before .before .before .before .before .before .before .before .before .before .before .before .before .before .add2 .result)) (c .before .before .before .before .before .before .before .before .before .before .before .before .before .before .before .before .before .before .before .before .before .before .add3 .ensures) (len3 (c .before .before .before .before .before .before .before .before .before .before .before .before .before .before .before .before .before .before .before .before .before .before .before .before))
-    (adds-so (length (c .before .before .before .before .before .before .before .before .before .before .before .before .before .before .before .before .before .before .before .before .before .before .before .before .before .before .before .before .before .before .before .before .before .before .before .before .before .before .before .before .before .before .before .args .line .now)) (c .before .before .before .before .before .before .before .before .before .before .before .before .before .before .before .before .before .before .before .before .before .before .before .before .before .before .before .before .before .before .before .before .before .before .before .before .before .before .before .before .before .before .before .args .receiver .now) 44 (length (c .before .before .before .before .before .before .before .before .before .before .before .before .before .before .before .before .before .before .before .before .before .before .before .before .before .before .before .before .before .before .add .last .0)) (draftOf (c .before .before .before .before .before .before .before .before .before .before .before .before .before .before .before .before .before .before .before .before .before .before .before .before .before .before .before .before .before .before .add .last .0) (c .before .before .before .before .before .before .before .before .before .before .before .before .before .before .before .before .before .before .before .before .before .before .before .before .before .before .before .before .before .before .add .result)) (c .before .before .before .before .before .before .before .before .before .before .before .before .before .before .before .before .before .before .before .before .before .before .before .before .before .before .add2 .ensures) (len2 (c .before .before .before .before .before .before .before .before .before .before .before .before .before .before .before .before .before .before .before .before .before .before .before .before .before .before .before .before))
-    (adds-so (length (c .before .before .before .before .before .before .before .before .before .before .before .before .before .before .before .before .before .before .before .before .before .before .before .before .before .before .before .before .before .before .before .before .before .before .before .before .before .before .before .before .before .before .before .args .line .now)) (c .before .before .before .before .before .before .before .before .before .before .before .before .before .before .before .before .before .before .before .before .before .before .before .before .before .before .before .before .before .before .before .before .before .before .before .before .before .before .before .before .before .before .before .args .sender .now) 44 (length (c .before .before .before .before .before .before .before .before .before .before .before .before .before .before .before .before .before .before .before .before .before .before .before .before .before .before .before .before .before .before .before .before .before .before .begin .last .0)) (draftOf (c .before .before .before .before .before .before .before .before .before .before .before .before .before .before .before .before .before .before .before .before .before .before .before .before .before .before .before .before .before .before .before .before .before .before .begin .last .0) (c .before .before .before .before .before .before .before .before .before .before .before .before .before .before .before .before .before .before .before .before .before .before .before .before .before .before .before .before .before .before .before .before .before .before .begin .result)) (c .before .before .before .before .before .before .before .before .before .before .before .before .before .before .before .before .before .before .before .before .before .before .before .before .before .before .before .before .before .before .add .ensures) (len1 (c .before .before .before .before .before .before .before .before .before .before .before .before .before .before .before .before .before .before .before .before .before .before .before .before .before .before .before .before .before .before .before .before))
-    (begins-so (length (c .before .before .before .before .before .before .before .before .before .before .before .before .before .before .before .before .before .before .before .before .before .before .before .before .before .before .before .before .before .before .before .before .before .before .before .before .before .before .before .before .before .before .before .args .line .now)) fileHeader (wantedOf (c .before .before .before .before .before .before .before .before .before .before .before .before .before .before .before .before .before .before .before .before .before .before .before .before .before .before .before .before .before .before .before .before .before .before .before .first-want .result)) (fieldsOf fileHeader) (c .before .before .before .before .before .before .before .before .before .before .before .before .before .before .before .before .before .before .before .before .before .before .before .before .before .before .before .before .before .before .before .before .before .before .begin .ensures) (c .before .before .before .before .before .before .before .before .before .before .before .before .before .before .before .before .before .before .before .before .before .before .before .before .before .before .before .before .before .before .before .before .before .before .before .first-want .ensures)))))))))
+    let block = c .before .before in
+    let physical = block .before .before in
+    let number = physical .before .before in
+    let time = number .before .before in
+    let date = time .before .before in
+    let receiver = date .before .before in
+    let sender = receiver .before .before in
+    let code = sender .before .before in
+    rw (
+      c .add-version .ensures,
+      block .add-empty2 .ensures,
+      physical .add-empty .ensures,
+      number .add5 .ensures,
+      time .add4 .ensures,
+      date .add3 .ensures,
+      receiver .add2 .ensures,
+      sender .add .ensures,
+      code .begin .ensures,
+      code .before .first-want .ensures,
+    )
 
 pub header-spec : {M : Type 1} → statement M
 header-spec =
@@ -68,5 +40,4 @@ header-spec =
     (λ c κs. search needs)
     (λ c κs. search needs)
     (λ c κs. search needs)
-    same-length
     returns)

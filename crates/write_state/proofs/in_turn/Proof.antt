@@ -1,55 +1,55 @@
--- `in_turn` meets its contract. Assumes nothing.
-use mathlib.Core.Path.{_∙_}
-use Rattle.write_state.specs.States.{phaseMeant}
-use Rattle.write_state.proofs.States.{turns}
+-- `in_turn` meets its contract: a line of any code but 88, or a further item. Assumes nothing.
+use mathlib.Core.Path.{_≡_, sym, _∙_}
+use mathlib.Core.Bool.{Bool, true, false}
+use borrow.Author.Tests.{not-true, not-false}
+use Rattle.rules.specs.Lines as lines
+use Rattle.rules.specs.Lines.{continuation, sameCode}
+use Rattle.rules.specs.Writer as rules
+use Rattle.base_codes.specs.CodeMeaning.{codeMeant}
+use Rattle.write_state.specs.WriterMeaning.{phaseMeant}
+use Rattle.write_state.proofs.WriterLaws.{line-turn, no-item-turn, further-turn}
 use borrow.Author.Needs.{needs}
 use Rattle.write_state.proofs.in_turn.Statement.{statement}
 use Rattle.write_state.proofs.in_turn.Tie as tie
 
+abbrev code : tie.After-same-code → lines.Code
+code c = codeMeant (c .before .before .args .code)
+
+abbrev phase : tie.After-same-code → rules.Phase
+phase c = phaseMeant (c .before .before .args .phase)
+
+abbrev items : tie.After-same-code → Bool
+items c = c .before .before .args .items
+
+-- the code is not 88, or it is
+abbrev is-line : (c : tie.Then1) → sameCode (code (c .before)) continuation ≡ false
+is-line c = sym (c .before .same-code .ensures) ∙ not-true _ (c .if1 .taken)
+
+abbrev is-item : (c : tie.Else1) → sameCode (code (c .before)) continuation ≡ true
+is-item c = sym (c .before .same-code .ensures) ∙ not-false _ (c .if1 .left)
+
 returns : tie.Need-returns
-returns c = rw (c .enum-told .given .1, c .before .before .phase-number .ensures) (turns (phaseMeant (c .before .before .before .args .phase)) .header)
+returns c =
+    let asked = c .before .before in
+    c .allows .ensures ∙ rw (asked .before .expected-in .ensures) (line-turn (code asked) (phase asked) (items asked) (is-line (c .before)))
 
 returns-2 : tie.Need-returns-2
-returns-2 c = rw (c .enum-told2 .given .1, c .before .before .phase-number .ensures) (turns (phaseMeant (c .before .before .before .args .phase)) .group)
+returns-2 c = let asked = c .before .before in no-item-turn (code asked) (phase asked) (items asked) (is-item (c .before)) (not-true _ (c .if2 .taken))
 
 returns-3 : tie.Need-returns-3
-returns-3 c = c .is-between .ensures ∙ rw (c .before .enum-told3 .given .1, c .before .before .before .phase-number .ensures) (turns (phaseMeant (c .before .before .before .before .args .phase)) .account)
-
-returns-4 : tie.Need-returns-4
-returns-4 c = rw (c .enum-told4 .given .1, c .before .before .phase-number .ensures) (turns (phaseMeant (c .before .before .before .args .phase)) .in-account)
-
-returns-5 : tie.Need-returns-5
-returns-5 c = rw (c .enum-told5 .given .1, c .before .before .phase-number .ensures) (turns (phaseMeant (c .before .before .before .args .phase)) .account-end)
-
-returns-6 : tie.Need-returns-6
-returns-6 c = rw (c .enum-told6 .given .1, c .before .before .phase-number .ensures) (turns (phaseMeant (c .before .before .before .args .phase)) .group-end)
-
-returns-7 : tie.Need-returns-7
-returns-7 c = rw (c .enum-told7 .given .1, c .before .before .phase-number .ensures) (turns (phaseMeant (c .before .before .before .args .phase)) .file-end)
-
-returns-8 : tie.Need-returns-8
-returns-8 c = c .both .ensures ∙ rw (c .before .enum-told8 .given .1, c .before .before .before .phase-number .ensures, turns (phaseMeant (c .before .before .before .before .args .phase)) .in-account)
+returns-3 c =
+    let item = c .before .before in
+    let asked = item .before in
+    c .allows2 .ensures ∙ rw (asked .before .expected-in .ensures) (further-turn (code asked) (phase asked) (items asked) (is-item item) (not-false _ (c .before .if2 .left)))
 
 pub in-turn-spec : {M : Type 1} → statement M
 in-turn-spec =
     tie.close
     (tie.spec
     (λ c κs. search needs)
-    (λ c. search needs)
-    (λ c. search needs)
-    (λ c. search needs)
     (λ c κs. search needs)
-    (λ c. search needs)
-    (λ c. search needs)
-    (λ c. search needs)
-    (λ c. search needs)
-    (λ c. search needs)
     (λ c κs. search needs)
     returns
     returns-2
-    returns-3
-    returns-4
-    returns-5
-    returns-6
-    returns-7
-    returns-8)
+    (λ c κs. search needs)
+    returns-3)

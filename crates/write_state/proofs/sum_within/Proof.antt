@@ -1,6 +1,6 @@
 -- `sum_within` meets its contract. Assumes nothing.
 use native.Mathlib.Omega.{arith}
-use Rattle.write_state.proofs.States.{magnitudes-over, magnitudes-left}
+use Rattle.write_state.proofs.WriterLaws.{magnitudes-over, magnitudes-left}
 use Rattle.write_state.proofs.sum_within.Statement.{statement}
 use Rattle.write_state.proofs.sum_within.Tie as tie
 

@@ -1,12 +1,15 @@
--- `bai2::cutting::bai2_detail_of` meets its contract: what `parts` answers, in figures. Assumes nothing.
+-- `bai2::cutting::bai2_detail_of` meets its contract: what `part_details` answers, in figures. Assumes nothing.
 use borrow.Author.Needs.{needs}
-use mathlib.Core.Path.{_∙_}
-use Rattle.bai2.proofs.Details.{detail-figures}
+use mathlib.Core.Path.{ap, _∙_}
+use Rattle.bai2.specs.CAnswers.{detailFigures}
+use Rattle.bai2.proofs.DetailFigures.{detail-figures}
 use Rattle.bai2.proofs.cutting.bai2_detail_of.Statement.{statement}
 use Rattle.bai2.proofs.cutting.bai2_detail_of.Tie as tie
 
 returns : tie.Need-returns
-returns c = detail-figures (c .before .before .detail .result) (c .flag-of .result) (c .flag-of .ensures) ∙ c .before .before .detail .ensures .0
+returns c =
+    let d = c .before .before .before in
+    detail-figures (d .detail .result) (c .flag-of .result) (c .flag-of .ensures) (d .detail .ensures .2) ∙ ap detailFigures (d .detail .ensures .0)
 
 pub bai2-detail-of-spec : {M : Type 1} → statement M
 bai2-detail-of-spec = tie.close (tie.spec (λ c κs. search needs) (λ c κs. search needs) returns)

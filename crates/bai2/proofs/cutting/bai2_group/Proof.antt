@@ -1,4 +1,4 @@
--- `bai2::cutting::bai2_group` meets its contract: what `parts` finds, in figures. Assumes nothing.
+-- `bai2::cutting::bai2_group` meets its contract: what `part_groups` finds, in figures. Assumes nothing.
 use borrow.Author.Needs.{needs}
 use mathlib.Core.Path.{_∙_}
 use Rattle.bai2.proofs.cutting.bai2_group.Statement.{statement}

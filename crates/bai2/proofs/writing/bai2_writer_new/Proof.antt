@@ -2,7 +2,7 @@
 use mathlib.Core.Path.{ap, _∙_}
 use borrow.Author.Needs.{needs}
 use Rattle.rules.specs.Writer as rules
-use Rattle.c_writer.specs.Figures.{numbersOf}
+use Rattle.c_writer.specs.WriterFigures.{numbersOf}
 use Rattle.bai2.proofs.writing.bai2_writer_new.Statement.{statement}
 use Rattle.bai2.proofs.writing.bai2_writer_new.Tie as tie
 

@@ -1,24 +1,25 @@
 -- `Units::join` meets its contract. Assumes nothing.
-use mathlib.Core.Path.{sym, _∙_}
+use native.Mathlib.Omega.{arith}
 use borrow.Author.Needs.{needs}
-use Rattle.base_quantities.proofs.Sums.{join-within, join-beyond}
+use Rattle.base_quantities.proofs.UnitsLaws.{sum-within, sum-beyond}
 use Rattle.base_quantities.proofs.Units.join.Statement.{statement}
 use Rattle.base_quantities.proofs.Units.join.Tie as tie
 
 returns : tie.Need-returns
-returns c =
-    join-within _ _ _ _ (sym (c .before .before .sum .given .1) ∙ c .before .before .before .before .add .ensures) (c .add2 .ensures)
+returns c = sum-beyond _ (omega arith)
 
 returns-2 : tie.Need-returns-2
-returns-2 c = join-beyond _ _ (sym (c .enum-told .given .1) ∙ c .before .before .add .ensures)
+returns-2 c = sum-beyond _ (omega arith)
+
+returns-3 : tie.Need-returns-3
+returns-3 c = sum-beyond _ (omega arith)
+
+returns-4 : tie.Need-returns-4
+returns-4 c = sum-beyond _ (omega arith)
+
+returns-5 : tie.Need-returns-5
+returns-5 c = sum-within _ _ (omega arith) (omega arith) (omega arith)
 
 pub join-spec : {M : Type 1} → statement M
 join-spec =
-    tie.close
-    (tie.spec
-    (λ c κs. search needs)
-    (λ c. search needs)
-    (λ c κs. search needs)
-    (λ c. search needs)
-    returns
-    returns-2)
+    tie.close (tie.spec returns returns-2 (λ c. search needs) returns-3 returns-4 (λ c. search needs) (λ c. search needs) returns-5)

@@ -1,7 +1,7 @@
 -- `Kept::keep` meets its contract. Assumes nothing.
 use mathlib.Core.Path.{ap, sym, _∙_}
 use Rattle.read_wanted.specs.Wants.{keepMeant}
-use Rattle.read_kept.specs.Keeping.{keepWith, keepRead}
+use Rattle.read_kept.specs.KeepFields.{keepWith, keepRead}
 use borrow.Author.Needs.{needs}
 use Rattle.read_kept.proofs.Kept.keep.Statement.{statement}
 use Rattle.read_kept.proofs.Kept.keep.Tie as tie
@@ -12,7 +12,7 @@ returns c = rw (sym (c .before .before .kept-for .ensures) ∙ ap keepMeant (c .
 
 returns-2 : tie.Need-returns-2
 unfolding keepRead keepWith
-returns-2 c = rw (sym (c .before .before .before .kept-for .ensures) ∙ ap keepMeant (c .before .enum-told2 .given .1), c .add .ensures)
+returns-2 c = rw (sym (c .before .before .before .kept-for .ensures) ∙ ap keepMeant (c .before .enum-told2 .given .1), c .add-amount .ensures)
 
 returns-3 : tie.Need-returns-3
 unfolding keepRead keepWith

@@ -1,6 +1,6 @@
 -- `Kept::passes` meets its contract. Assumes nothing.
 use native.Mathlib.Omega.{arith}
-use Rattle.read_kept.proofs.Adding.{pass, pass-left}
+use Rattle.read_kept.proofs.AddAmounts.{pass, pass-left}
 use borrow.Author.Needs.{needs}
 use Rattle.read_kept.proofs.Kept.passes.Statement.{statement}
 use Rattle.read_kept.proofs.Kept.passes.Tie as tie

@@ -4,8 +4,8 @@ use mathlib.Core.Path.{_≡_, refl}
 use native.Mathlib.Omega.{arith}
 use lib.ListN.{length, drop, getD}
 use borrow.Author.Needs.{needs}
-use Rattle.read_lines.specs.Cut.{run, stopsAt}
-use Rattle.read_lines.proofs.Runs.{run-none, run-stop, run-step, byte-low, byte-high, byte-good}
+use Rattle.read_lines.specs.LineLengths.{run, stopsAt}
+use Rattle.read_lines.proofs.RunLengths.{run-none, run-stop, run-step, byte-low, byte-high, byte-good}
 use Rattle.read_lines.proofs.scan.end_by_bytes.Statement.{statement}
 use Rattle.read_lines.proofs.scan.end_by_bytes.Tie as tie
 

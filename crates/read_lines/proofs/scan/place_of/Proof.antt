@@ -3,7 +3,7 @@ use borrow.Author.Tests.{ltb-true, ltb-false}
 use mathlib.Core.Path.{sym}
 use mathlib.Core.Logic.{⊎-elim}
 use native.Mathlib.Omega.{arith}
-use Rattle.read_lines.proofs.Runs.{byte-low, byte-high, byte-good}
+use Rattle.read_lines.proofs.RunLengths.{byte-low, byte-high, byte-good}
 use Rattle.read_lines.proofs.scan.place_of.Statement.{statement}
 use Rattle.read_lines.proofs.scan.place_of.Tie as tie
 

@@ -4,8 +4,8 @@ use mathlib.Core.Path.{_≡_, refl}
 use native.Mathlib.Omega.{arith}
 use lib.ListN.{length, drop}
 use borrow.Author.Needs.{needs}
-use Rattle.read_lines.specs.Cut.{run, stopsAt}
-use Rattle.read_lines.proofs.Runs.{run-none}
+use Rattle.read_lines.specs.LineLengths.{run, stopsAt}
+use Rattle.read_lines.proofs.RunLengths.{run-none}
 use Rattle.read_lines.proofs.scan.plain_end.Statement.{statement}
 use Rattle.read_lines.proofs.scan.plain_end.Tie as tie
 

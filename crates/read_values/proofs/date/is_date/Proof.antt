@@ -1,6 +1,6 @@
 -- `is_date` meets its contract. Assumes nothing.
 use mathlib.Core.Path.{ap, sym, _∙_}
-use Rattle.read_values.proofs.Numerals.{found, found-date}
+use Rattle.read_values.proofs.NumberValues.{found, found-date}
 use borrow.Author.Needs.{needs}
 use Rattle.read_values.proofs.date.is_date.Statement.{statement}
 use Rattle.read_values.proofs.date.is_date.Tie as tie

@@ -1,7 +1,7 @@
 -- `is_text` meets its contract. Assumes nothing.
 use Rattle.rules.specs.Grammar.{fieldsOf}
 use Rattle.read_wanted.specs.Wants.{wantedOf}
-use Rattle.read_wanted.proofs.Others.{no-text}
+use Rattle.read_wanted.proofs.OtherWants.{no-text}
 use borrow.Author.Needs.{needs}
 use Rattle.read_wanted.proofs.want.is_text.Statement.{statement}
 use Rattle.read_wanted.proofs.want.is_text.Tie as tie

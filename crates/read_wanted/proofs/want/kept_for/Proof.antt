@@ -1,7 +1,7 @@
 -- `kept_for` meets its contract. Assumes nothing.
 use Rattle.rules.specs.Grammar.{fieldsOf}
 use Rattle.read_wanted.specs.Wants.{wantedOf, purpose}
-use Rattle.read_wanted.proofs.Others.{not-kept}
+use Rattle.read_wanted.proofs.OtherWants.{not-kept}
 use borrow.Author.Needs.{needs}
 use Rattle.read_wanted.proofs.want.kept_for.Statement.{statement}
 use Rattle.read_wanted.proofs.want.kept_for.Tie as tie

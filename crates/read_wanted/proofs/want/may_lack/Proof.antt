@@ -1,7 +1,7 @@
 -- `may_lack` meets its contract. Assumes nothing.
 use Rattle.rules.specs.Grammar.{fieldsOf}
 use Rattle.read_wanted.specs.Wants.{wantedOf}
-use Rattle.read_wanted.proofs.Others.{must-come}
+use Rattle.read_wanted.proofs.OtherWants.{must-come}
 use borrow.Author.Needs.{needs}
 use Rattle.read_wanted.proofs.want.may_lack.Statement.{statement}
 use Rattle.read_wanted.proofs.want.may_lack.Tie as tie

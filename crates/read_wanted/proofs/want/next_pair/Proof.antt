@@ -1,5 +1,5 @@
 -- `next_pair` meets its contract. Assumes nothing.
-use Rattle.read_wanted.proofs.Nexts.{pairs-end, pairs-more}
+use Rattle.read_wanted.proofs.NextWants.{pairs-end, pairs-more}
 use borrow.Author.Needs.{needs}
 use Rattle.read_wanted.proofs.want.next_pair.Statement.{statement}
 use Rattle.read_wanted.proofs.want.next_pair.Tie as tie

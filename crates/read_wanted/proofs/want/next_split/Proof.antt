@@ -1,5 +1,5 @@
 -- `next_split` meets its contract. Assumes nothing.
-use Rattle.read_wanted.proofs.Nexts.{splits-end, splits-more}
+use Rattle.read_wanted.proofs.NextWants.{splits-end, splits-more}
 use borrow.Author.Needs.{needs}
 use Rattle.read_wanted.proofs.want.next_split.Statement.{statement}
 use Rattle.read_wanted.proofs.want.next_split.Tie as tie

@@ -1,7 +1,7 @@
 -- `days_in` meets its contract. Assumes nothing.
 use mathlib.Core.Path.{refl}
 use Rattle.rules.specs.Dates.{daysOf}
-use Rattle.read_values.proofs.Numerals.{days-leap, days-february, days-short, days-long}
+use Rattle.read_values.proofs.NumberValues.{days-leap, days-february, days-short, days-long}
 use Rattle.read_values.proofs.date.Date.days_in.Statement.{statement}
 use Rattle.read_values.proofs.date.Date.days_in.Tie as tie
 

@@ -4,8 +4,8 @@ use mathlib.Core.Bool.{true}
 use native.Mathlib.Omega.{arith}
 use borrow.Author.Tests.{not-true, not-false}
 use Rattle.rules.specs.Numbers.{digits}
-use Rattle.base_digits.proofs.Reading.{digits-length}
-use Rattle.read_values.proofs.Numerals.{date-not, month-low, month-high, day-low, day-high, day-good}
+use Rattle.base_digits.proofs.ReadingLaws.{digits-length}
+use Rattle.read_values.proofs.NumberValues.{date-not, month-low, month-high, day-low, day-high, day-good}
 use borrow.Author.Needs.{needs}
 use Rattle.read_values.proofs.date.Date.read.Statement.{statement}
 use Rattle.read_values.proofs.date.Date.read.Tie as tie

@@ -1,0 +1,2 @@
+-- What a refusal means.
+pub mod RefusalMeaning

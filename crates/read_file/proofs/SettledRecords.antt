@@ -1,0 +1,107 @@
+-- After the fields, what is kept of them settles a record as the rules do. Assumes nothing.
+use Prim.Native.Nat.{ℕ}
+use mathlib.Core.Path.{_≡_, refl, ap, _∙_}
+use mathlib.Core.Bool.{Bool, true, false, cond, not}
+use mathlib.Core.List.{List, [], _∷_}
+use lib.Dec.{eqb}
+use lib.ListN.{length}
+use Rattle.rules.specs.Bytes.{Bytes, isEmpty, plus, minus}
+use Rattle.rules.specs.Outcome.{Outcome, refused, fine, _>>=_, _>>_, check}
+use Rattle.rules.specs.Numbers.{Signed, signed, asSum, equals, magnitudes, number, numberFrom, withoutSign}
+use Rattle.rules.specs.Lines.{Code, fileHeader, groupHeader, accountHeader, detail, accountTrailer, groupTrailer, fileTrailer, continuation, sameCode, Record}
+use Rattle.rules.specs.Grammar.{total, count, records, physicalLength}
+use Rattle.rules.specs.Records.{Field, the}
+use Rattle.rules.specs.Totals.{Summary, _⊞_, ofRecord, balanced, rightTotal, rightCount, rightRecords, sumWithin}
+use Rattle.rules.specs.Verdict.{State, limitGiven, limitAfter, ownLines, stateAfter, settled}
+use Rattle.rules.proofs.Tests.{Known, holds, fails, known, true-eq}
+use Rattle.read_kept.specs.declared.Kept.{Kept}
+use Rattle.read_kept.specs.declared.Stated.{Stated}
+use Rattle.read_kept.specs.KeptOfFields.{StatedIs, KeptOf, overOf}
+use Rattle.read_trailers.specs.TrailerChecks.{withinK, totalK, countK, recordsK, accountK, trailerK, balancedK}
+use Rattle.read_file.specs.RecordSteps.{limitK, thisK, nextK, settledK}
+
+-- a sign adds nothing to a number
+sign-step : (b : ℕ) (bs : Bytes) → Known (eqb b plus) → Known (eqb b minus) → number (withoutSign (b ∷ bs)) ≡ number (b ∷ bs)
+unfolding withoutSign numberFrom
+sign-step b bs (holds e) m = rw e (rw (true-eq b plus e))
+sign-step b bs (fails e) (holds f) = rw (e, f) (rw (true-eq b minus f))
+sign-step b bs (fails e) (fails f) = rw (e, f)
+
+number-sign : (bs : Bytes) → number (withoutSign bs) ≡ number bs
+unfolding withoutSign
+number-sign [] = refl
+number-sign (b ∷ bs) = sign-step b bs (known (eqb b plus)) (known (eqb b minus))
+
+value-is : (x : Stated) (f : Field) → StatedIs x f → x .value ≡ number (f .bytes)
+unfolding signed
+value-is x f i = ap (λ (a : Signed). a .magnitude) (i .amount) ∙ number-sign (f .bytes)
+
+-- what is kept of these fields, after records with magnitudes m
+module _ (m : ℕ) (fs : List Field) (k : Kept) (is : KeptOf m fs k) where
+  -- ---- L
+  given-right : (limit : ℕ) → cond (k .length .given) (k .length .value) limit ≡ limitGiven limit fs
+  unfolding limitGiven
+  given-right limit = rw (is .length .given, value-is (k .length) (the physicalLength fs) (is .length)) (by-empty (isEmpty (the physicalLength fs .bytes)))
+    where
+      by-empty : (t : Bool) → cond (not t) (number (the physicalLength fs .bytes)) limit ≡ cond t limit (number (the physicalLength fs .bytes))
+      by-empty true = refl
+      by-empty false = refl
+
+  limit-right : (c : Code) (limit : ℕ) → limitK c limit k ≡ limitAfter c limit fs
+  unfolding limitK limitAfter
+  limit-right c limit = ap (λ (n : ℕ). cond (sameCode c fileHeader) n limit) (given-right limit)
+
+  -- ---- 14, 11, 12, 13
+  within-right : (s : Summary) → withinK s k ≡ sumWithin s fs
+  unfolding withinK sumWithin
+  within-right s = rw (is .total .place)
+
+  total-right : (s : Summary) → totalK s k ≡ rightTotal s fs
+  unfolding totalK rightTotal
+  total-right s = rw (is .total .place) (ap (λ (a : Signed). check (equals (s .sum) (asSum a)) 11 (the total fs .place)) (is .total .amount))
+
+  count-right : (n : ℕ) → countK n k ≡ rightCount n fs
+  unfolding countK rightCount
+  count-right n = rw (is .count .place, value-is (k .count) (the count fs) (is .count))
+
+  records-right : (s : Summary) → recordsK s k ≡ rightRecords s fs
+  unfolding recordsK rightRecords
+  records-right s = rw (is .records .place, value-is (k .records) (the records fs) (is .records))
+
+  trailer-right : (s : Summary) (n : ℕ) → trailerK s n k ≡ (sumWithin s fs >> (rightTotal s fs >> (rightCount n fs >> rightRecords s fs)))
+  unfolding trailerK
+  trailer-right s n = rw (within-right s, total-right s, count-right n, records-right s)
+
+  balanced-right : (c : Code) (a g f : Summary) → balancedK c a g f k ≡ balanced c a g f fs
+  unfolding balancedK balanced accountK
+  balanced-right fileHeader a g f = refl
+  balanced-right groupHeader a g f = refl
+  balanced-right accountHeader a g f = refl
+  balanced-right detail a g f = refl
+  balanced-right continuation a g f = refl
+  balanced-right accountTrailer a g f = rw (total-right a, records-right a)
+  balanced-right groupTrailer a g f = trailer-right g (g .accounts)
+  balanced-right fileTrailer a g f = trailer-right f (f .groups)
+
+  -- ---- all together
+  module _ (s : State) (r : Record) (c : Code) where
+    this-right : k .over ≡ false → thisK c (length r) k ≡ ofRecord c r fs
+    unfolding thisK ofRecord
+    this-right o = rw (is .sum o)
+
+    next-right : k .over ≡ false → nextK s c (length r) k ≡ stateAfter s r (record { code = c; fields = fs })
+    unfolding nextK stateAfter
+    next-right o = rw (this-right o, limit-right c (s .limit))
+
+    by-over : (o : Outcome (Unit {0})) → Known (k .over)
+        → (o >>= λ _. overOf k >>= λ _. balancedK c (s .account ⊞ thisK c (length r) k) (s .group ⊞ thisK c (length r) k) (s .file ⊞ thisK c (length r) k) k >>= λ _. fine (nextK s c (length r) k))
+        ≡ (o >>= λ _. overOf k >>= λ _. balanced c (s .account ⊞ ofRecord c r fs) (s .group ⊞ ofRecord c r fs) (s .file ⊞ ofRecord c r fs) fs >>= λ _. fine (stateAfter s r (record { code = c; fields = fs })))
+    by-over (refused why) t = refl
+    by-over (fine u) (holds e) = rw e
+    by-over (fine u) (fails e) =
+        rw (this-right e, balanced-right c (s .account ⊞ ofRecord c r fs) (s .group ⊞ ofRecord c r fs) (s .file ⊞ ofRecord c r fs), next-right e)
+
+    pub settled-right : m ≡ magnitudes (s .file .sum) → settledK s r c k ≡ settled s r (record { code = c; fields = fs })
+    unfolding settledK settled
+    settled-right e =
+        rw (limit-right c (s .limit), ← e, is .bound) (by-over (ownLines c (limitAfter c (s .limit) fs) r) (known (k .over)))

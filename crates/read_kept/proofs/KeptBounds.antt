@@ -1,0 +1,63 @@
+-- What is kept stays within its bounds. Assumes nothing.
+use Prim.Native.Nat.{ℕ, _+_, _≤_, zero-le}
+use mathlib.Core.Path.{refl}
+use mathlib.Core.Bool.{Bool, true, false}
+use native.Mathlib.Omega.{arith}
+use lib.Dec.{leb}
+use borrow.Author.Tests.{leb-true}
+use Rattle.rules.specs.Bytes.{Bytes}
+use Rattle.rules.specs.Numbers.{Signed, asSum, _⊕_, magnitudes}
+use Rattle.rules.specs.Limits.{most}
+use Rattle.rules.proofs.Tests.{Known, holds, fails, known}
+use Rattle.base_quantities.specs.QuantityMeanings.{sumMeant}
+use Rattle.read_wanted.specs.Wants.{Purpose, forAmount, forTotal, forCount, forRecords, forLength, samePurpose}
+use Rattle.read_kept.specs.declared.Stated.{Stated}
+use Rattle.read_kept.specs.declared.Kept.{Kept}
+use Rattle.read_kept.specs.KeepFields.{nothingKept, statedWith, statedIf, Amounts, amountsOf, addTo, addIf, keepWith, keepRead, Within}
+
+pub nothing-within : (n m : ℕ) → Within n m (nothingKept m)
+nothing-within n m =
+    record { before = refl; sum = λ h. omega arith; past = zero-le; total = zero-le; count = zero-le; records = zero-le; length = zero-le }
+
+module _ (n : ℕ) (p : ℕ) (at : p ≤ n) where
+  stated-within : (t : Bool) (old : Stated) (g : Bool) (a : Signed) → old .at .0 ≤ n → statedIf t old p g a .at .0 ≤ n
+  unfolding statedWith
+  stated-within true old g a h = go (known (old .seen))
+    where
+      go : Known (old .seen) → statedWith old p g a .at .0 ≤ n
+      go (holds e) = rw e h
+      go (fails e) = rw e at
+  stated-within false old g a h = h
+
+  -- the sum with magnitudes m before it, and the place of the amount that passed
+  abbrev Fits : ℕ → Amounts → Type 0
+  Fits m x = (m ≤ most → m + magnitudes (sumMeant (x .sum)) ≤ most) × (x .past .0 ≤ n)
+
+  amounts-within : (t : Bool) (m : ℕ) (x : Amounts) (a : Signed) → Fits m x → Fits m (addIf t m x p a)
+  unfolding addTo
+  amounts-within true m x a h = go (known (x .over)) (known (leb (m + magnitudes (sumMeant (x .sum) ⊕ asSum a)) most))
+    where
+      go : Known (x .over) → Known (leb (m + magnitudes (sumMeant (x .sum) ⊕ asSum a)) most) → Fits m (addTo m x p a)
+      go (holds o) l = rw o h
+      go (fails o) (holds l) = rw (o, l) (λ _. leb-true (m + magnitudes (sumMeant (x .sum) ⊕ asSum a)) most l, h .1)
+      go (fails o) (fails l) = rw (o, l) (h .0, at)
+  amounts-within false m x a h = h
+
+  keep-within : (m : ℕ) (u : Purpose) (k : Kept) (g : Bool) (a : Signed) → Within n m k → Within n m (keepWith u k p g a)
+  unfolding keepWith
+  keep-within m u k g a w =
+      let x = amounts-within (samePurpose forAmount u) (k .before) (amountsOf k) a (rw (w .before) (w .sum), w .past) in
+      record {
+        before = w .before;
+        sum = λ h. let y = x .0 (omega arith) in omega arith;
+        past = x .1;
+        total = stated-within (samePurpose forTotal u) (k .total) g a (w .total);
+        count = stated-within (samePurpose forCount u) (k .count) g a (w .count);
+        records = stated-within (samePurpose forRecords u) (k .records) g a (w .records);
+        length = stated-within (samePurpose forLength u) (k .length) g a (w .length);
+      }
+
+-- a field at p, as the code reads it
+pub read-within : (n m : ℕ) (u : Purpose) (k : Kept) (p : ℕ) (bs : Bytes) → p ≤ n → Within n m k → Within n m (keepRead u k p bs)
+unfolding keepRead
+read-within n m u k p bs at w = keep-within n p at m u k _ _ w
