@@ -1,4 +1,4 @@
-// Three quantities that must not mix: sums of minor units, counts of records, and places of bytes.
+// Quantities that must not mix: minor units, counts of groups, accounts and details, counts of records, and places of bytes.
 use base_limits::MOST;
 ghost use mathlib.Core.Path.{_≡_};
 ghost use Prim.Native.Nat.{_+_, min};
@@ -16,6 +16,12 @@ pub enum UnitsSum {
     Within(Units),
     Beyond,
 }
+
+// Minor units without a sign.
+pub struct Magnitude(pub u64);
+
+// How many groups, accounts or details.
+pub struct Count(pub u64);
 
 // How many records.
 pub struct Records(pub u64);
