@@ -38,13 +38,13 @@ impl Units {
     }
 
     // A magnitude with its sign, as a sum: a debit is a plus like a credit, and only a minus sign counts as a minus.
-    pub fn of(negative: bool, magnitude: u64) -> Units
-        ensures { λ r. ⌜ sumMeant r ≡ asSum (record { negative = negative; magnitude = magnitude }) ⌝ }
+    pub fn of(negative: bool, magnitude: Magnitude) -> Units
+        ensures { λ r. ⌜ sumMeant r ≡ asSum (record { negative = negative; magnitude = magnitude .0 }) ⌝ }
     {
         if negative {
-            return Units(0, magnitude);
+            return Units(0, magnitude.0);
         }
-        Units(magnitude, 0)
+        Units(magnitude.0, 0)
     }
 
     // Both sums in one, pluses to pluses and minuses to minuses; a side past the largest number of 64 bits wraps.
