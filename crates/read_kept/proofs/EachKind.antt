@@ -55,11 +55,11 @@ reads-status : Signs statusAmount
 unfolding judged
 reads-status bs new e = either (isEmpty bs) (isSigned bs) (fitted _ new e) (amount-empty bs) (amount-signed bs)
 
-reads-amount : Signs amount
+pub reads-amount : Signs amount
 unfolding judged
 reads-amount bs new e = either (isEmpty bs) (isUnsigned bs) (fitted _ new e) (amount-empty bs) (λ h. amount-signed bs (unsigned-signed bs h))
 
-reads-total : Signs total
+pub reads-total : Signs total
 unfolding judged
 reads-total bs new e = amount-signed bs (fitted _ new e)
 

@@ -56,7 +56,7 @@ fn walk_lines(rest: &[u8], rec: &[u8], first: Want, before: Magnitude) -> Walked
         if rec.len() <= at {
             break 'walk finish(want, kept, slash);
         }
-        let e = read_lines::body_end_in(rest, rec.len(), at);
+        let e = read_lines::body_end_in(rest, rec.len(), Place(at)).0;
         let mut a = at + 3;
         at = e + read_lines::end_len(rec, e);
         if e < a {

@@ -67,7 +67,7 @@ abbrev start-of : Line → ℕ
 start-of c = c .before .before .before .walk .at
 
 abbrev end-of : Line → ℕ
-end-of c = c .before .body-end-in .result
+end-of c = c .before .body-end-in .result .0
 
 abbrev next-of : Line → ℕ
 next-of c = end-of c + c .end-len .result
@@ -332,7 +332,7 @@ walk-again c =
     )
 
 add-a-2 : tie.Need-add-a-2 Inv-loop μ-loop Inv-walk μ-walk
-add-a-2 c = omega (arith, short c, ends (line (head (good-field (c .before)))))
+add-a-2 c = let l = line (head (good-field (c .before))) in omega (arith, short c, ends l, entry l .good)
 
 shared-slice-read-if5 : tie.Need-shared-slice-read-if5 Inv-loop μ-loop Inv-walk μ-walk
 shared-slice-read-if5 c = omega (arith, short (c .before), ends (line (head (good-field (c .before .before)))))
