@@ -4,15 +4,15 @@ use base_quantities::Units;
 ghost use mathlib.Core.Path.{_≡_};
 ghost use mathlib.Core.List.{_∷_};
 ghost use Prim.Native.Nat.{_≤_};
-ghost use lib.ListN.{length, take};
+ghost use lib.ListN.{length};
 ghost use Rattle.rules.specs.Bytes.{comma};
 ghost use Rattle.rules.specs.Numbers.{decimal};
 ghost use Rattle.rules.specs.Lines.{linesOf};
 ghost use Rattle.base_quantities.specs.QuantityMeanings.{sumMeant};
 ghost use Rattle.base_numerals.specs.PutBytes.{Put};
-ghost use Rattle.join_trailer.specs.FreshTrailer.{lastLine};
+ghost use Rattle.join_trailer.specs.FreshTrailer.{lastLine, trailerOf};
 
-// A fresh 99: its bytes and how many they are.
+// A fresh 99: its bytes, zeros after them, and how many they are.
 pub struct Trailer {
     pub bytes: [u8; 80],
     pub length: usize,
@@ -45,7 +45,7 @@ fn put_trailer(out: &mut [u8], total: Units, groups: u64, records: u64) -> usize
 
 // The fresh 99 with this total, so many groups and so many records, itself included.
 pub fn fresh_trailer(total: Units, groups: u64, records: Records) -> Trailer
-    ensures { λ r. ⌜ (take (r .length) (r .bytes) ≡ lastLine (sumMeant total) groups (records .0)) × (r .length ≤ 80) × (length (r .bytes) ≡ 80) ⌝ }
+    ensures { λ r. ⌜ (r ≡ trailerOf (lastLine (sumMeant total) groups (records .0))) × (r .length ≤ 80) × (length (r .bytes) ≡ 80) ⌝ }
 {
     let mut bytes = [0u8; 80];
     let length = put_trailer(&mut bytes, total, groups, records.0);

@@ -12,6 +12,7 @@ use Rattle.base_numerals.specs.PutBytes.{Put}
 use Rattle.base_numerals.proofs.PutLaws.{rest-is}
 use Rattle.join_trailer.specs.FreshTrailer.{lastLine}
 use Rattle.join_combine.specs.CombineAnswers.{combinedResult, combinedFitting}
+use Rattle.join_trailer.proofs.TrailerLengths.{in-front}
 use Rattle.join_trailer.proofs.FitsLaws.{too-long, no-room, written, part-most, front-size}
 use Rattle.join_combine.proofs.CombineLaws.{short, last-inside, header-first, result-is, result-size}
 use borrow.Author.Needs.{needs}
@@ -92,7 +93,7 @@ size : (c : Measured) → let s = begun c in (x-of s + (y-of s - h-of s)) + size
 size c =
     let s = begun c in
     let last = c .fresh-trailer .ensures in
-    let long : length (last-of c) ≡ size-of c = front-size (last-of c) _ (size-of c) (last .0) (omega (arith, last .1, last .2)) in
+    let long : length (last-of c) ≡ size-of c = front-size (last-of c) _ (size-of c) (in-front (last-of c) _ (last .0)) (omega (arith, last .1, last .2)) in
     omega (arith, ap length (result c), result-size (a-of s) (b-of s) (s .args .first) (s .args .second) (s .pre .0) (s .pre .1) (h-of s) (s .pre .2) (last-of c), long)
 
 -- the same, as the slices are lent
@@ -103,7 +104,7 @@ lent c =
     let s = begun c in
     let e : x-of s - 0 ≡ x-of s = omega arith in
     let f : size-of c - 0 ≡ size-of c = omega arith in
-    let trailer : take (size-of c - 0) (drop 0 (c .fresh-trailer .result .bytes)) ≡ last-of c = rw f (c .fresh-trailer .ensures .0) in
+    let trailer : take (size-of c - 0) (drop 0 (c .fresh-trailer .result .bytes)) ≡ last-of c = rw f (in-front (last-of c) _ (c .fresh-trailer .ensures .0)) in
     ap (λ (k : ℕ). take k (a-of s) ++ (take (y-of s - h-of s) (drop (h-of s) (b-of s)) ++ take (size-of c - 0) (drop 0 (c .fresh-trailer .result .bytes)))) e
     ∙ ap (λ (bs : Bytes). take (x-of s) (a-of s) ++ (take (y-of s - h-of s) (drop (h-of s) (b-of s)) ++ bs)) trailer
     ∙ result c

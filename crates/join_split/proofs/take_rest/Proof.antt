@@ -9,6 +9,7 @@ use Rattle.base_quantities.specs.QuantityMeanings.{sumMeant}
 use Rattle.base_numerals.specs.PutBytes.{Put}
 use Rattle.join_groups.specs.GroupsAhead.{matching, Tallied}
 use Rattle.join_groups.proofs.GroupOpens.{Opened, opened}
+use Rattle.join_trailer.proofs.TrailerLengths.{in-front}
 use Rattle.join_trailer.proofs.FitsLaws.{part-most}
 use Rattle.join_split.proofs.SplitLaws.{last-is, groups-are}
 use borrow.Author.Needs.{needs}
@@ -59,7 +60,7 @@ returns c =
     record {
       count = tally m .size ∙ ap length groups;
       put = same-put _ _ _ _ _ groups (t .ensures .put (known m .ahead));
-      is-last = last .0 ∙ last-is name file h (known m) (t .result .groups) (t .result .bytes) (sumMeant (t .result .total)) (t .result .records .0) n _ (tally m) lines all;
+      is-last = in-front _ _ (last .0) ∙ last-is name file h (known m) (t .result .groups) (t .result .bytes) (sumMeant (t .result .total)) (t .result .records .0) n _ (tally m) lines all;
       last-most = (last .1, last .2);
     }
 
