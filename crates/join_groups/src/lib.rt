@@ -4,10 +4,11 @@ use base_quantities::Records;
 use base_quantities::Units;
 use find_field::Sought;
 ghost use mathlib.Core.Path.{_≡_};
+ghost use lib.ListN.{drop};
 ghost use Rattle.rules.specs.Lines.{linesOf};
 ghost use Rattle.base_quantities.specs.QuantityMeanings.{sumMeant};
 ghost use Rattle.join_groups.specs.StatedNumbers.{statedTotal, statedRecords};
-ghost use Rattle.join_groups.specs.GroupsAhead.{Takes};
+ghost use Rattle.join_groups.specs.GroupsTaken.{groupsTaken, tallyOf, slicePut};
 
 // What groups add: how many they are, their bytes, their total and their records.
 pub struct Tally {
@@ -35,9 +36,9 @@ fn read_trailer(rec: &[u8]) -> GroupTrailer
     }
 }
 
-// What the groups for this name add, of the groups from `from` on; and their bytes at the front of out, where it has room for them all.
+// What the groups for this name add, of the groups from `from` on; and at the front of out, one after the other, the bytes of each that still fits.
 pub fn take_groups(name: &[u8], file: &[u8], from: usize, out: &mut [u8]) -> Tally
-    ensures { λ r. ⌜ Takes (now (name .entry)) (now (file .entry)) from (now (out .entry)) (r .groups) (r .bytes) (sumMeant (r .total)) (r .records .0) (now (out .exit)) ⌝ }
+    ensures { λ r. ⌜ (r ≡ tallyOf (groupsTaken (now (name .entry)) (drop from (now (file .entry))))) × (now (out .exit) ≡ slicePut (groupsTaken (now (name .entry)) (drop from (now (file .entry)))) (now (out .entry))) ⌝ }
 {
     let mut at = from;
     let mut o: usize = 0;

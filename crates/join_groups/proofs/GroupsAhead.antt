@@ -1,11 +1,11 @@
 -- What stands ahead in an accepted file, from a group's start on: groups, each with a 98 that states its numbers, and a 99. Assumes nothing.
-use Prim.Native.Nat.{ℕ, _+_, _-_, _≤_}
+use Prim.Native.Nat.{ℕ, _≤_}
 use mathlib.Core.Path.{_≡_}
 use mathlib.Core.Bool.{true}
 use mathlib.Core.List.{List, [], _∷_, _++_}
 use mathlib.Core.Option.{some}
 use lib.Dec.{T}
-use lib.ListN.{length, drop}
+use lib.ListN.{length}
 use Rattle.rules.specs.Bytes.{Bytes}
 use Rattle.rules.specs.Numbers.{Sum, equals, magnitudes}
 use Rattle.rules.specs.Limits.{most}
@@ -15,8 +15,10 @@ use Rattle.rules.specs.Records.{walkRecord}
 use Rattle.rules.specs.Parts.{heads, groupsIn, fieldsIn}
 use Rattle.rules.specs.Combine.{summaryOfAll, concat}
 use Rattle.rules.specs.Split.{groupsFor}
+use Rattle.base_quantities.specs.QuantityMeanings.{sumMeant}
 use Rattle.base_numerals.specs.PutBytes.{Put}
 use Rattle.laws.specs.LawWords.{All, accountsIn, Controlled, IsGroup, Kept}
+use Rattle.join_groups.specs.declared.Tally.{Tally}
 
 -- a group of an accepted file: its shape, its records as they stand anywhere, its 02's fields, and what its 98 states
 pub record Stands (g : List Record) : Type 0 where
@@ -45,9 +47,9 @@ pub record Tallied (gs : List (List Record)) (groups bytes : ℕ) (total : Sum) 
 abbrev pub matching : Bytes → Bytes → List (List Record)
 matching name xs = groupsFor name (groupsIn xs)
 
--- what the groups for a name add, of the groups of a file from a place on, within the file in any case; and their bytes were put at the front of a slice
--- that has room for them
-pub record Takes (name file : Bytes) (from : ℕ) (before : Bytes) (groups bytes : ℕ) (total : Sum) (records : ℕ) (after : Bytes) : Type 0 where
-  pub tallied : Ahead (drop from file) → Tallied (matching name (drop from file)) groups bytes total records
-  pub inside : bytes + from ≤ length file + (from - length file)
-  pub put : Ahead (drop from file) → length (recordBytes (concat (matching name (drop from file)))) ≤ length before → Put (recordBytes (concat (matching name (drop from file)))) before bytes after
+-- what `join_groups::take_groups` answers where these groups are to be taken: what they add, no more bytes than so many, and their bytes at the front of a
+-- slice that has room for them
+pub record Takes (gs : List (List Record)) (limit : ℕ) (before : Bytes) (r : Tally) (after : Bytes) : Type 0 where
+  pub tallied : Tallied gs (r .groups) (r .bytes) (sumMeant (r .total)) (r .records .0)
+  pub inside : r .bytes ≤ limit
+  pub put : length (recordBytes (concat gs)) ≤ length before → Put (recordBytes (concat gs)) before (r .bytes) after
