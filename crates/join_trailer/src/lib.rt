@@ -2,11 +2,8 @@
 use base_quantities::Records;
 use base_quantities::Units;
 ghost use mathlib.Core.Path.{_≡_};
-ghost use mathlib.Core.List.{_∷_};
 ghost use Prim.Native.Nat.{_≤_};
-ghost use lib.ListN.{length};
-ghost use Rattle.rules.specs.Bytes.{comma};
-ghost use Rattle.rules.specs.Numbers.{decimal};
+ghost use lib.ListN.{length, take};
 ghost use Rattle.rules.specs.Lines.{linesOf};
 ghost use Rattle.base_quantities.specs.QuantityMeanings.{sumMeant};
 ghost use Rattle.base_numerals.specs.PutBytes.{Put};
@@ -18,18 +15,6 @@ pub struct Trailer {
     pub length: usize,
 }
 
-// A comma and the digits of n at the front of out: how many bytes; or 0, and nothing changed, where they don't fit.
-fn put_number(out: &mut [u8], n: u64) -> usize
-    ensures { λ r. ⌜ Put (comma ∷ decimal n) (now (out .entry)) r (now (out .exit)) ⌝ }
-{
-    let k = base_numerals::digit_count(n);
-    if out.len() < k + 1 {
-        return 0;
-    }
-    out[0] = b',';
-    base_numerals::put_digits(&mut out[1..], n) + 1
-}
-
 // A 99 with these numbers at the front of out: how many bytes.
 fn put_trailer(out: &mut [u8], total: Units, groups: u64, records: u64) -> usize
     requires { ⌜ length (lastLine (sumMeant total) groups records) ≤ length (now out) ⌝ }
@@ -37,8 +22,8 @@ fn put_trailer(out: &mut [u8], total: Units, groups: u64, records: u64) -> usize
 {
     let mut o = base_slices::put(out, b"99,");
     o += base_numerals::put_total(&mut out[o..], total);
-    o += put_number(&mut out[o..], groups);
-    o += put_number(&mut out[o..], records);
+    o += base_numerals::put_digits_after(&mut out[o..], b',', groups);
+    o += base_numerals::put_digits_after(&mut out[o..], b',', records);
     o += base_slices::put(&mut out[o..], b"/\n");
     o
 }

@@ -1,12 +1,11 @@
--- `join_trailer::put_number` meets its contract. Assumes nothing.
+-- `put_digits_after` meets its contract. Assumes nothing.
 use mathlib.Core.Path.{_∙_}
 use native.Mathlib.Omega.{arith}
 use lib.ListN.{length-set}
-use Rattle.rules.specs.Bytes.{comma}
 use Rattle.base_numerals.proofs.PutLaws.{put-short, put-first, put-at-most}
 use borrow.Author.Needs.{needs}
-use Rattle.join_trailer.proofs.put_number.Statement.{statement}
-use Rattle.join_trailer.proofs.put_number.Tie as tie
+use Rattle.base_numerals.proofs.put_digits_after.Statement.{statement}
+use Rattle.base_numerals.proofs.put_digits_after.Tie as tie
 
 returns : tie.Need-returns
 returns c = put-short _ _ (omega arith)
@@ -24,10 +23,10 @@ same-length : tie.Need-same-length
 same-length c = c .before .out .given .1 ∙ simp length-set
 
 returns-2 : tie.Need-returns-2
-returns-2 c = put-first comma _ _ _ _ (omega arith) (c .before .before .put-digits .ensures)
+returns-2 c = put-first _ _ _ _ _ (omega arith) (c .before .before .put-digits .ensures)
 
-pub put-number-spec : {M : Type 1} → statement M
-put-number-spec =
+pub put-digits-after-spec : {M : Type 1} → statement M
+put-digits-after-spec =
     tie.close
     (tie.spec
     (λ c κs. search needs)
