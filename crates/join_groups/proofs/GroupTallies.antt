@@ -144,7 +144,7 @@ take-one all g gs before groups bytes sum lines o out r after t p =
 
 module _ (gs : List (List Record)) (before : Bytes) (groups bytes : ℕ) (total : Units) (records : Records) (o : ℕ) (out : Bytes)
     (t : Taking gs [] before groups bytes (sumMeant total) (records .0) o out) where
-  pub take-end : _≡_ {A = Tally} (record { groups = groups; bytes = bytes; total = total; records = records }) (tallyOf gs)
+  pub take-end : _≡_ {A = Tally} (record { groups = record { 0 = groups }; bytes = bytes; total = total; records = records }) (tallyOf gs)
   unfolding concat totalStated recordsStated sumUp addUp recordBytes tallyOf
   take-end =
       let count : groups ≡ length gs = omega (arith, t .count) in
@@ -152,7 +152,7 @@ module _ (gs : List (List Record)) (before : Bytes) (groups bytes : ℕ) (total 
       let pluses = wrapped-same (total .0) (wrapped (totalStated gs .pluses)) (ap (λ (s : Sum). s .pluses) (t .kept)) (ap (λ (s : Sum). s .pluses) (t .total)) in
       let minuses = wrapped-same (total .1) (wrapped (totalStated gs .minuses)) (ap (λ (s : Sum). s .minuses) (t .kept)) (ap (λ (s : Sum). s .minuses) (t .total)) in
       let lines : records .0 ≡ min (recordsStated gs) mostRecords = omega (arith, t .records, t .few) in
-      λ i. record { groups = count i; bytes = size i; total = record { 0 = pluses i; 1 = minuses i }; records = record { 0 = lines i } }
+      λ i. record { groups = record { 0 = count i }; bytes = size i; total = record { 0 = pluses i; 1 = minuses i }; records = record { 0 = lines i } }
 
   pub take-put : out ≡ slicePut gs before
   unfolding fittingBytes slicePut

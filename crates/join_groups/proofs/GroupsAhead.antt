@@ -50,6 +50,6 @@ matching name xs = groupsFor name (groupsIn xs)
 -- what `join_groups::take_groups` answers where these groups are to be taken: what they add, no more bytes than so many, and their bytes at the front of a
 -- slice that has room for them
 pub record Takes (gs : List (List Record)) (limit : ℕ) (before : Bytes) (r : Tally) (after : Bytes) : Type 0 where
-  pub tallied : Tallied gs (r .groups) (r .bytes) (sumMeant (r .total)) (r .records .0)
+  pub tallied : Tallied gs (r .groups .0) (r .bytes) (sumMeant (r .total)) (r .records .0)
   pub inside : r .bytes ≤ limit
   pub put : length (recordBytes (concat gs)) ≤ length before → Put (recordBytes (concat gs)) before (r .bytes) after

@@ -50,7 +50,7 @@ module _ (gs : List (List Record)) (stand : All Stands gs) (small : magnitudes (
   adds = add-up gs stand
 
   -- nothing wraps, and no count stops
-  pub tallied-of : Tallied gs (tallyOf gs .groups) (tallyOf gs .bytes) (sumMeant (tallyOf gs .total)) (tallyOf gs .records .0)
+  pub tallied-of : Tallied gs (tallyOf gs .groups .0) (tallyOf gs .bytes) (sumMeant (tallyOf gs .total)) (tallyOf gs .records .0)
   unfolding tallyOf
   tallied-of =
       let total = totalStated gs in

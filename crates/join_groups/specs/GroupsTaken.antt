@@ -67,7 +67,7 @@ recordsStated gs = addUp (λ g. statedRecords (lastIn g)) gs
 unfoldable pub tallyOf : List (List Record) → Tally
 tallyOf gs =
     record {
-      groups = length gs;
+      groups = record { 0 = length gs };
       bytes = length (recordBytes (concat gs));
       total = unitsOf (wrappedSum (totalStated gs));
       records = record { 0 = min (recordsStated gs) mostRecords };

@@ -1,5 +1,7 @@
 // The groups of an accepted file that are for one receiver: their totals and records, from what their 98s state, and their bytes, copied.
 use base_codes::Code;
+use base_quantities::Count;
+use base_quantities::Place;
 use base_quantities::Records;
 use base_quantities::Units;
 use find_field::Sought;
@@ -12,7 +14,7 @@ ghost use Rattle.join_groups.specs.GroupsTaken.{groupsTaken, tallyOf, sl
 
 // What groups add: how many they are, their bytes, their total and their records.
 pub struct Tally {
-    pub groups: u64,
+    pub groups: Count,
     pub bytes: usize,
     pub total: Units,
     pub records: Records,
@@ -37,10 +39,10 @@ fn read_trailer(rec: &[u8]) -> GroupTrailer
 }
 
 // What the groups for this name add, of the groups from `from` on; and at the front of out, one after the other, the bytes of each that still fits.
-pub fn take_groups(name: &[u8], file: &[u8], from: usize, out: &mut [u8]) -> Tally
-    ensures { λ r. ⌜ (r ≡ tallyOf (groupsTaken (now (name .entry)) (drop from (now (file .entry))))) × (now (out .exit) ≡ slicePut (groupsTaken (now (name .entry)) (drop from (now (file .entry)))) (now (out .entry))) ⌝ }
+pub fn take_groups(name: &[u8], file: &[u8], from: Place, out: &mut [u8]) -> Tally
+    ensures { λ r. ⌜ (r ≡ tallyOf (groupsTaken (now (name .entry)) (drop (from .0) (now (file .entry))))) × (now (out .exit) ≡ slicePut (groupsTaken (now (name .entry)) (drop (from .0) (now (file .entry)))) (now (out .entry))) ⌝ }
 {
-    let mut at = from;
+    let mut at = from.0;
     let mut o: usize = 0;
     let mut groups: u64 = 0;
     let mut bytes: usize = 0;
@@ -61,7 +63,7 @@ pub fn take_groups(name: &[u8], file: &[u8], from: usize, out: &mut [u8]) -> Tal
         at = e;
     }
     Tally {
-        groups,
+        groups: Count(groups),
         bytes,
         total,
         records,

@@ -19,12 +19,12 @@ use Rattle.join_groups.proofs.take_groups.Statement.{statement}
 use Rattle.join_groups.proofs.take_groups.Tie as tie
 
 abbrev Inv-loop : tie.InvT-loop
-Inv-loop name file from out₀ at₀ o₀ groups₀ bytes₀ total₀ records₀ out at o groups bytes total records =
+Inv-loop name file out₀ from o₀ groups₀ bytes₀ total₀ records₀ out at o groups bytes total records =
     (o ≤ length out) × (length out ≡ length out₀) × (groups + from ≤ at) × (bytes + from ≤ at) × (at ≤ length file + (from - length file))
     × Taking (groupsTaken name (drop from file)) (groupsTaken name (drop at file)) out₀ groups bytes (sumMeant total) (records .0) o out
 
 abbrev μ-loop : tie.MeasureT-loop
-μ-loop name file from out₀ at₀ o₀ groups₀ bytes₀ total₀ records₀ out at o groups bytes total records = length file - at
+μ-loop name file out₀ from o₀ groups₀ bytes₀ total₀ records₀ out at o groups bytes total records = length file - at
 
 -- ---- in a turn, once the group's end is known
 
@@ -82,7 +82,7 @@ abbrev So-far : Asked → List (List Record) → Type 0
 So-far c gs =
     let t = turn-of c in
     let l = head t .loop in
-    Taking (groupsTaken (name-of t) (drop (entry t .args .from) (file-of t))) gs (entry t .args .out .now) (l .groups) (l .bytes) (sumMeant (l .total)) (l .records .0) (l .o) (l .out)
+    Taking (groupsTaken (name-of t) (drop (entry t .args .from .0) (file-of t))) gs (entry t .args .out .now) (l .groups) (l .bytes) (sumMeant (l .total)) (l .records .0) (l .o) (l .out)
 
 -- ---- at the end of a turn that took the group
 
@@ -101,7 +101,7 @@ read-of c = c .before .before
 loop-holds : tie.Need-loop-holds Inv-loop μ-loop
 loop-holds c =
     let a = c .before .before .before .args in
-    (omega arith, refl, omega arith, omega arith, omega arith, take-start (groupsTaken (a .name .now) (drop (a .from) (a .file .now))) (a .out .now))
+    (omega arith, refl, omega arith, omega arith, omega arith, take-start (groupsTaken (a .name .now) (drop (a .from .0) (a .file .now))) (a .out .now))
 
 part-is-for-end : tie.Need-part-is-for-end Inv-loop μ-loop
 part-is-for-end c = omega (arith, places (c .before), c .record-end2 .ensures .1)
@@ -176,7 +176,7 @@ returns : tie.Need-returns Inv-loop μ-loop
 returns c =
     let l = c .before .before .loop in
     let a = c .before .before .before .before .before .before .args in
-    let all = groupsTaken (a .name .now) (drop (a .from) (a .file .now)) in
+    let all = groupsTaken (a .name .now) (drop (a .from .0) (a .file .now)) in
     let over = no-more (a .name .now) (drop (l .at) (a .file .now)) (sym (c .before .begins .ensures) ∙ c .if1 .left) in
     let took = subst (λ (gs : List (List Record)). Taking all gs (a .out .now) (l .groups) (l .bytes) (sumMeant (l .total)) (l .records .0) (l .o) (l .out)) over (l .inv .5) in
     (take-end all (a .out .now) (l .groups) (l .bytes) (l .total) (l .records) (l .o) (l .out) took, take-put all (a .out .now) (l .groups) (l .bytes) (l .total) (l .records) (l .o) (l .out) took)

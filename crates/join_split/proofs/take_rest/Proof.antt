@@ -67,7 +67,7 @@ returns c =
     record {
       count = taken .tallied .size ∙ ap length groups;
       put = same-put _ _ _ _ _ groups (taken .put);
-      is-last = in-front _ _ (last .0) ∙ last-is name file h (known m) (t .result .groups) (t .result .bytes) (sumMeant (t .result .total)) (t .result .records .0) n _ (taken .tallied) lines all;
+      is-last = in-front _ _ (last .0) ∙ last-is name file h (known m) (t .result .groups .0) (t .result .bytes) (sumMeant (t .result .total)) (t .result .records .0) n _ (taken .tallied) lines all;
       last-most = (last .1, last .2);
     }
 
