@@ -12,7 +12,7 @@ ghost use Rattle.rules.specs.Parts as rules;
 ghost use Rattle.rules.specs.Answers.{partAnswer, groupPart, accountPart};
 ghost use Rattle.base_refusals.specs.RefusalMeaning.{refusalMeant};
 ghost use Rattle.base_codes.specs.CodeMeaning.{codeMeant};
-ghost use Rattle.part_groups.specs.PartMeaning.{partMeant, Inside};
+ghost use Rattle.part_groups.specs.PartMeaning.{partMeant, Inside, bytesAt};
 ghost use Rattle.part_groups.specs.PartsEnclosed.{Finds, FindsWithin};
 
 // The refusal, by number 0 at place 0 where there is none; and where the part starts in the file, and its length.
@@ -124,24 +124,28 @@ pub fn find_detail(file: &[u8], g: u64, a: u64, n: u64) -> Part
     )
 }
 
+// The bytes of a part that ends within the file.
+fn bytes_of(file: &[u8], part: Part) -> &[u8]
+    requires { ⌜ Inside (now file) (partMeant part) ⌝ }
+    ensures { λ r. ⌜ now r ≡ bytesAt (now (file .entry)) (partMeant part) ⌝ }
+{
+    let from = part.start;
+    let to = from + part.length;
+    &file[from..to]
+}
+
 // The group's part of the file; empty when refused.
 pub fn group(file: &[u8], n: u64) -> &[u8]
     ensures { λ r. ⌜ now r ≡ rules.partBytes (rules.groupAt (now (file .entry)) n) ⌝ }
 {
-    let part = find_group(file, n);
-    let from = part.start;
-    let to = from + part.length;
-    &file[from..to]
+    bytes_of(file, find_group(file, n))
 }
 
 // The account's part of the file; empty when refused.
 pub fn account(file: &[u8], g: u64, n: u64) -> &[u8]
     ensures { λ r. ⌜ now r ≡ rules.partBytes (rules.accountAt (now (file .entry)) g n) ⌝ }
 {
-    let part = find_account(file, g, n);
-    let from = part.start;
-    let to = from + part.length;
-    &file[from..to]
+    bytes_of(file, find_account(file, g, n))
 }
 
 // Why there is no such group.
