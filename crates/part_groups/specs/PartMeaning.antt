@@ -8,7 +8,7 @@ use Rattle.part_groups.specs.declared.Part.{Part}
 
 -- a part: its refusal, and where it stands
 abbrev pub partMeant : Part → PartAnswer
-partMeant p = record { refusal = refusalMeant (p .refusal); start = p .start; len = p .length }
+partMeant p = record { refusal = refusalMeant (p .refusal); start = p .start .0; len = p .length }
 
 -- it ends within these bytes
 abbrev pub Inside : Bytes → PartAnswer → Type 0

@@ -18,7 +18,7 @@ ghost use Rattle.part_groups.specs.PartsEnclosed.{Finds, FindsWithin};
 // The refusal, by number 0 at place 0 where there is none; and where the part starts in the file, and its length.
 pub struct Part {
     pub refusal: Refusal,
-    pub start: usize,
+    pub start: Place,
     pub length: usize,
 }
 
@@ -28,7 +28,7 @@ fn no_part(why: Refusal) -> Part
 {
     Part {
         refusal: why,
-        start: 0,
+        start: Place(0),
         length: 0,
     }
 }
@@ -48,7 +48,7 @@ fn nth_part(s: &[u8], opening: Code, closing: Code, n: u64) -> Part
                     number: 0,
                     place: Place(0),
                 },
-                start: at,
+                start: Place(at),
                 length,
             };
         }
@@ -63,27 +63,29 @@ fn nth_part(s: &[u8], opening: Code, closing: Code, n: u64) -> Part
 
 // The same in a part of the file: the middle of the file is handed on, and the place answered there is counted from the file's start.
 fn part_within(file: &[u8], outer: Part, opening: Code, closing: Code, n: u64) -> Part
-    requires { ⌜ outer .start + outer .length ≤ length (now file) ⌝ }
+    requires { ⌜ outer .start .0 + outer .length ≤ length (now file) ⌝ }
     ensures { λ r. ⌜ FindsWithin (codeMeant opening) (codeMeant closing) (now (file .entry)) (partMeant outer) n (partMeant r) ⌝ }
 {
     let why = outer.refusal;
     if why.number != 0 {
         return no_part(why);
     }
-    let from = outer.start;
+    let begin = outer.start;
+    let from = begin.0;
     let to = from + outer.length;
     let inner = nth_part(&file[from..to], opening, closing, n);
     let missing = inner.refusal;
     if missing.number != 0 {
         return inner;
     }
-    let start = from + inner.start;
+    let within = inner.start;
+    let start = from + within.0;
     Part {
         refusal: Refusal {
             number: 0,
             place: Place(0),
         },
-        start,
+        start: Place(start),
         length: inner.length,
     }
 }
@@ -129,7 +131,8 @@ fn bytes_of(file: &[u8], part: Part) -> &[u8]
     requires { ⌜ Inside (now file) (partMeant part) ⌝ }
     ensures { λ r. ⌜ now r ≡ bytesAt (now (file .entry)) (partMeant part) ⌝ }
 {
-    let from = part.start;
+    let start = part.start;
+    let from = start.0;
     let to = from + part.length;
     &file[from..to]
 }
