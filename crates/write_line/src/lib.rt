@@ -11,13 +11,14 @@ ghost use mathlib.Core.Bool.{cond};
 ghost use mathlib.Core.List.{[], _∷_};
 ghost use Prim.Native.Nat.{_+_};
 ghost use lib.Dec.{leb};
-ghost use lib.ListN.{length};
+ghost use lib.ListN.{length, replicate};
 ghost use Rattle.rules.specs.Numbers.{decimal, totalBytes};
 ghost use Rattle.rules.specs.Writer.{placed, goodText, sumGiven, amountBytes, countBytes};
 ghost use Rattle.base_codes.specs.CodeMeaning.{codeMeant};
 ghost use Rattle.base_quantities.specs.QuantityMeanings.{sumMeant};
 ghost use Rattle.read_wanted.specs.Wants.{wantedOf};
-ghost use Rattle.write_line.specs.DraftMeaning.{lineSpace, draftOf, wanting, begun, fieldAdded, textAdded, amountGiven, countGiven};
+ghost use Rattle.write_line.specs.DraftMeaning.{lineSpace, wanting, amountGiven, countGiven};
+ghost use Rattle.write_line.specs.DrawnLine.{drawnOf, codeDrawn, fieldDrawn, textDrawn};
 
 // What is wanted next, or that a field was refused; and how many bytes of the line stand.
 pub struct Draft {
@@ -44,7 +45,7 @@ pub const LINE_SPACE: usize = 640;
 
 // Room for any number: a sign and 20 digits.
 fn number_space() -> [u8; 21]
-    ensures { λ r. ⌜ 21 ≡ length r ⌝ }
+    ensures { λ r. ⌜ r ≡ replicate 21 0 ⌝ }
 {
     [0; 21]
 }
@@ -82,7 +83,7 @@ fn is_good_text(t: &[u8]) -> bool
 
 // A line with its code, and this wanted after it.
 pub fn begin(line: &mut [u8; LINE_SPACE], code: Code, want: Want) -> Draft
-    ensures { λ r. ⌜ draftOf (now (line .exit)) r ≡ begun (codeMeant code) (wantedOf want) ⌝ }
+    ensures { λ r. ⌜ drawnOf (now (line .exit)) r ≡ codeDrawn (codeMeant code) (wantedOf want) (now (line .entry)) ⌝ }
 {
     let digits = base_codes::digits_of(code);
     let bytes = [digits.0, digits.1, b','];
@@ -96,7 +97,7 @@ pub fn begin(line: &mut [u8; LINE_SPACE], code: Code, want: Want) -> Draft
 // A field as the first of what is wanted, and the mark after it.
 fn add_wanted(line: &mut [u8], len: usize, want: Want, f: &[u8], mark: u8) -> Draft
     requires { ⌜ length (now line) ≡ lineSpace ⌝ }
-    ensures { λ r. ⌜ draftOf (now (line .exit)) r ≡ fieldAdded (now (f .entry)) mark (draftOf (now (line .entry)) (wanting want len)) ⌝ }
+    ensures { λ r. ⌜ drawnOf (now (line .exit)) r ≡ fieldDrawn (now (f .entry)) mark (drawnOf (now (line .entry)) (wanting want len)) ⌝ }
 {
     let refused = Draft {
         taken: Taken::Refused(WRONG_FIELD_GIVEN),
@@ -121,7 +122,7 @@ fn add_wanted(line: &mut [u8], len: usize, want: Want, f: &[u8], mark: u8) -> Dr
 
 // The line with a field more and the mark after it.
 pub fn add(line: &mut [u8; LINE_SPACE], d: Draft, f: &[u8], mark: u8) -> Draft
-    ensures { λ r. ⌜ draftOf (now (line .exit)) r ≡ fieldAdded (now (f .entry)) mark (draftOf (now (line .entry)) d) ⌝ }
+    ensures { λ r. ⌜ drawnOf (now (line .exit)) r ≡ fieldDrawn (now (f .entry)) mark (drawnOf (now (line .entry)) d) ⌝ }
 {
     let taken = d.taken;
     match taken {
@@ -132,7 +133,7 @@ pub fn add(line: &mut [u8; LINE_SPACE], d: Draft, f: &[u8], mark: u8) -> Draft
 
 // The line with an empty field more.
 pub fn add_empty(line: &mut [u8; LINE_SPACE], d: Draft, mark: u8) -> Draft
-    ensures { λ r. ⌜ draftOf (now (line .exit)) r ≡ fieldAdded [] mark (draftOf (now (line .entry)) d) ⌝ }
+    ensures { λ r. ⌜ drawnOf (now (line .exit)) r ≡ fieldDrawn [] mark (drawnOf (now (line .entry)) d) ⌝ }
 {
     let none = [0u8];
     add(line, d, &none[0..0], mark)
@@ -140,7 +141,7 @@ pub fn add_empty(line: &mut [u8; LINE_SPACE], d: Draft, mark: u8) -> Draft
 
 // The line with version 2, its last field.
 pub fn add_version(line: &mut [u8; LINE_SPACE], d: Draft) -> Draft
-    ensures { λ r. ⌜ draftOf (now (line .exit)) r ≡ fieldAdded (50 ∷ []) 47 (draftOf (now (line .entry)) d) ⌝ }
+    ensures { λ r. ⌜ drawnOf (now (line .exit)) r ≡ fieldDrawn (50 ∷ []) 47 (drawnOf (now (line .entry)) d) ⌝ }
 {
     let two = [b'2'];
     add(line, d, &two[0..1], b'/')
@@ -148,7 +149,7 @@ pub fn add_version(line: &mut [u8; LINE_SPACE], d: Draft) -> Draft
 
 // The line with a sum's number more.
 pub fn add_total(line: &mut [u8; LINE_SPACE], d: Draft, total: Units, mark: u8) -> Draft
-    ensures { λ r. ⌜ draftOf (now (line .exit)) r ≡ fieldAdded (totalBytes (sumMeant total)) mark (draftOf (now (line .entry)) d) ⌝ }
+    ensures { λ r. ⌜ drawnOf (now (line .exit)) r ≡ fieldDrawn (totalBytes (sumMeant total)) mark (drawnOf (now (line .entry)) d) ⌝ }
 {
     let mut space = number_space();
     let k = base_numerals::put_total(&mut space, total);
@@ -157,7 +158,7 @@ pub fn add_total(line: &mut [u8; LINE_SPACE], d: Draft, total: Units, mark: u8) 
 
 // The line with a count more.
 pub fn add_count(line: &mut [u8; LINE_SPACE], d: Draft, n: u64, mark: u8) -> Draft
-    ensures { λ r. ⌜ draftOf (now (line .exit)) r ≡ fieldAdded (decimal n) mark (draftOf (now (line .entry)) d) ⌝ }
+    ensures { λ r. ⌜ drawnOf (now (line .exit)) r ≡ fieldDrawn (decimal n) mark (drawnOf (now (line .entry)) d) ⌝ }
 {
     let mut space = number_space();
     let k = base_numerals::put_digits(&mut space, n);
@@ -176,7 +177,7 @@ pub fn sum_given(amount: MaybeAmount) -> Units
 
 // The line with an amount more, or with an empty field where there is none.
 pub fn add_amount(line: &mut [u8; LINE_SPACE], d: Draft, amount: MaybeAmount, mark: u8) -> Draft
-    ensures { λ r. ⌜ draftOf (now (line .exit)) r ≡ fieldAdded (amountBytes (amountGiven amount)) mark (draftOf (now (line .entry)) d) ⌝ }
+    ensures { λ r. ⌜ drawnOf (now (line .exit)) r ≡ fieldDrawn (amountBytes (amountGiven amount)) mark (drawnOf (now (line .entry)) d) ⌝ }
 {
     match amount {
         MaybeAmount::Given(a) => add_total(line, d, Units::of(a.negative, a.magnitude), mark),
@@ -186,7 +187,7 @@ pub fn add_amount(line: &mut [u8; LINE_SPACE], d: Draft, amount: MaybeAmount, ma
 
 // The line with a number of items more, or with an empty field where there is none.
 pub fn add_items(line: &mut [u8; LINE_SPACE], d: Draft, count: MaybeCount, mark: u8) -> Draft
-    ensures { λ r. ⌜ draftOf (now (line .exit)) r ≡ fieldAdded (countBytes (countGiven count)) mark (draftOf (now (line .entry)) d) ⌝ }
+    ensures { λ r. ⌜ drawnOf (now (line .exit)) r ≡ fieldDrawn (countBytes (countGiven count)) mark (drawnOf (now (line .entry)) d) ⌝ }
 {
     match count {
         MaybeCount::Given(n) => add_count(line, d, n, mark),
@@ -197,7 +198,7 @@ pub fn add_items(line: &mut [u8; LINE_SPACE], d: Draft, count: MaybeCount, mark:
 // The text's bytes after the last mark; "/" for an empty one.
 fn put_text(line: &mut [u8], len: usize, want: Want, t: &[u8]) -> Draft
     requires { ⌜ length (now line) ≡ lineSpace ⌝ }
-    ensures { λ r. ⌜ draftOf (now (line .exit)) r ≡ textAdded (now (t .entry)) (draftOf (now (line .entry)) (wanting want len)) ⌝ }
+    ensures { λ r. ⌜ drawnOf (now (line .exit)) r ≡ textDrawn (now (t .entry)) (drawnOf (now (line .entry)) (wanting want len)) ⌝ }
 {
     let refused = Draft {
         taken: Taken::Refused(WRONG_FIELD_GIVEN),
@@ -225,7 +226,7 @@ fn put_text(line: &mut [u8], len: usize, want: Want, t: &[u8]) -> Draft
 
 // The line with its text.
 pub fn add_text(line: &mut [u8; LINE_SPACE], d: Draft, t: &[u8]) -> Draft
-    ensures { λ r. ⌜ draftOf (now (line .exit)) r ≡ textAdded (now (t .entry)) (draftOf (now (line .entry)) d) ⌝ }
+    ensures { λ r. ⌜ drawnOf (now (line .exit)) r ≡ textDrawn (now (t .entry)) (drawnOf (now (line .entry)) d) ⌝ }
 {
     let taken = d.taken;
     match taken {

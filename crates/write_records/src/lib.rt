@@ -15,8 +15,9 @@ ghost use Rattle.rules.specs.Grammar.{fieldsOf, furtherType};
 ghost use Rattle.rules.specs.Writer.{amountBytes, countBytes};
 ghost use Rattle.base_codes.specs.CodeMeaning.{codeMeant};
 ghost use Rattle.base_quantities.specs.QuantityMeanings.{sumMeant};
-ghost use Rattle.write_line.specs.DraftMeaning.{draftOf, textAdded, amountGiven, countGiven};
-ghost use Rattle.write_records.specs.RecordLines.{lineIn};
+ghost use Rattle.write_line.specs.DraftMeaning.{amountGiven, countGiven};
+ghost use Rattle.write_line.specs.DrawnLine.{drawnOf, textDrawn};
+ghost use Rattle.write_records.specs.RecordLines.{lineDrawn};
 
 // The line 01: L and block size stay empty, and the version is 2.
 pub fn header(
@@ -27,8 +28,8 @@ pub fn header(
     time: &[u8],
     file_number: &[u8],
 ) -> Draft
-    ensures { λ r. ⌜ draftOf (now (line .exit)) r ≡ lineIn lines.fileHeader (fieldsOf lines.fileHeader)
-        (now (sender .entry) ∷ now (receiver .entry) ∷ now (date .entry) ∷ now (time .entry) ∷ now («file_number» .entry) ∷ [] ∷ [] ∷ (50 ∷ []) ∷ []) 47 ⌝ }
+    ensures { λ r. ⌜ drawnOf (now (line .exit)) r ≡ lineDrawn lines.fileHeader (fieldsOf lines.fileHeader)
+        (now (sender .entry) ∷ now (receiver .entry) ∷ now (date .entry) ∷ now (time .entry) ∷ now («file_number» .entry) ∷ [] ∷ [] ∷ (50 ∷ []) ∷ []) 47 (now (line .entry)) ⌝ }
 {
     let d = write_line::begin(line, Code::FileHeader, want::first_want(Code::FileHeader));
     let d = write_line::add(line, d, sender, b',');
@@ -52,8 +53,8 @@ pub fn group(
     currency: &[u8],
     modifier: &[u8],
 ) -> Draft
-    ensures { λ r. ⌜ draftOf (now (line .exit)) r ≡ lineIn lines.groupHeader (fieldsOf lines.groupHeader)
-        (now (receiver .entry) ∷ now (originator .entry) ∷ now (status .entry) ∷ now (date .entry) ∷ now (time .entry) ∷ now (currency .entry) ∷ now (modifier .entry) ∷ []) 47 ⌝ }
+    ensures { λ r. ⌜ drawnOf (now (line .exit)) r ≡ lineDrawn lines.groupHeader (fieldsOf lines.groupHeader)
+        (now (receiver .entry) ∷ now (originator .entry) ∷ now (status .entry) ∷ now (date .entry) ∷ now (time .entry) ∷ now (currency .entry) ∷ now (modifier .entry) ∷ []) 47 (now (line .entry)) ⌝ }
 {
     let d = write_line::begin(line, Code::GroupHeader, want::first_want(Code::GroupHeader));
     let d = write_line::add(line, d, receiver, b',');
@@ -74,8 +75,8 @@ pub fn account(
     amount: MaybeAmount,
     count: MaybeCount,
 ) -> Draft
-    ensures { λ r. ⌜ draftOf (now (line .exit)) r ≡ lineIn lines.accountHeader (fieldsOf lines.accountHeader)
-        (now (number .entry) ∷ now (currency .entry) ∷ now («type_code» .entry) ∷ amountBytes (amountGiven amount) ∷ countBytes (countGiven count) ∷ [] ∷ []) 47 ⌝ }
+    ensures { λ r. ⌜ drawnOf (now (line .exit)) r ≡ lineDrawn lines.accountHeader (fieldsOf lines.accountHeader)
+        (now (number .entry) ∷ now (currency .entry) ∷ now («type_code» .entry) ∷ amountBytes (amountGiven amount) ∷ countBytes (countGiven count) ∷ [] ∷ []) 47 (now (line .entry)) ⌝ }
 {
     let d = write_line::begin(
         line,
@@ -97,8 +98,8 @@ pub fn item(
     amount: MaybeAmount,
     count: MaybeCount,
 ) -> Draft
-    ensures { λ r. ⌜ draftOf (now (line .exit)) r ≡ lineIn lines.continuation (furtherType ∷ [])
-        (now («type_code» .entry) ∷ amountBytes (amountGiven amount) ∷ countBytes (countGiven count) ∷ [] ∷ []) 47 ⌝ }
+    ensures { λ r. ⌜ drawnOf (now (line .exit)) r ≡ lineDrawn lines.continuation (furtherType ∷ [])
+        (now («type_code» .entry) ∷ amountBytes (amountGiven amount) ∷ countBytes (countGiven count) ∷ [] ∷ []) 47 (now (line .entry)) ⌝ }
 {
     let d = write_line::begin(line, Code::Continuation, Want::FurtherType);
     let d = write_line::add(line, d, type_code, b',');
@@ -116,8 +117,8 @@ pub fn detail(
     customer_reference: &[u8],
     text: &[u8],
 ) -> Draft
-    ensures { λ r. ⌜ draftOf (now (line .exit)) r ≡ textAdded (now (text .entry)) (lineIn lines.detail (fieldsOf lines.detail)
-        (now («type_code» .entry) ∷ amountBytes (amountGiven amount) ∷ [] ∷ now («bank_reference» .entry) ∷ now («customer_reference» .entry) ∷ []) 44) ⌝ }
+    ensures { λ r. ⌜ drawnOf (now (line .exit)) r ≡ textDrawn (now (text .entry)) (lineDrawn lines.detail (fieldsOf lines.detail)
+        (now («type_code» .entry) ∷ amountBytes (amountGiven amount) ∷ [] ∷ now («bank_reference» .entry) ∷ now («customer_reference» .entry) ∷ []) 44 (now (line .entry))) ⌝ }
 {
     let d = write_line::begin(line, Code::Detail, want::first_want(Code::Detail));
     let d = write_line::add(line, d, type_code, b',');
@@ -130,7 +131,7 @@ pub fn detail(
 
 // The line 49: total and records.
 pub fn account_end(line: &mut [u8; LINE_SPACE], total: Units, records: u64) -> Draft
-    ensures { λ r. ⌜ draftOf (now (line .exit)) r ≡ lineIn lines.accountTrailer (fieldsOf lines.accountTrailer) (totalBytes (sumMeant total) ∷ decimal records ∷ []) 47 ⌝ }
+    ensures { λ r. ⌜ drawnOf (now (line .exit)) r ≡ lineDrawn lines.accountTrailer (fieldsOf lines.accountTrailer) (totalBytes (sumMeant total) ∷ decimal records ∷ []) 47 (now (line .entry)) ⌝ }
 {
     let d = write_line::begin(
         line,
@@ -149,7 +150,7 @@ pub fn trailer(
     count: u64,
     records: u64,
 ) -> Draft
-    ensures { λ r. ⌜ draftOf (now (line .exit)) r ≡ lineIn (codeMeant code) (fieldsOf (codeMeant code)) (totalBytes (sumMeant total) ∷ decimal count ∷ decimal records ∷ []) 47 ⌝ }
+    ensures { λ r. ⌜ drawnOf (now (line .exit)) r ≡ lineDrawn (codeMeant code) (fieldsOf (codeMeant code)) (totalBytes (sumMeant total) ∷ decimal count ∷ decimal records ∷ []) 47 (now (line .entry)) ⌝ }
 {
     let d = write_line::begin(line, code, want::first_want(code));
     let d = write_line::add_total(line, d, total, b',');

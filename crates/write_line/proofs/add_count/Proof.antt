@@ -1,5 +1,7 @@
 -- `add_count` meets its contract: a number's digits fit their space. Assumes nothing.
 use native.Mathlib.Omega.{arith}
+use mathlib.Core.Path.{ap}
+use lib.ListN.{length}
 use Rattle.write_line.proofs.LineSpace.{number-bytes, decimal-short}
 use borrow.Author.Needs.{needs}
 use Rattle.write_line.proofs.add_count.Statement.{statement}
@@ -10,7 +12,7 @@ returns c =
     let put = c .before .before .before .before .before in
     let space = put .before .before in
     let short = decimal-short (space .before .args .n) (omega arith) in
-    rw (number-bytes (put .put-digits .ensures) (omega (arith, short, space .number-space .ensures))) at (c .add .ensures)
+    rw (number-bytes (put .put-digits .ensures) (omega (arith, short, ap length (space .number-space .ensures)))) at (c .add .ensures)
 
 pub add-count-spec : {M : Type 1} → statement M
 add-count-spec =
