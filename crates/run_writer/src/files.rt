@@ -2,6 +2,7 @@
 use run_refused_calls::amounts::minus;
 use run_refused_calls::amounts::plus;
 use run_refused_calls::printing::after;
+use write_line::Items;
 use write_line::MaybeAmount;
 use write_line::MaybeCount;
 use write_state::Writer;
@@ -132,7 +133,7 @@ fn without_items(w: Writer, out: &mut [u8; 4096]) -> Writer {
 // An account with three items, a credit and a debit.
 fn with_items(w: Writer, out: &mut [u8; 4096]) -> Writer {
     let w = status_account(w, b"0099887766", b"CAD", minus(250_075), out);
-    let w = after(write_calls::item(w, b"100", plus(300_000), MaybeCount::Given(2), out));
+    let w = after(write_calls::item(w, b"100", plus(300_000), MaybeCount::Given(Items(2)), out));
     let w = after(write_calls::item(w, b"400", plus(50_000), MaybeCount::NoCount, out));
     credit_and_debit(w, out)
 }

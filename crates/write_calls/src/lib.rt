@@ -1,6 +1,7 @@
 // The writer of document 01: each call takes the state by value and hands back its answer with the state after it. The line is drafted in a space
 // of its own, by `write_records`; `write_commit` decides whether it is written.
 use base_codes::Code;
+use base_quantities::Count;
 use base_quantities::Records;
 use base_quantities::Units;
 use base_totals::Summary;
@@ -171,7 +172,7 @@ pub fn end_account(w: Writer, out: &mut [u8]) -> Written
     let account = w.account;
     let records = account.records.add(Records(1));
     let mut space = [0u8; LINE_SPACE];
-    let d = write_records::account_end(&mut space, account.total, records.0);
+    let d = write_records::account_end(&mut space, account.total, records);
     write_commit::commit(
         w,
         Code::AccountTrailer,
@@ -184,12 +185,12 @@ pub fn end_account(w: Writer, out: &mut [u8]) -> Written
 }
 
 // The line 98 or 99: the total, this count, and the records with itself.
-fn end(w: Writer, code: Code, summary: Summary, count: u64, out: &mut [u8]) -> Written
-    ensures { λ r. ⌜ writtenMeant r (now (out .exit)) ≡ ended (writerMeant w) (codeMeant code) (summaryMeant summary) count (now (out .entry)) ⌝ }
+fn end(w: Writer, code: Code, summary: Summary, count: Count, out: &mut [u8]) -> Written
+    ensures { λ r. ⌜ writtenMeant r (now (out .exit)) ≡ ended (writerMeant w) (codeMeant code) (summaryMeant summary) (count .0) (now (out .entry)) ⌝ }
 {
     let records = summary.records.add(Records(1));
     let mut space = [0u8; LINE_SPACE];
-    let d = write_records::trailer(&mut space, code, summary.total, count, records.0);
+    let d = write_records::trailer(&mut space, code, summary.total, count, records);
     write_commit::commit(w, code, &space, d, Units::none(), false, out)
 }
 

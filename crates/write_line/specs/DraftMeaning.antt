@@ -82,5 +82,5 @@ amountGiven (amounts.Given a) = some (amountMeant a)
 amountGiven amounts.NoAmount = none
 
 abbrev pub countGiven : MaybeCount → Option ℕ
-countGiven (counts.Given n) = some n
+countGiven (counts.Given n) = some (n .0)
 countGiven counts.NoCount = none

@@ -2,6 +2,9 @@
 use base_codes::Code;
 use base_digits::Amount;
 use base_limits::LONGEST_NAME;
+use base_quantities::Count;
+use base_quantities::Place;
+use base_quantities::Records;
 use base_quantities::Units;
 use base_refusals::WRONG_FIELD_GIVEN;
 use read_wanted::Taken;
@@ -32,9 +35,12 @@ pub enum MaybeAmount {
     NoAmount,
 }
 
+// How many items a summary item stands for: document 01's item count.
+pub struct Items(pub u64);
+
 // A number of items or none.
 pub enum MaybeCount {
-    Given(u64),
+    Given(Items),
     NoCount,
 }
 
@@ -51,9 +57,10 @@ fn number_space() -> [u8; 21]
 }
 
 // The bytes at a place of out; nothing changed where they don't fit.
-pub fn put_at(out: &mut [u8], at: usize, src: &[u8])
-    ensures { λ _. ⌜ now (out .exit) ≡ cond (leb (at + length (now (src .entry))) (length (now (out .entry)))) (placed at (now (src .entry)) (now (out .entry))) (now (out .entry)) ⌝ }
+pub fn put_at(out: &mut [u8], place: Place, src: &[u8])
+    ensures { λ _. ⌜ now (out .exit) ≡ cond (leb (place .0 + length (now (src .entry))) (length (now (out .entry)))) (placed (place .0) (now (src .entry)) (now (out .entry))) (now (out .entry)) ⌝ }
 {
+    let at = place.0;
     if out.len() < at {
         return;
     }
@@ -87,7 +94,7 @@ pub fn begin(line: &mut [u8; LINE_SPACE], code: Code, want: Want) -> Draft
 {
     let digits = base_codes::digits_of(code);
     let bytes = [digits.0, digits.1, b','];
-    put_at(line, 0, &bytes[0..3]);
+    put_at(line, Place(0), &bytes[0..3]);
     Draft {
         taken: Taken::Next(want),
         len: 3,
@@ -112,7 +119,7 @@ fn add_wanted(line: &mut [u8], len: usize, want: Want, f: &[u8], mark: u8) -> Dr
     if !read_values::is_clean(f) {
         return refused;
     }
-    put_at(line, len, f);
+    put_at(line, Place(len), f);
     line[len + f.len()] = mark;
     Draft {
         taken: read_fields::take_field(want, f),
@@ -156,13 +163,27 @@ pub fn add_total(line: &mut [u8; LINE_SPACE], d: Draft, total: Units, mark: u8) 
     add(line, d, &space[0..k], mark)
 }
 
-// The line with a count more.
-pub fn add_count(line: &mut [u8; LINE_SPACE], d: Draft, n: u64, mark: u8) -> Draft
+// The line with a number more.
+fn add_number(line: &mut [u8; LINE_SPACE], d: Draft, n: u64, mark: u8) -> Draft
     ensures { λ r. ⌜ drawnOf (now (line .exit)) r ≡ fieldDrawn (decimal n) mark (drawnOf (now (line .entry)) d) ⌝ }
 {
     let mut space = number_space();
     let k = base_numerals::put_digits(&mut space, n);
     add(line, d, &space[0..k], mark)
+}
+
+// The line with a count of groups or accounts more.
+pub fn add_count(line: &mut [u8; LINE_SPACE], d: Draft, n: Count, mark: u8) -> Draft
+    ensures { λ r. ⌜ drawnOf (now (line .exit)) r ≡ fieldDrawn (decimal (n .0)) mark (drawnOf (now (line .entry)) d) ⌝ }
+{
+    add_number(line, d, n.0, mark)
+}
+
+// The line with a record count more.
+pub fn add_records(line: &mut [u8; LINE_SPACE], d: Draft, n: Records, mark: u8) -> Draft
+    ensures { λ r. ⌜ drawnOf (now (line .exit)) r ≡ fieldDrawn (decimal (n .0)) mark (drawnOf (now (line .entry)) d) ⌝ }
+{
+    add_number(line, d, n.0, mark)
 }
 
 // What an amount or none adds.
@@ -190,7 +211,7 @@ pub fn add_items(line: &mut [u8; LINE_SPACE], d: Draft, count: MaybeCount, mark:
     ensures { λ r. ⌜ drawnOf (now (line .exit)) r ≡ fieldDrawn (countBytes (countGiven count)) mark (drawnOf (now (line .entry)) d) ⌝ }
 {
     match count {
-        MaybeCount::Given(n) => add_count(line, d, n, mark),
+        MaybeCount::Given(n) => add_number(line, d, n.0, mark),
         MaybeCount::NoCount => add_empty(line, d, mark),
     }
 }
@@ -217,7 +238,7 @@ fn put_text(line: &mut [u8], len: usize, want: Want, t: &[u8]) -> Draft
             len: len + 1,
         };
     }
-    put_at(line, len, t);
+    put_at(line, Place(len), t);
     Draft {
         taken: Taken::Next(want),
         len: len + t.len(),

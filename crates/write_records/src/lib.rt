@@ -1,5 +1,7 @@
 // The lines of the writer's calls, drafted: the fields in the order of their record.
 use base_codes::Code;
+use base_quantities::Count;
+use base_quantities::Records;
 use base_quantities::Units;
 use read_wanted::want;
 use read_wanted::want::Want;
@@ -130,8 +132,8 @@ pub fn detail(
 }
 
 // The line 49: total and records.
-pub fn account_end(line: &mut [u8; LINE_SPACE], total: Units, records: u64) -> Draft
-    ensures { λ r. ⌜ drawnOf (now (line .exit)) r ≡ lineDrawn lines.accountTrailer (fieldsOf lines.accountTrailer) (totalBytes (sumMeant total) ∷ decimal records ∷ []) 47 (now (line .entry)) ⌝ }
+pub fn account_end(line: &mut [u8; LINE_SPACE], total: Units, records: Records) -> Draft
+    ensures { λ r. ⌜ drawnOf (now (line .exit)) r ≡ lineDrawn lines.accountTrailer (fieldsOf lines.accountTrailer) (totalBytes (sumMeant total) ∷ decimal (records .0) ∷ []) 47 (now (line .entry)) ⌝ }
 {
     let d = write_line::begin(
         line,
@@ -139,7 +141,7 @@ pub fn account_end(line: &mut [u8; LINE_SPACE], total: Units, records: u64) -> D
         want::first_want(Code::AccountTrailer),
     );
     let d = write_line::add_total(line, d, total, b',');
-    write_line::add_count(line, d, records, b'/')
+    write_line::add_records(line, d, records, b'/')
 }
 
 // The line 98 or 99: total, accounts or groups, and records.
@@ -147,13 +149,13 @@ pub fn trailer(
     line: &mut [u8; LINE_SPACE],
     code: Code,
     total: Units,
-    count: u64,
-    records: u64,
+    count: Count,
+    records: Records,
 ) -> Draft
-    ensures { λ r. ⌜ drawnOf (now (line .exit)) r ≡ lineDrawn (codeMeant code) (fieldsOf (codeMeant code)) (totalBytes (sumMeant total) ∷ decimal count ∷ decimal records ∷ []) 47 (now (line .entry)) ⌝ }
+    ensures { λ r. ⌜ drawnOf (now (line .exit)) r ≡ lineDrawn (codeMeant code) (fieldsOf (codeMeant code)) (totalBytes (sumMeant total) ∷ decimal (count .0) ∷ decimal (records .0) ∷ []) 47 (now (line .entry)) ⌝ }
 {
     let d = write_line::begin(line, code, want::first_want(code));
     let d = write_line::add_total(line, d, total, b',');
     let d = write_line::add_count(line, d, count, b',');
-    write_line::add_count(line, d, records, b'/')
+    write_line::add_records(line, d, records, b'/')
 }

@@ -1,11 +1,11 @@
--- `add_count` meets its contract: a number's digits fit their space. Assumes nothing.
+-- `add_number` meets its contract: a number's digits fit their space. Assumes nothing.
 use native.Mathlib.Omega.{arith}
 use mathlib.Core.Path.{ap}
 use lib.ListN.{length}
 use Rattle.write_line.proofs.LineSpace.{number-bytes, decimal-short}
 use borrow.Author.Needs.{needs}
-use Rattle.write_line.proofs.add_count.Statement.{statement}
-use Rattle.write_line.proofs.add_count.Tie as tie
+use Rattle.write_line.proofs.add_number.Statement.{statement}
+use Rattle.write_line.proofs.add_number.Tie as tie
 
 returns : tie.Need-returns
 returns c =
@@ -14,8 +14,8 @@ returns c =
     let short = decimal-short (space .before .args .n) (omega arith) in
     rw (number-bytes (put .put-digits .ensures) (omega (arith, short, ap length (space .number-space .ensures)))) at (c .add .ensures)
 
-pub add-count-spec : {M : Type 1} → statement M
-add-count-spec =
+pub add-number-spec : {M : Type 1} → statement M
+add-number-spec =
     tie.close
     (tie.spec
     (λ c κs. search needs)
