@@ -1,8 +1,7 @@
 // Two files: K1, and one with every call of the writer.
-use run_refused_calls::amounts::minus;
-use run_refused_calls::amounts::plus;
-use run_refused_calls::printing::after;
-use write_line::Items;
+use crate::amounts::minus;
+use crate::amounts::plus;
+use crate::printing::after;
 use write_line::MaybeAmount;
 use write_line::MaybeCount;
 use write_state::Writer;
