@@ -21,10 +21,13 @@ fn put_counts(out: &mut [u8], summary: Summary) -> usize
     requires { ⌜ length (counts (summaryMeant summary)) ≤ length (now out) ⌝ }
     ensures { λ r. ⌜ Put (counts (summaryMeant summary)) (now (out .entry)) r (now (out .exit)) ⌝ }
 {
+    let groups = summary.groups;
+    let accounts = summary.accounts;
+    let details = summary.details;
     let records = summary.records;
-    let mut o = base_numerals::put_digits_after(out, b' ', summary.groups);
-    o += base_numerals::put_digits_after(&mut out[o..], b' ', summary.accounts);
-    o += base_numerals::put_digits_after(&mut out[o..], b' ', summary.details);
+    let mut o = base_numerals::put_digits_after(out, b' ', groups.0);
+    o += base_numerals::put_digits_after(&mut out[o..], b' ', accounts.0);
+    o += base_numerals::put_digits_after(&mut out[o..], b' ', details.0);
     o += base_numerals::put_digits_after(&mut out[o..], b' ', records.0);
     o
 }

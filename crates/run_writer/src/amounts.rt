@@ -1,12 +1,13 @@
 // Amounts to give.
 use base_digits::Amount;
+use base_quantities::Magnitude;
 use write_line::MaybeAmount;
 
 // An amount with a plus.
 pub fn plus(magnitude: u64) -> MaybeAmount {
     MaybeAmount::Given(Amount {
         negative: false,
-        magnitude,
+        magnitude: Magnitude(magnitude),
     })
 }
 
@@ -14,6 +15,6 @@ pub fn plus(magnitude: u64) -> MaybeAmount {
 pub fn minus(magnitude: u64) -> MaybeAmount {
     MaybeAmount::Given(Amount {
         negative: true,
-        magnitude,
+        magnitude: Magnitude(magnitude),
     })
 }
