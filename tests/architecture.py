@@ -5,7 +5,7 @@ import os
 import re
 import sys
 
-PLAN, RULES, DECISIONS = "docs/ARCHITECTURE.md", "docs/RULES.md", "docs/DECISIONS.md"
+PLAN, RULES, DECISIONS, PROMISES = "docs/ARCHITECTURE.md", "docs/RULES.md", "docs/DECISIONS.md", "docs/PROMISES.md"
 PAGES = ["README.md"] + sorted(glob.glob("docs/*.md"))
 OUTSIDE = {"std", "io", "os", "libc", "bytes"}  # crates of the kit
 CHECKS = {}
@@ -276,7 +276,7 @@ def proofs():
     sources = glob.glob("crates/*/proofs/**/*.antt", recursive=True) + glob.glob("crates/*/specs/*.antt")
     proved = set(re.findall(r"^ *(?:abbrev |unfoldable )?(?:pub )?([^\s:]+) :", "\n".join(map(text_of, sources)), re.M))
     edits = {os.path.basename(path)[:-5] for path in glob.glob("crates/*/must-fail/*.edit")}
-    for page in [PLAN, RULES, DECISIONS, "docs/PROMISES.md", "docs/TRUST.md"]:
+    for page in [PLAN, RULES, DECISIONS, PROMISES, "docs/TRUST.md"]:
         for name in quoted(prose_of(page)):
             if re.fullmatch(r"[a-z]\w*(-\w+)+", name) and name not in proved | {"must-fail"}:
                 yield f"{page}: there is no theorem `{name}`"
@@ -291,6 +291,21 @@ def proofs():
         for name in quoted(names):
             if name[0].islower() and not any(os.path.isfile(file) and defines(file, name) for file in files):
                 yield f"{DECISIONS}: none of {names} has `{name}`"
+
+
+@check
+def promises():
+    """Each call of PROMISES.md has two edits of its own crate: in its row, those of the row's calls in turn, parted by semicolons; what follows is free."""
+    for table in tables_of(PROMISES):
+        columns = [i for i, heading in enumerate(table[0]) if heading.startswith("must-fail")]
+        for cells in table[1:]:
+            calls = [span.split("(")[0].split(" ")[0] for span in quoted(cells[0])]
+            for column in columns:
+                for call, part in zip(calls, cells[column].split(";") + [""] * len(calls)):
+                    crate = call.split("::")[0] if "::" in call else "bai2"
+                    own = [name for name in quoted(part) if os.path.isfile(f"crates/{crate}/must-fail/{name}.edit")]
+                    if len(set(own)) < 2:
+                        yield f"{PROMISES}: `{call}` has not two edits of {crate}"
 
 
 wrong = list(CHECKS[sys.argv[1]]())
