@@ -75,12 +75,12 @@ fn right_count(n: Count, kept: Kept) -> Checked
 {
     let t = kept.count;
     let at = t.at;
-    let stated = t.count;
+    let count = t.count;
     let why = Refusal {
         number: WRONG_COUNT,
         place: at,
     };
-    if n.0 != stated.0 {
+    if n.0 != count.0 {
         return Checked::Refused(why);
     }
     Checked::Fine
@@ -93,12 +93,12 @@ fn right_records(s: Summary, kept: Kept) -> Checked
     let n = s.records;
     let t = kept.records;
     let at = t.at;
-    let stated = t.records;
+    let records = t.records;
     let why = Refusal {
         number: WRONG_RECORD_COUNT,
         place: at,
     };
-    if n.0 != stated.0 {
+    if n.0 != records.0 {
         return Checked::Refused(why);
     }
     Checked::Fine
