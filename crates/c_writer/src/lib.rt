@@ -9,17 +9,17 @@ use base_quantities::Units;
 use base_totals::Summary;
 use write_line::Items;
 use write_line::MaybeAmount;
-use write_line::MaybeCount;
+use write_line::MaybeItems;
 use write_state::Phase;
 use write_state::Writer;
 use write_state::Written;
 ghost use mathlib.Core.Path.{_≡_};
 ghost use mathlib.Core.List.{[]};
 ghost use Rattle.base_digits.specs.NumbersRead.{amountMeant};
-ghost use Rattle.write_line.specs.DraftMeaning.{amountGiven, countGiven};
+ghost use Rattle.write_line.specs.DraftMeaning.{amountGiven, itemsGiven};
 ghost use Rattle.base_totals.specs.SummaryMeaning.{summaryMeant};
 ghost use Rattle.write_state.specs.WriterMeaning.{phaseMeant, writerMeant, writtenMeant};
-ghost use Rattle.c_writer.specs.WriterFigures.{summaryOf, figuresOf, phaseOf, phaseNumber, flag, sizeOf, stateOf, numbersOf, numbersAfter, answerOf, signedOf, amountAsked, countAsked};
+ghost use Rattle.c_writer.specs.WriterFigures.{summaryOf, figuresOf, phaseOf, phaseNumber, flag, sizeOf, stateOf, numbersOf, numbersAfter, answerOf, signedOf, amountAsked, itemsAsked};
 
 // A summary in figures.
 #[repr(C)]
@@ -221,11 +221,11 @@ pub fn amount_asked(given: u64, n: i64) -> MaybeAmount
 }
 
 // The number of items, or none where none is given.
-pub fn count_asked(given: u64, n: u64) -> MaybeCount
-    ensures { λ r. ⌜ countGiven r ≡ countAsked given n ⌝ }
+pub fn items_asked(given: u64, n: u64) -> MaybeItems
+    ensures { λ r. ⌜ itemsGiven r ≡ itemsAsked given n ⌝ }
 {
     if given == 0 {
-        return MaybeCount::NoCount;
+        return MaybeItems::NoItems;
     }
-    MaybeCount::Given(Items(n))
+    MaybeItems::Given(Items(n))
 }

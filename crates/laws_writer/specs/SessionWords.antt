@@ -75,13 +75,13 @@ abbrev pub amountGiven : Option Signed → Value
 amountGiven none = nothing
 amountGiven (some a) = units (asInteger (asSum a))
 
-abbrev pub countGiven : Option ℕ → Value
-countGiven none = nothing
-countGiven (some n) = number n
+abbrev pub itemsGiven : Option ℕ → Value
+itemsGiven none = nothing
+itemsGiven (some n) = number n
 
 -- type, amount, item count; no funds
 abbrev pub itemGiven : Item → List Value
-itemGiven i = word (i .type) ∷ amountGiven (i .amount) ∷ countGiven (i .count) ∷ nothing ∷ []
+itemGiven i = word (i .type) ∷ amountGiven (i .amount) ∷ itemsGiven (i .itemCount) ∷ nothing ∷ []
 
 -- a trailer's total, count and record count, itself included
 abbrev pub trailerGiven : Summary → ℕ → List Value

@@ -5,7 +5,7 @@ use crate::printing::after;
 use crate::printing::print_answer;
 use crate::printing::print_file;
 use write_line::MaybeAmount;
-use write_line::MaybeCount;
+use write_line::MaybeItems;
 use write_state::Writer;
 
 // A writer after a header, a group and an account without an item.
@@ -20,7 +20,7 @@ fn in_account(out: &mut [u8; 4096]) -> Writer {
         false,
         b"",
         MaybeAmount::NoAmount,
-        MaybeCount::NoCount,
+        MaybeItems::NoItems,
         out,
     ))
 }
@@ -37,7 +37,7 @@ fn try_header(tried: &[u8], w: Writer, sender: &[u8], date: &[u8], out: &mut [u8
 fn try_item(tried: &[u8], w: Writer, out: &mut [u8; 4096]) {
     print_answer(
         tried,
-        write_calls::item(w, b"010", plus(1), MaybeCount::NoCount, out),
+        write_calls::item(w, b"010", plus(1), MaybeItems::NoItems, out),
     );
 }
 

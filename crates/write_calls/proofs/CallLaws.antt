@@ -14,7 +14,7 @@ use Rattle.rules.specs.Outcome.{Outcome, refused, refuse, fine, _>>=_, check}
 use Rattle.rules.specs.Lines.{Code, fileHeader, groupHeader, accountHeader, detail, accountTrailer, groupTrailer, fileTrailer, continuation, codeBytes}
 use Rattle.rules.specs.Totals.{Summary}
 use Rattle.rules.specs.Grammar.{Kind, furtherType, detailType, reference, text, fieldsOf}
-use Rattle.rules.specs.Writer.{Item, Call, writeHeader, writeGroup, writeAccount, writeItem, writeDetail, endAccount, endGroup, endFile, Writer, Given, given, plain, amountBytes, countBytes}
+use Rattle.rules.specs.Writer.{Item, Call, writeHeader, writeGroup, writeAccount, writeItem, writeDetail, endAccount, endGroup, endFile, Writer, Given, given, plain, amountBytes, itemCountBytes}
 use Rattle.rules.specs.Writer.{itemFields, sumGiven, ofGiven, withCommas, bodyOf, lineOf, sound, kindsAfter, goodText, goodTextOrNone, wantsItem, entryOf, lineFits, writeLine}
 use Rattle.rules.specs.Writer.{Written, writtenBy, write}
 use Rattle.rules.proofs.Tests.{Known, holds, fails, known}
@@ -31,7 +31,7 @@ use Rattle.write_records.specs.RecordLines.{lineIn, lineDrawn}
 use Rattle.write_records.proofs.LinesSaid.{line-said, line-text-said}
 use Rattle.write_line.proofs.FieldChains.{noText, lineSofar, chain-is, fields-fit}
 use Rattle.write_line.specs.declared.MaybeAmount.{MaybeAmount}
-use Rattle.write_line.specs.declared.MaybeCount.{MaybeCount}
+use Rattle.write_line.specs.declared.MaybeItems.{MaybeItems}
 use Rattle.write_commit.specs.Commit.{roomFor, committed}
 use Rattle.write_calls.specs.EndLines.{ended}
 use Rattle.write_calls.specs.ItemMeaning.{itemMeant, itemGiven}
@@ -145,7 +145,7 @@ module _ (w : Writer) (out space : Bytes) (draft : Draft) (sum : Sum) where
       → answered w out continuation (draftOf space draft) sum true ≡ write w (writeItem i) out
   unfolding given
   item-written i =
-      let fs = amountBytes (i .amount) ∷ countBytes (i .count) ∷ [] ∷ [] in
+      let fs = amountBytes (i .amount) ∷ itemCountBytes (i .itemCount) ∷ [] ∷ [] in
       slash-written (writeItem i) continuation (furtherType ∷ []) (i .type) fs (i .amount) true refl (further-wants i) refl (omega arith)
 
 -- ---- the ends
@@ -238,10 +238,10 @@ module _ (w : Writer) (y : Bytes) (a : Option Signed) (b c t : Bytes) where
 -- ---- an account without an item
 
 -- is one with an empty item
-pub no-item : (w : Writer) (n c out : Bytes) → write w (writeAccount n c (some (record { type = []; amount = none; count = none }))) out ≡ write w (writeAccount n c none) out
+pub no-item : (w : Writer) (n c out : Bytes) → write w (writeAccount n c (some (record { type = []; amount = none; itemCount = none }))) out ≡ write w (writeAccount n c none) out
 unfolding write given
 no-item w n c out = refl
 
-pub with-item : (w : Writer) (n c y out : Bytes) (a : MaybeAmount) (k : MaybeCount) (g : Bool) {r : Written} → g ≡ true
+pub with-item : (w : Writer) (n c y out : Bytes) (a : MaybeAmount) (k : MaybeItems) (g : Bool) {r : Written} → g ≡ true
     → r ≡ write w (writeAccount n c (some (itemMeant y a k))) out → r ≡ write w (writeAccount n c (itemGiven g y a k)) out
 with-item w n c y out a k g e h = rw e h

@@ -7,7 +7,7 @@ use base_quantities::Units;
 use base_totals::Summary;
 use write_line::LINE_SPACE;
 use write_line::MaybeAmount;
-use write_line::MaybeCount;
+use write_line::MaybeItems;
 use write_state::Writer;
 use write_state::Written;
 ghost use mathlib.Core.Path.{_≡_};
@@ -27,7 +27,7 @@ fn open_account(
     currency: &[u8],
     type_code: &[u8],
     amount: MaybeAmount,
-    count: MaybeCount,
+    count: MaybeItems,
     out: &mut [u8],
 ) -> Written
     ensures { λ r. ⌜ writtenMeant r (now (out .exit)) ≡ rules.write (writerMeant w)
@@ -98,7 +98,7 @@ pub fn account(
     item_given: bool,
     type_code: &[u8],
     amount: MaybeAmount,
-    count: MaybeCount,
+    count: MaybeItems,
     out: &mut [u8],
 ) -> Written
     ensures { λ r. ⌜ writtenMeant r (now (out .exit)) ≡ rules.write (writerMeant w)
@@ -115,7 +115,7 @@ pub fn account(
         currency,
         &none[0..0],
         MaybeAmount::NoAmount,
-        MaybeCount::NoCount,
+        MaybeItems::NoItems,
         out,
     )
 }
@@ -125,7 +125,7 @@ pub fn item(
     w: Writer,
     type_code: &[u8],
     amount: MaybeAmount,
-    count: MaybeCount,
+    count: MaybeItems,
     out: &mut [u8],
 ) -> Written
     ensures { λ r. ⌜ writtenMeant r (now (out .exit)) ≡ rules.write (writerMeant w)

@@ -16,11 +16,11 @@ ghost use Prim.Native.Nat.{_+_};
 ghost use lib.Dec.{leb};
 ghost use lib.ListN.{length, replicate};
 ghost use Rattle.rules.specs.Numbers.{decimal, totalBytes};
-ghost use Rattle.rules.specs.Writer.{placed, goodText, sumGiven, amountBytes, countBytes};
+ghost use Rattle.rules.specs.Writer.{placed, goodText, sumGiven, amountBytes, itemCountBytes};
 ghost use Rattle.base_codes.specs.CodeMeaning.{codeMeant};
 ghost use Rattle.base_quantities.specs.QuantityMeanings.{sumMeant};
 ghost use Rattle.read_wanted.specs.Wants.{wantedOf};
-ghost use Rattle.write_line.specs.DraftMeaning.{lineSpace, wanting, amountGiven, countGiven};
+ghost use Rattle.write_line.specs.DraftMeaning.{lineSpace, wanting, amountGiven, itemsGiven};
 ghost use Rattle.write_line.specs.DrawnLine.{drawnOf, codeDrawn, fieldDrawn, textDrawn};
 
 // What is wanted next, or that a field was refused; and how many bytes of the line stand.
@@ -39,9 +39,9 @@ pub enum MaybeAmount {
 pub struct Items(pub u64);
 
 // A number of items or none.
-pub enum MaybeCount {
+pub enum MaybeItems {
     Given(Items),
-    NoCount,
+    NoItems,
 }
 
 // The space of a line in the making: room for a code, and eight fields of 76 bytes with their marks.
@@ -207,12 +207,12 @@ pub fn add_amount(line: &mut [u8; LINE_SPACE], d: Draft, amount: MaybeAmount, ma
 }
 
 // The line with a number of items more, or with an empty field where there is none.
-pub fn add_items(line: &mut [u8; LINE_SPACE], d: Draft, count: MaybeCount, mark: u8) -> Draft
-    ensures { λ r. ⌜ drawnOf (now (line .exit)) r ≡ fieldDrawn (countBytes (countGiven count)) mark (drawnOf (now (line .entry)) d) ⌝ }
+pub fn add_items(line: &mut [u8; LINE_SPACE], d: Draft, count: MaybeItems, mark: u8) -> Draft
+    ensures { λ r. ⌜ drawnOf (now (line .exit)) r ≡ fieldDrawn (itemCountBytes (itemsGiven count)) mark (drawnOf (now (line .entry)) d) ⌝ }
 {
     match count {
-        MaybeCount::Given(n) => add_number(line, d, n.0, mark),
-        MaybeCount::NoCount => add_empty(line, d, mark),
+        MaybeItems::Given(n) => add_number(line, d, n.0, mark),
+        MaybeItems::NoItems => add_empty(line, d, mark),
     }
 }
 

@@ -8,16 +8,16 @@ use read_wanted::want::Want;
 use write_line::Draft;
 use write_line::LINE_SPACE;
 use write_line::MaybeAmount;
-use write_line::MaybeCount;
+use write_line::MaybeItems;
 ghost use mathlib.Core.Path.{_≡_};
 ghost use mathlib.Core.List.{[], _∷_};
 ghost use Rattle.rules.specs.Numbers.{decimal, totalBytes};
 ghost use Rattle.rules.specs.Lines as lines;
 ghost use Rattle.rules.specs.Grammar.{fieldsOf, furtherType};
-ghost use Rattle.rules.specs.Writer.{amountBytes, countBytes};
+ghost use Rattle.rules.specs.Writer.{amountBytes, itemCountBytes};
 ghost use Rattle.base_codes.specs.CodeMeaning.{codeMeant};
 ghost use Rattle.base_quantities.specs.QuantityMeanings.{sumMeant};
-ghost use Rattle.write_line.specs.DraftMeaning.{amountGiven, countGiven};
+ghost use Rattle.write_line.specs.DraftMeaning.{amountGiven, itemsGiven};
 ghost use Rattle.write_line.specs.DrawnLine.{drawnOf, textDrawn};
 ghost use Rattle.write_records.specs.RecordLines.{lineDrawn};
 
@@ -75,10 +75,10 @@ pub fn account(
     currency: &[u8],
     type_code: &[u8],
     amount: MaybeAmount,
-    count: MaybeCount,
+    count: MaybeItems,
 ) -> Draft
     ensures { λ r. ⌜ drawnOf (now (line .exit)) r ≡ lineDrawn lines.accountHeader (fieldsOf lines.accountHeader)
-        (now (number .entry) ∷ now (currency .entry) ∷ now («type_code» .entry) ∷ amountBytes (amountGiven amount) ∷ countBytes (countGiven count) ∷ [] ∷ []) 47 (now (line .entry)) ⌝ }
+        (now (number .entry) ∷ now (currency .entry) ∷ now («type_code» .entry) ∷ amountBytes (amountGiven amount) ∷ itemCountBytes (itemsGiven count) ∷ [] ∷ []) 47 (now (line .entry)) ⌝ }
 {
     let d = write_line::begin(
         line,
@@ -98,10 +98,10 @@ pub fn item(
     line: &mut [u8; LINE_SPACE],
     type_code: &[u8],
     amount: MaybeAmount,
-    count: MaybeCount,
+    count: MaybeItems,
 ) -> Draft
     ensures { λ r. ⌜ drawnOf (now (line .exit)) r ≡ lineDrawn lines.continuation (furtherType ∷ [])
-        (now («type_code» .entry) ∷ amountBytes (amountGiven amount) ∷ countBytes (countGiven count) ∷ [] ∷ []) 47 (now (line .entry)) ⌝ }
+        (now («type_code» .entry) ∷ amountBytes (amountGiven amount) ∷ itemCountBytes (itemsGiven count) ∷ [] ∷ []) 47 (now (line .entry)) ⌝ }
 {
     let d = write_line::begin(line, Code::Continuation, Want::FurtherType);
     let d = write_line::add(line, d, type_code, b',');
