@@ -1,5 +1,5 @@
--- One answer for each public call: two results that both meet its promise are equal, and so are the output slices. Each is `one-answer` of crate
--- `laws`, with the way from the meaning back to the answer. Assumes nothing.
+-- One answer for each public call: two results that both meet its promise are equal, and so are the output slices. Each but `detail-one` is `one-answer` of
+-- crate `laws`, with the way from the meaning back to the answer. Assumes nothing.
 use Prim.Native.Nat.{ℕ}
 use mathlib.Core.Path.{_≡_, refl, sym, ap, ap₂, _∙_}
 use mathlib.Core.Bool.{Bool, true, false}
@@ -251,7 +251,7 @@ same-writer : (w : Writer) → writerOf (writerMeant w) ≡ w
 same-writer w =
     ap (λ (p : Phase). record { phase = p; items = w .items; size = w .size; file = w .file; group = w .group; account = w .account }) (same-phase (w .phase))
 
--- Writer::new
+-- write_state::Writer::new
 pub new-one : (v w : Writer) → writerMeant v ≡ writing.freshWriter → writerMeant w ≡ writing.freshWriter → v ≡ w
 new-one = one-answer writerMeant writerOf same-writer writing.freshWriter
 
@@ -262,7 +262,7 @@ same-written x =
     ap (λ (w : Writer). record { answer = record { refusal = x .answer .refusal; length = x .answer .length; writer = w }; slice = x .slice })
     (same-writer (x .answer .writer))
 
--- Writer::header, group, account, item, detail, end_account, end_group, end_file: each call on each state
+-- write_calls::header, group, account, item, detail, end_account, end_group, end_file: each call on each state
 pub write-one : (w : writing.Writer) (call : writing.Call) (before : Bytes) (x y : Left Written)
     → writtenMeant (x .answer) (x .slice) ≡ writing.write w call before → writtenMeant (y .answer) (y .slice) ≡ writing.write w call before → x ≡ y
 write-one w call before =
