@@ -2,6 +2,8 @@
      bench          16 MiB of each shape, then one shape from 1 to 16 MiB: the library's reader and the plain C reader;
                     then split and combine, each beside the library's own reading of the same files and a plain copy
                     of as many bytes as the result has
+     bench once N   1 MiB of the Nth shape, from 0 on, read once by each reader, for a tool that counts instructions; the
+                    line printed has the shape's number of lines and its name. Past the last shape: nothing, and status 1
    Each figure is the processor time of the best of several runs, both sides in turn; both read the same bytes in the
    same memory, which was read before. A ratio under 1 means that the library's call is the faster one. */
 #define _POSIX_C_SOURCE 200809L
@@ -282,8 +284,17 @@ static void put_tables(const shape *shapes, size_t count, file *a, file *b, uint
         measure_calls(&shapes[i], a, b, out);
 }
 
-/* Makes the shapes and prints the tables. */
-int main(void)
+/* One MiB of this shape, read once by each reader. */
+static int read_once(const shape *s, file *f)
+{
+    make_file(f, s, MIB, EACH);
+    task t = {.a = f};
+    printf("%lu %s\n", f->lines + 2, s->name);
+    return plain_read(&t) != 0 || library_read(&t) != 0;
+}
+
+/* Makes the shapes and prints the tables, or reads one shape once. */
+int main(int argc, char **argv)
 {
     static char text[4001];
     memset(text, 'T', sizeof text - 1);
@@ -295,13 +306,20 @@ int main(void)
         {"many 88s", "16,165,1500,1,DD1620,,DEALER PAYMENTS", "88,AND A FURTHER PIECE OF TEXT", 10, 20, 20},
         {"one huge group", "16,475,1500,V,040620,2359,DD1620,REF 12,CHEQUE /77", "", 0, 1000, 0},
     };
+    const size_t count = sizeof shapes / sizeof *shapes;
     file a = {.bytes = malloc(ROOM)}, b = {.bytes = malloc(ROOM)};
     uint8_t *out = malloc(ROOM);
     if (a.bytes == NULL || b.bytes == NULL || out == NULL)
         return 1;
-    put_tables(shapes, sizeof shapes / sizeof *shapes, &a, &b, out);
+    int status = 0;
+    if (argc == 3 && strcmp(argv[1], "once") == 0) {
+        unsigned long which = strtoul(argv[2], NULL, 10);
+        status = which < count ? read_once(&shapes[which], &a) : 1;
+    } else {
+        put_tables(shapes, count, &a, &b, out);
+    }
     free(a.bytes);
     free(b.bytes);
     free(out);
-    return 0;
+    return status;
 }

@@ -5,7 +5,7 @@ import os
 import re
 import sys
 
-PLAN, RULES, DECISIONS = "docs/ARCHITECTURE.md", "docs/RULES.md", "docs/DECISIONS.md"
+PLAN, RULES, DECISIONS, PROMISES = "docs/ARCHITECTURE.md", "docs/RULES.md", "docs/DECISIONS.md", "docs/PROMISES.md"
 PAGES = ["README.md"] + sorted(glob.glob("docs/*.md"))
 OUTSIDE = {"std", "io", "os", "libc", "bytes"}  # crates of the kit
 CHECKS = {}
@@ -276,7 +276,7 @@ def proofs():
     sources = glob.glob("crates/*/proofs/**/*.antt", recursive=True) + glob.glob("crates/*/specs/*.antt")
     proved = set(re.findall(r"^ *(?:abbrev |unfoldable )?(?:pub )?([^\s:]+) :", "\n".join(map(text_of, sources)), re.M))
     edits = {os.path.basename(path)[:-5] for path in glob.glob("crates/*/must-fail/*.edit")}
-    for page in [PLAN, RULES, DECISIONS, "docs/PROMISES.md", "docs/TRUST.md"]:
+    for page in [PLAN, RULES, DECISIONS, PROMISES, "docs/TRUST.md"]:
         for name in quoted(prose_of(page)):
             if re.fullmatch(r"[a-z]\w*(-\w+)+", name) and name not in proved | {"must-fail"}:
                 yield f"{page}: there is no theorem `{name}`"
@@ -291,6 +291,69 @@ def proofs():
         for name in quoted(names):
             if name[0].islower() and not any(os.path.isfile(file) and defines(file, name) for file in files):
                 yield f"{DECISIONS}: none of {names} has `{name}`"
+
+
+def promised():
+    """The rows of PROMISES.md with a call or an inner function, each with its table's heading."""
+    for table in tables_of(PROMISES):
+        if table[0][0] in ("call", "function"):
+            yield from ((table[0], cells) for cells in table[1:])
+
+
+def name_in(cell):
+    """The function that a row is about, without what it takes and gives."""
+    return re.split(r"[( ]", quoted(cell)[0])[0] if quoted(cell) else ""
+
+
+def crate_of(name):
+    return name.split("::")[0] if "::" in name else "bai2"
+
+
+@check
+def promises():
+    """Each call of PROMISES.md has two edits of its own crate, and each inner function whose last column is headed as theirs; what follows a semicolon is free."""
+    for heading, cells in promised():
+        if heading[0] == "call" or heading[-1] == "must-fail edits":
+            name = name_in(cells[0])
+            edits = quoted(cells[-1].split(";")[0])
+            if len({edit for edit in edits if os.path.isfile(f"crates/{crate_of(name)}/must-fail/{edit}.edit")}) < 2:
+                yield f"{PROMISES}: `{name}` has not two edits of {crate_of(name)}"
+
+
+def public_functions(crate):
+    """The public functions of a crate, those of a module or type with its name; those for C by their own."""
+    for path in sorted(glob.glob(f"crates/{crate}/src/*.rt")):
+        module, owner = os.path.basename(path)[:-3], ""
+        front = crate if module == "lib" else f"{crate}::{module}"
+        for line in text_of(path).split("\n"):
+            opening = re.match(r"impl (\w+) \{", line)
+            owner = f"{opening[1]}::" if opening else "" if line.startswith("}") else owner
+            item = re.match(r' *pub (extern "C" )?fn (\w+)', line)
+            if item:
+                yield item[2] if item[1] else f"{front}::{owner}{item[2]}"
+
+
+@check
+def functions():
+    """PROMISES.md has a row for each public function of each library, and for no other; the calls first, then the inner functions in the order of crates.txt."""
+    libraries = [crate for crate in CRATES if os.path.isfile(f"crates/{crate}/src/lib.rt")]
+    public = {name for crate in libraries for name in public_functions(crate)}
+    told, inner = [], []
+    for heading, cells in promised():
+        told.append(name_in(cells[0]))
+        if len(quoted(cells[0])) != 1 or len(cells) != len(heading) or not all(cells):
+            yield f"{PROMISES}: the row of {cells[0]} has not one function, or an empty cell"
+        if heading[0] == "function":
+            inner.append(crate_of(told[-1]))
+        elif inner:
+            yield f"{PROMISES}: the call {cells[0]} stands after inner functions"
+    for name in sorted(public - set(told)):
+        yield f"{PROMISES} has no row for `{name}`"
+    for name in sorted({name for name in told if name not in public or told.count(name) > 1}):
+        yield f"{PROMISES}: `{name}` is no public function of a library, or has two rows"
+    order = [CRATES.index(crate) for crate in inner if crate in CRATES]
+    if order != sorted(order):
+        yield f"{PROMISES}: the inner functions are not in the order of crates.txt"
 
 
 wrong = list(CHECKS[sys.argv[1]]())

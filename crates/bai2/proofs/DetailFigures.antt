@@ -24,9 +24,9 @@ pub detail-figures : (d : DetailAnswer) (given : ℕ) → given ≡ flag (d .«a
       place = d .refusal .place .0;
       «type_code» = d .«type_code»;
       «amount_given» = given;
-      amount = d .amount;
-      «text_start» = d .«text_start»;
+      amount = d .amount .0;
+      «text_start» = d .«text_start» .0;
       «text_length» = d .«text_length»;
     })
     (detailFigures (detailMeant d))
-detail-figures d given e z = rw (e, given-is (d .«amount_given») (d .amount), amount-is (d .«amount_given») (d .amount) z)
+detail-figures d given e z = rw (e, given-is (d .«amount_given») (d .amount .0), amount-is (d .«amount_given») (d .amount .0) z)

@@ -1,5 +1,5 @@
--- One answer for each public call: two results that both meet its promise are equal, and so are the output slices. Each is `one-answer` of crate
--- `laws`, with the way from the meaning back to the answer. Assumes nothing.
+-- One answer for each public call: two results that both meet its promise are equal, and so are the output slices. Each but `detail-one` is `one-answer` of
+-- crate `laws`, with the way from the meaning back to the answer. Assumes nothing.
 use Prim.Native.Nat.{ℕ}
 use mathlib.Core.Path.{_≡_, refl, sym, ap, ap₂, _∙_}
 use mathlib.Core.Bool.{Bool, true, false}
@@ -58,7 +58,7 @@ refusalFrom why = record { number = why .number; place = record { 0 = why .place
 -- ---- reading
 
 abbrev summaryOf : totals.Summary → Summary
-summaryOf s = record { total = unitsOf (s .sum); groups = s .groups; accounts = s .accounts; details = s .details; records = record { 0 = s .records } }
+summaryOf s = record { total = unitsOf (s .sum); groups = record { 0 = s .groups }; accounts = record { 0 = s .accounts }; details = record { 0 = s .details }; records = record { 0 = s .records } }
 
 abbrev verdictOf : Outcome totals.Summary → Verdict
 verdictOf (fine s) = Accepted (summaryOf s)
@@ -79,11 +79,11 @@ record Known : Type 0 where
   last : ℕ
 
 abbrev judgedMeant : Judged → Outcome Known
-judgedMeant (judged.Accepted g) = fine (record { summary = summaryMeant (g .summary); limit = g .limit; last = g .last })
+judgedMeant (judged.Accepted g) = fine (record { summary = summaryMeant (g .summary); limit = g .limit; last = g .last .0 })
 judgedMeant (judged.Refused why) = refused (refusalMeant why)
 
 abbrev judgedOf : Outcome Known → Judged
-judgedOf (fine k) = judged.Accepted (record { summary = summaryOf (k .summary); limit = k .limit; last = k .last })
+judgedOf (fine k) = judged.Accepted (record { summary = summaryOf (k .summary); limit = k .limit; last = record { 0 = k .last } })
 judgedOf (refused why) = judged.Refused (refusalFrom why)
 
 same-judged : (v : Judged) → judgedOf (judgedMeant v) ≡ v
@@ -163,7 +163,7 @@ slice-one = one-answer (λ (x : Bytes). x) (λ (x : Bytes). x) (λ x. refl)
 -- part_groups::find_group, find_account, find_detail
 pub part-one : (promised : rules.PartAnswer) (x y : Part) → parts.partMeant x ≡ promised → parts.partMeant y ≡ promised → x ≡ y
 part-one =
-    one-answer parts.partMeant (λ (m : rules.PartAnswer). record { refusal = refusalFrom (m .refusal); start = m .start; length = m .len })
+    one-answer parts.partMeant (λ (m : rules.PartAnswer). record { refusal = refusalFrom (m .refusal); start = record { 0 = m .start }; length = m .len })
     (λ x. refl)
 
 -- bai2_group, bai2_account
@@ -183,8 +183,8 @@ detailOf m =
       refusal = refusalFrom (m .refusal);
       «type_code» = m .type;
       «amount_given» = eqb (isGiven (m .amountGiven)) 1;
-      amount = orZero (m .amountGiven);
-      «text_start» = m .textStart;
+      amount = record { 0 = orZero (m .amountGiven) };
+      «text_start» = record { 0 = m .textStart };
       «text_length» = m .textLength;
     }
 
@@ -203,11 +203,11 @@ same-detail d z =
       refusal = d .refusal;
       «type_code» = d .«type_code»;
       «amount_given» = t;
-      amount = n;
+      amount = record { 0 = n };
       «text_start» = d .«text_start»;
       «text_length» = d .«text_length»;
     })
-    (same-given (d .«amount_given») (d .amount)) (same-amount (d .«amount_given») (d .amount) z)
+    (same-given (d .«amount_given») (d .amount .0)) (same-amount (d .«amount_given») (d .amount .0) z)
 
 -- part_details::detail
 pub detail-one : (promised : rules.DetailAnswer) (x y : DetailAnswer) → details.detailMeant x ≡ promised → details.ZeroWithout x
@@ -251,7 +251,7 @@ same-writer : (w : Writer) → writerOf (writerMeant w) ≡ w
 same-writer w =
     ap (λ (p : Phase). record { phase = p; items = w .items; size = w .size; file = w .file; group = w .group; account = w .account }) (same-phase (w .phase))
 
--- Writer::new
+-- write_state::Writer::new
 pub new-one : (v w : Writer) → writerMeant v ≡ writing.freshWriter → writerMeant w ≡ writing.freshWriter → v ≡ w
 new-one = one-answer writerMeant writerOf same-writer writing.freshWriter
 
@@ -262,7 +262,7 @@ same-written x =
     ap (λ (w : Writer). record { answer = record { refusal = x .answer .refusal; length = x .answer .length; writer = w }; slice = x .slice })
     (same-writer (x .answer .writer))
 
--- Writer::header, group, account, item, detail, end_account, end_group, end_file: each call on each state
+-- write_calls::header, group, account, item, detail, end_account, end_group, end_file: each call on each state
 pub write-one : (w : writing.Writer) (call : writing.Call) (before : Bytes) (x y : Left Written)
     → writtenMeant (x .answer) (x .slice) ≡ writing.write w call before → writtenMeant (y .answer) (y .slice) ≡ writing.write w call before → x ≡ y
 write-one w call before =

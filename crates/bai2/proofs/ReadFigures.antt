@@ -31,7 +31,7 @@ module _ (file : Bytes) (v : Verdict) (promised : verdictMeant v ≡ judge file)
 
   -- the figures of an accepted file; the total is stored as bits
   pub accepted-figures : (s : Summary) (n : ℤ) → v ≡ Accepted s → n ≡ asInteger (sumMeant (s .total))
-      → record { refusal = notRefused; total = toZ w64 (ofZ w64 n); groups = s .groups; accounts = s .accounts; details = s .details; records = s .records .0 } ≡ summaryFigures (judge file)
+      → record { refusal = notRefused; total = toZ w64 (ofZ w64 n); groups = s .groups .0; accounts = s .accounts .0; details = s .details .0; records = s .records .0 } ≡ summaryFigures (judge file)
   unfolding summaryFigures
   accepted-figures s n e t = rw (judged-fine s e, t, difference-kept (s .total .0) (s .total .1) (total-fits s e))
 

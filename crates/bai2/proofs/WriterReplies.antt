@@ -13,14 +13,14 @@ use Rattle.rules.specs.Bytes.{Bytes}
 use Rattle.rules.specs.Writer as rules
 use Rattle.rules.specs.Writer.{Item, Call, write}
 use Rattle.rules.proofs.Tests.{Known, holds, fails, known}
-use Rattle.write_line.specs.DraftMeaning.{amountGiven, countGiven}
+use Rattle.write_line.specs.DraftMeaning.{amountGiven, itemsGiven}
 use Rattle.write_line.specs.declared.MaybeAmount.{MaybeAmount}
-use Rattle.write_line.specs.declared.MaybeCount.{MaybeCount}
+use Rattle.write_line.specs.declared.MaybeItems.{MaybeItems}
 use Rattle.write_state.specs.WriterMeaning.{writerMeant, writtenMeant}
 use Rattle.write_state.specs.declared.Writer.{Writer}
 use Rattle.write_state.specs.declared.Written.{Written}
 use Rattle.write_calls.specs.ItemMeaning.{itemMeant, itemGiven}
-use Rattle.c_writer.specs.WriterFigures.{stateOf, numbersAfter, answerOf, replied, replyTo, orNone, amountAsked, countAsked, itemOf, itemAsked}
+use Rattle.c_writer.specs.WriterFigures.{stateOf, numbersAfter, answerOf, replied, replyTo, orNone, amountAsked, itemsAsked, itemOf, itemAsked}
 use Rattle.c_writer.specs.declared.Bai2Writer.{Bai2Writer}
 use Rattle.c_writer.specs.declared.Bai2Written.{Bai2Written}
 
@@ -38,7 +38,7 @@ written-as s before asked call r h e = h ∙ ap (λ (x : Call). write s x before
 pub amount-is : (given : ℕ) (n : ℤ) (a : MaybeAmount) → SFits w64 n → amountGiven a ≡ amountAsked given (toZ w64 (ofZ w64 n)) → amountGiven a ≡ amountAsked given n
 amount-is given n a fits e = e ∙ ap (λ (z : ℤ). amountAsked given z) (toZ-ofZ w64 n fits)
 
-module _ (type : Bytes) (g h count : ℕ) (amount : ℤ) (a : MaybeAmount) (n : MaybeCount) (e : amountGiven a ≡ amountAsked g amount) (f : countGiven n ≡ countAsked h count) where
+module _ (type : Bytes) (g h count : ℕ) (amount : ℤ) (a : MaybeAmount) (n : MaybeItems) (e : amountGiven a ≡ amountAsked g amount) (f : itemsGiven n ≡ itemsAsked h count) where
   -- an item
   pub item-is : itemMeant type a n ≡ itemOf type g amount h count
   item-is = rw (e, f)

@@ -20,10 +20,11 @@ fn figures_of(part: Part) -> Bai2Part
 {
     let refusal = part.refusal;
     let place = refusal.place;
+    let start = part.start;
     Bai2Part {
         number: refusal.number,
         place: place.0 as u64,
-        start: part.start as u64,
+        start: start.0 as u64,
         length: part.length as u64,
     }
 }
@@ -64,13 +65,15 @@ pub extern "C" fn bai2_detail_of(file: &[u8], group: u64, account: u64, detail: 
     let d = part_details::detail(file, group, account, detail);
     let refusal = d.refusal;
     let place = refusal.place;
+    let amount = d.amount;
+    let text_start = d.text_start;
     Bai2Detail {
         number: refusal.number,
         place: place.0 as u64,
         type_code: d.type_code,
         amount_given: c_writer::flag_of(d.amount_given),
-        amount: d.amount,
-        text_start: d.text_start as u64,
+        amount: amount.0,
+        text_start: text_start.0 as u64,
         text_length: d.text_length as u64,
     }
 }

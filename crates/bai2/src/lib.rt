@@ -47,14 +47,17 @@ pub extern "C" fn bai2_read(file: &[u8]) -> Bai2Summary
     match read_file::read(file) {
         Verdict::Accepted(s) => {
             let total = s.total;
+            let groups = s.groups;
+            let accounts = s.accounts;
+            let details = s.details;
             let records = s.records;
             return Bai2Summary {
                 number: 0,
                 place: 0,
                 total: total_of(total),
-                groups: s.groups,
-                accounts: s.accounts,
-                details: s.details,
+                groups: groups.0,
+                accounts: accounts.0,
+                details: details.0,
                 records: records.0,
             };
         }

@@ -80,7 +80,7 @@ pub extern "C" fn bai2_write_account(
 {
     let w = c_writer::state_of(writer);
     let a = c_writer::amount_asked(amount_given, amount);
-    let n = c_writer::count_asked(count_given, count);
+    let n = c_writer::items_asked(count_given, count);
     let r = write_calls::account(w, account, currency, item_given != 0, type_code, a, n, out);
     c_writer::answered(writer, r)
 }
@@ -100,7 +100,7 @@ pub extern "C" fn bai2_write_item(
 {
     let w = c_writer::state_of(writer);
     let a = c_writer::amount_asked(amount_given, amount);
-    let n = c_writer::count_asked(count_given, count);
+    let n = c_writer::items_asked(count_given, count);
     let r = write_calls::item(w, type_code, a, n, out);
     c_writer::answered(writer, r)
 }

@@ -11,7 +11,7 @@ valueOf bs = cond (digits 0 18 bs) (number bs) 0
 
 -- an amount as a signed number
 abbrev pub amountMeant : Amount → Signed
-amountMeant a = record { negative = a .negative; magnitude = a .magnitude }
+amountMeant a = record { negative = a .negative; magnitude = a .magnitude .0 }
 
 -- a field's sign, and the number after it. Stands for `signed` (rules/specs/Numbers.antt); joined by `amount-signed` and `amount-empty` (proofs/SignLaws.antt)
 unfoldable pub amountIn : Bytes → Signed

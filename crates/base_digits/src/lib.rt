@@ -1,4 +1,5 @@
 // Numbers in fields, read: digits, signs and amounts.
+use base_quantities::Magnitude;
 ghost use mathlib.Core.Path.{_≡_};
 ghost use Prim.Native.Nat.{_≤_};
 ghost use Rattle.rules.specs.Bytes.{all, between, minus, startsWith};
@@ -120,15 +121,15 @@ pub fn is_unsigned(f: &[u8]) -> bool
 // A sign and a magnitude.
 pub struct Amount {
     pub negative: bool,
-    pub magnitude: u64,
+    pub magnitude: Magnitude,
 }
 
 // The signed number in a field; its magnitude is 0 where there is none.
 pub fn amount_in(f: &[u8]) -> Amount
-    ensures { λ r. ⌜ (amountMeant r ≡ amountIn (now (f .entry))) × (r .magnitude ≤ most) ⌝ }
+    ensures { λ r. ⌜ (amountMeant r ≡ amountIn (now (f .entry))) × (r .magnitude .0 ≤ most) ⌝ }
 {
     Amount {
         negative: is_negative(f),
-        magnitude: value(without_sign(f)),
+        magnitude: Magnitude(value(without_sign(f))),
     }
 }

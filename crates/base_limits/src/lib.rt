@@ -11,3 +11,6 @@ pub const LONGEST_NAME: usize = 76;
 
 // The largest sum of magnitudes, in minor units.
 pub const MOST: u64 = 999_999_999_999_999_999;
+
+// The most bytes that the program `summary` judges.
+pub const MOST_INPUT: usize = 65_536;

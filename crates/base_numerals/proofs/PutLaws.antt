@@ -7,8 +7,8 @@ use mathlib.Core.Logic.{⊎-elim}
 use mathlib.Core.List.{[], _∷_, _++_, append-assoc, append-nil}
 use mathlib.Core.Bool.{Bool, true, false, cond}
 use borrow.Rule.Slice.PartMut.{midOf, putMid, post-is}
-use lib.ListN.{length, take, drop, set, length-drop, length-set}
-use lib.Seq.{drop-cons, drop-set-lt, getD-set-same, lt-length-set, take-all, drop-length}
+use lib.ListN.{length, take, drop, set, length-append, length-drop, length-set}
+use lib.Seq.{drop-cons, drop-set-lt, getD-set-same, lt-length-set, take-all, drop-length, take-append-seam}
 use lib.Dec.{leb}
 use borrow.Author.Tests.{le-leb, lt-leb}
 use Rattle.rules.specs.Bytes.{Bytes}
@@ -42,6 +42,12 @@ module _ {bs before : Bytes} {r : ℕ} {after : Bytes} (p : Put bs before r afte
       go : (b : Bool) → r ≡ cond b (length bs) 0 → r ≤ length bs
       go true e = omega arith
       go false e = omega arith
+
+-- where the bytes fit, they are the first of the slice, which is as long as it was
+pub put-stands : {bs before : Bytes} {r : ℕ} {after : Bytes} → Put bs before r after → length bs ≤ length before
+    → (take r after ≡ bs) × (r ≤ length before) × (length after ≡ length before)
+put-stands {bs} {before} p h =
+    rw (put-count p h, put-bytes p h) (take-append-seam bs (drop (length bs) before), h, length-append bs (drop (length bs) before) ∙ rw length-drop (omega arith))
 
 -- one answer, and one content of the slice
 pub put-unique : {bs before : Bytes} {r r′ : ℕ} {after after′ : Bytes} → Put bs before r after → Put bs before r′ after′ → (r ≡ r′) × (after ≡ after′)

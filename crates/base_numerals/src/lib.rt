@@ -1,6 +1,7 @@
 // Numbers written: their digits without leading zeros, and totals with a minus in front where one is due.
 use base_quantities::Units;
 ghost use mathlib.Core.Path.{_≡_};
+ghost use mathlib.Core.List.{_∷_};
 ghost use Prim.Native.Nat.{_≤_};
 ghost use lib.ListN.{length};
 ghost use Rattle.rules.specs.Numbers.{decimal, totalBytes};
@@ -39,6 +40,18 @@ pub fn put_digits(out: &mut [u8], n: u64) -> usize
     k
 }
 
+// A byte and the digits of n at the front of out: how many bytes; or 0, and nothing changed, where they don't fit.
+pub fn put_digits_after(out: &mut [u8], first: u8, n: u64) -> usize
+    ensures { λ r. ⌜ Put (first ∷ decimal n) (now (out .entry)) r (now (out .exit)) ⌝ }
+{
+    let k = digit_count(n);
+    if out.len() < k + 1 {
+        return 0;
+    }
+    out[0] = first;
+    put_digits(&mut out[1..], n) + 1
+}
+
 // A sum as one number at the front of out, its minus first: how many bytes; or 0, and nothing changed, where they don't fit.
 pub fn put_total(out: &mut [u8], total: Units) -> usize
     ensures { λ r. ⌜ Put (totalBytes (sumMeant total)) (now (out .entry)) r (now (out .exit)) ⌝ }
@@ -46,13 +59,7 @@ pub fn put_total(out: &mut [u8], total: Units) -> usize
     let pluses = total.0;
     let minuses = total.1;
     if pluses < minuses {
-        let n = minuses - pluses;
-        let k = digit_count(n);
-        if out.len() < k + 1 {
-            return 0;
-        }
-        out[0] = b'-';
-        return put_digits(&mut out[1..], n) + 1;
+        return put_digits_after(out, b'-', minuses - pluses);
     }
     put_digits(out, pluses - minuses)
 }

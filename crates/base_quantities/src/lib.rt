@@ -1,4 +1,4 @@
-// Three quantities that must not mix: sums of minor units, counts of records, and places of bytes.
+// Quantities that must not mix: minor units, counts of groups, accounts and details, counts of records, and places of bytes.
 use base_limits::MOST;
 ghost use mathlib.Core.Path.{_≡_};
 ghost use Prim.Native.Nat.{_+_, min};
@@ -17,6 +17,12 @@ pub enum UnitsSum {
     Beyond,
 }
 
+// Minor units without a sign.
+pub struct Magnitude(pub u64);
+
+// How many groups, accounts or details.
+pub struct Count(pub u64);
+
 // How many records.
 pub struct Records(pub u64);
 
@@ -32,13 +38,13 @@ impl Units {
     }
 
     // A magnitude with its sign, as a sum: a debit is a plus like a credit, and only a minus sign counts as a minus.
-    pub fn of(negative: bool, magnitude: u64) -> Units
-        ensures { λ r. ⌜ sumMeant r ≡ asSum (record { negative = negative; magnitude = magnitude }) ⌝ }
+    pub fn of(negative: bool, magnitude: Magnitude) -> Units
+        ensures { λ r. ⌜ sumMeant r ≡ asSum (record { negative = negative; magnitude = magnitude .0 }) ⌝ }
     {
         if negative {
-            return Units(0, magnitude);
+            return Units(0, magnitude.0);
         }
-        Units(magnitude, 0)
+        Units(magnitude.0, 0)
     }
 
     // Both sums in one, pluses to pluses and minuses to minuses; a side past the largest number of 64 bits wraps.

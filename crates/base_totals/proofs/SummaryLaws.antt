@@ -17,8 +17,8 @@ small-sum a b x y =
     rw (
       not-wrapped (a .total .0 + b .total .0) (omega (arith, x .pluses, y .pluses)),
       not-wrapped (a .total .1 + b .total .1) (omega (arith, x .minuses, y .minuses)),
-      not-wrapped (a .groups + b .groups) (omega (arith, x .groups, y .groups)),
-      not-wrapped (a .accounts + b .accounts) (omega (arith, x .accounts, y .accounts)),
-      not-wrapped (a .details + b .details) (omega (arith, x .details, y .details)),
+      not-wrapped (a .groups .0 + b .groups .0) (omega (arith, x .groups, y .groups)),
+      not-wrapped (a .accounts .0 + b .accounts .0) (omega (arith, x .accounts, y .accounts)),
+      not-wrapped (a .details .0 + b .details .0) (omega (arith, x .details, y .details)),
       not-wrapped (a .records .0 + b .records .0) (omega (arith, x .records, y .records)),
     )

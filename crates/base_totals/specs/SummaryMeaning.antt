@@ -7,11 +7,11 @@ use Rattle.base_totals.specs.declared.Summary.{Summary}
 
 -- the summary of no records
 abbrev pub nothingYet : Summary
-nothingYet = record { total = record { 0 = 0; 1 = 0 }; groups = 0; accounts = 0; details = 0; records = record { 0 = 0 } }
+nothingYet = record { total = record { 0 = 0; 1 = 0 }; groups = record { 0 = 0 }; accounts = record { 0 = 0 }; details = record { 0 = 0 }; records = record { 0 = 0 } }
 
 abbrev pub summaryMeant : Summary → totals.Summary
 summaryMeant s =
-    record { sum = sumMeant (s .total); groups = s .groups; accounts = s .accounts; details = s .details; records = s .records .0 }
+    record { sum = sumMeant (s .total); groups = s .groups .0; accounts = s .accounts .0; details = s .details .0; records = s .records .0 }
 
 -- its numbers as those of 64 bits; of small summaries they are the numbers themselves: `small-sum` (proofs/SummaryLaws.antt)
 abbrev pub wrappedSummary : totals.Summary → totals.Summary
@@ -28,7 +28,7 @@ wrappedSummary s =
 pub record Small (s : Summary) : Type 0 where
   pub pluses : s .total .0 ≤ most
   pub minuses : s .total .1 ≤ most
-  pub groups : s .groups ≤ most
-  pub accounts : s .accounts ≤ most
-  pub details : s .details ≤ most
+  pub groups : s .groups .0 ≤ most
+  pub accounts : s .accounts .0 ≤ most
+  pub details : s .details .0 ≤ most
   pub records : s .records .0 ≤ most

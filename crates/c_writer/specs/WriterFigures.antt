@@ -149,12 +149,12 @@ signedOf (negsuc n) = record { negative = true; magnitude = n + 1 }
 abbrev pub amountAsked : ℕ → ℤ → Option Signed
 amountAsked given n = orNone given (signedOf n)
 
-abbrev pub countAsked : ℕ → ℕ → Option ℕ
-countAsked given n = orNone given n
+abbrev pub itemsAsked : ℕ → ℕ → Option ℕ
+itemsAsked given n = orNone given n
 
 abbrev pub itemOf : Bytes → ℕ → ℤ → ℕ → ℕ → Item
-itemOf type amountGiven amount countGiven count =
-    record { type = type; amount = amountAsked amountGiven amount; count = countAsked countGiven count }
+itemOf type amountGiven amount itemsGiven count =
+    record { type = type; amount = amountAsked amountGiven amount; itemCount = itemsAsked itemsGiven count }
 
 abbrev pub itemAsked : ℕ → Item → Option Item
 itemAsked given i = orNone given i

@@ -1,22 +1,25 @@
 // The writer's state and its answers as plain numbers, which C hands from call to call; amounts and counts that C gives or leaves out.
 use base_digits::Amount;
 use base_limits::LONGEST_FILE;
+use base_quantities::Count;
+use base_quantities::Magnitude;
 use base_quantities::Place;
 use base_quantities::Records;
 use base_quantities::Units;
 use base_totals::Summary;
+use write_line::Items;
 use write_line::MaybeAmount;
-use write_line::MaybeCount;
+use write_line::MaybeItems;
 use write_state::Phase;
 use write_state::Writer;
 use write_state::Written;
 ghost use mathlib.Core.Path.{_≡_};
 ghost use mathlib.Core.List.{[]};
 ghost use Rattle.base_digits.specs.NumbersRead.{amountMeant};
-ghost use Rattle.write_line.specs.DraftMeaning.{amountGiven, countGiven};
+ghost use Rattle.write_line.specs.DraftMeaning.{amountGiven, itemsGiven};
 ghost use Rattle.base_totals.specs.SummaryMeaning.{summaryMeant};
 ghost use Rattle.write_state.specs.WriterMeaning.{phaseMeant, writerMeant, writtenMeant};
-ghost use Rattle.c_writer.specs.WriterFigures.{summaryOf, figuresOf, phaseOf, phaseNumber, flag, sizeOf, stateOf, numbersOf, numbersAfter, answerOf, signedOf, amountAsked, countAsked};
+ghost use Rattle.c_writer.specs.WriterFigures.{summaryOf, figuresOf, phaseOf, phaseNumber, flag, sizeOf, stateOf, numbersOf, numbersAfter, answerOf, signedOf, amountAsked, itemsAsked};
 
 // A summary in figures.
 #[repr(C)]
@@ -57,9 +60,9 @@ fn summary_of(f: Figures) -> Summary
 {
     Summary {
         total: Units(f.pluses, f.minuses),
-        groups: f.groups,
-        accounts: f.accounts,
-        details: f.details,
+        groups: Count(f.groups),
+        accounts: Count(f.accounts),
+        details: Count(f.details),
         records: Records(f.lines),
     }
 }
@@ -69,13 +72,16 @@ fn figures_of(s: Summary) -> Figures
     ensures { λ r. ⌜ r ≡ figuresOf (summaryMeant s) ⌝ }
 {
     let total = s.total;
+    let groups = s.groups;
+    let accounts = s.accounts;
+    let details = s.details;
     let records = s.records;
     Figures {
         pluses: total.0,
         minuses: total.1,
-        groups: s.groups,
-        accounts: s.accounts,
-        details: s.details,
+        groups: groups.0,
+        accounts: accounts.0,
+        details: details.0,
         lines: records.0,
     }
 }
@@ -118,17 +124,17 @@ pub fn flag_of(holds: bool) -> u64
     0
 }
 
-// The bytes so far; more than any file has where phase or items have no meaning.
-fn size_of(w: Bai2Writer) -> usize
-    ensures { λ r. ⌜ r ≡ sizeOf w ⌝ }
+// The place after the bytes so far; past any file where phase or items have no meaning.
+fn size_of(w: Bai2Writer) -> Place
+    ensures { λ r. ⌜ r .0 ≡ sizeOf w ⌝ }
 {
     if 5 < w.phase {
-        return LONGEST_FILE + 1;
+        return Place(LONGEST_FILE + 1);
     }
     if 1 < w.items {
-        return LONGEST_FILE + 1;
+        return Place(LONGEST_FILE + 1);
     }
-    w.size as usize
+    Place(w.size as usize)
 }
 
 // The state that the numbers say.
@@ -138,7 +144,7 @@ pub fn state_of(w: Bai2Writer) -> Writer
     Writer {
         phase: phase_of(w.phase),
         items: w.items == 1,
-        size: Place(size_of(w)),
+        size: size_of(w),
         file: summary_of(w.file),
         group: summary_of(w.group),
         account: summary_of(w.account),
@@ -195,12 +201,12 @@ fn amount_of(n: i64) -> Amount
     if n < 0 {
         return Amount {
             negative: true,
-            magnitude: (-1 - n) as u64 + 1,
+            magnitude: Magnitude((-1 - n) as u64 + 1),
         };
     }
     Amount {
         negative: false,
-        magnitude: n as u64,
+        magnitude: Magnitude(n as u64),
     }
 }
 
@@ -215,11 +221,11 @@ pub fn amount_asked(given: u64, n: i64) -> MaybeAmount
 }
 
 // The number of items, or none where none is given.
-pub fn count_asked(given: u64, n: u64) -> MaybeCount
-    ensures { λ r. ⌜ countGiven r ≡ countAsked given n ⌝ }
+pub fn items_asked(given: u64, n: u64) -> MaybeItems
+    ensures { λ r. ⌜ itemsGiven r ≡ itemsAsked given n ⌝ }
 {
     if given == 0 {
-        return MaybeCount::NoCount;
+        return MaybeItems::NoItems;
     }
-    MaybeCount::Given(n)
+    MaybeItems::Given(Items(n))
 }

@@ -4,7 +4,6 @@ use native.Mathlib.Omega.{arith}
 use mathlib.Core.Path.{_≡_, refl, sym, ap, _∙_}
 use mathlib.Core.Bool.{Bool, true, false, cond}
 use mathlib.Core.List.{List, [], _∷_, _++_}
-use mathlib.Core.Logic.{_⊎_, inl, inr}
 use lib.ListN.{take, drop, getD}
 use borrow.Author.Tests.{eqb-true}
 use Rattle.rules.specs.Bytes.{Bytes, isEmpty, trimmed, all}
@@ -62,8 +61,7 @@ use Rattle.rules.proofs.Tests.{Known, holds, fails, known}
 use Rattle.base_digits.specs.NumbersRead.{valueOf, amountIn}
 use Rattle.base_digits.proofs.ReadingLaws.{value-is}
 use Rattle.base_digits.proofs.SignLaws.{amount-empty}
-use Rattle.read_wanted.specs.Wants.{forNothing, samePurpose, purpose}
-use Rattle.read_kept.proofs.EachKind.{told}
+use Rattle.read_kept.proofs.EachKind.{Signs, reads-amount, reads-total}
 use Rattle.find_field.proofs.SearchAgrees.{found-is}
 use Rattle.find_field.specs.FieldSearch.{Sighted, seen, onto, lost, onward, sight, isOpen, seekCells, Found, orAfter, seekLines, inDetail}
 
@@ -185,17 +183,10 @@ records-read ks r = found-holds records ValueRead refl each-records r 0 ks
 abbrev AmountRead : Bytes → Type 0
 AmountRead bs = amountIn bs ≡ signed bs
 
--- as a field that is kept
-each-kept : (k : Kind) → samePurpose forNothing (purpose k) ≡ false → (bs : Bytes) (new : List Kind) → judged k bs ≡ good new → AmountRead bs
-each-kept k kept bs new e = go (told k .5)
-  where
-    go : (purpose k ≡ forNothing) ⊎ ((cs : Bytes) (more : List Kind) → judged k cs ≡ good more → AmountRead cs) → AmountRead bs
-    go (inl n) = let z : samePurpose forNothing forNothing ≡ false = rw n at kept in cc
-    go (inr reads) = reads bs new e
-
-kept-read : (k : Kind) → samePurpose forNothing (purpose k) ≡ false → (ks : List Kind) (r : Record) → AmountRead (seekLines k 0 ks r .bytes)
+-- of a kind that is read so
+sign-read : (k : Kind) → Signs k → (ks : List Kind) (r : Record) → AmountRead (seekLines k 0 ks r .bytes)
 unfolding isEmpty
-kept-read k kept ks r = found-holds k AmountRead (amount-empty [] refl) (each-kept k kept) r 0 ks
+sign-read k reads ks r = found-holds k AmountRead (amount-empty [] refl) reads r 0 ks
 
 -- ---- the field's bytes as the code lends them
 
@@ -220,9 +211,9 @@ type-in rec bs e = ap valueOf e ∙ type-read (fieldsOf detail) (linesOf rec)
 
 pub amount-in : (rec bs : Bytes) → bs ≡ seekLines amount 0 (fieldsOf detail) (linesOf rec) .bytes
     → (isEmpty bs ≡ isEmpty (inDetail amount rec .bytes)) × (valueOf (withoutSign bs) ≡ number (withoutSign (inDetail amount rec .bytes)))
-unfolding inDetail amountIn signed purpose
+unfolding inDetail amountIn signed
 amount-in rec bs e =
-    (ap isEmpty e, ap (λ (x : Bytes). valueOf (withoutSign x)) e ∙ ap (λ (x : Signed). x .magnitude) (kept-read amount refl (fieldsOf detail) (linesOf rec)))
+    (ap isEmpty e, ap (λ (x : Bytes). valueOf (withoutSign x)) e ∙ ap (λ (x : Signed). x .magnitude) (sign-read amount reads-amount (fieldsOf detail) (linesOf rec)))
 
 -- ---- in a record that is read as one of code c
 
@@ -234,8 +225,7 @@ module _ (c : Code) (rec : Bytes) (fs : List Field) (walked : walkRecord c (line
 -- ---- a trailer's total and number of records, of whatever bytes
 
 pub total-found : (ks : List Kind) (r : Record) → amountIn (seekLines total 0 ks r .bytes) ≡ signed (seekLines total 0 ks r .bytes)
-unfolding purpose
-total-found ks r = kept-read total refl ks r
+total-found ks r = sign-read total reads-total ks r
 
 pub records-found : (ks : List Kind) (r : Record) → valueOf (seekLines records 0 ks r .bytes) ≡ number (seekLines records 0 ks r .bytes)
 records-found ks r = records-read ks r

@@ -26,12 +26,12 @@ kindMeant sought.Records = records
 
 -- what was seen in the bytes of a line from p on
 abbrev pub seenMeant : ℕ → Bytes → Seen → Sighted
-seenMeant p xs (seen.At a n) = seen (p + a) (take n (drop a xs))
+seenMeant p xs (seen.At a n) = seen (p + a .0) (take n (drop (a .0) xs))
 seenMeant p xs (seen.Next w) = onto (wantedOf w)
 seenMeant p xs seen.Lost = lost
 
 abbrev pub SeenWithin : ℕ → Seen → Type 0
-SeenWithin size (seen.At a n) = a + n ≤ size
+SeenWithin size (seen.At a n) = a .0 + n ≤ size
 SeenWithin size (seen.Next w) = Unit {0}
 SeenWithin size seen.Lost = Unit {0}
 
@@ -42,9 +42,9 @@ pub record Sights (xs : Bytes) (first : Want) (s : Sought) (r : Seen) : Type 0 w
 
 -- the field in a record
 abbrev pub spotMeant : Bytes → Spot → Found
-spotMeant rec r = record { place = r .start; bytes = take (r .length) (drop (r .start) rec) }
+spotMeant rec r = record { place = r .start .0; bytes = take (r .length) (drop (r .start .0) rec) }
 
 -- it is the one that `seekLines` gives
 pub record Spots (rec : Bytes) (first : Want) (s : Sought) (r : Spot) : Type 0 where
   pub answer : spotMeant rec r ≡ seekLines (kindMeant s) 0 (wantedOf first) (linesOf rec)
-  pub within : r .start + r .length ≤ length rec
+  pub within : r .start .0 + r .length ≤ length rec

@@ -1,5 +1,7 @@
 // The first field of a kind in a record: where it stands, and its length; and what a detail's type and amount say.
 use base_codes::Code;
+use base_quantities::Magnitude;
+use base_quantities::Place;
 use read_field_ends::Extent;
 use read_wanted::Taken;
 use read_wanted::want;
@@ -27,19 +29,19 @@ pub enum Sought {
 
 // Where a field starts, and its length; 0 and 0 where there is none.
 pub struct Spot {
-    pub start: usize,
+    pub start: Place,
     pub length: usize,
 }
 
 // A detail's amount: whether one is given, and which; 0 where none is.
 pub struct Given {
     pub given: bool,
-    pub amount: u64,
+    pub amount: Magnitude,
 }
 
 // In a line: the field, by its start and length; or what is wanted after the line; or the line is not as it was wanted.
 enum Seen {
-    At(usize, usize),
+    At(Place, usize),
     Next(Want),
     Lost,
 }
@@ -94,7 +96,7 @@ fn seek_line(rest: &[u8], first: Want, sought: Sought) -> Seen
             return Seen::Lost;
         };
         if is_sought(want, sought) {
-            return Seen::At(a, n);
+            return Seen::At(Place(a), n);
         }
         if text {
             return Seen::Next(next);
@@ -119,19 +121,22 @@ pub fn seek(rec: &[u8], first: Want, sought: Sought) -> Spot
         let a = at + 3;
         if e < a {
             return Spot {
-                start: 0,
+                start: Place(0),
                 length: 0,
             };
         }
         match seek_line(&rec[a..e], want, sought) {
             Seen::At(i, n) => {
-                let start = a + i;
-                return Spot { start, length: n };
+                let start = a + i.0;
+                return Spot {
+                    start: Place(start),
+                    length: n,
+                };
             }
             Seen::Next(w) => want = w,
             Seen::Lost => {
                 return Spot {
-                    start: 0,
+                    start: Place(0),
                     length: 0,
                 };
             }
@@ -139,7 +144,7 @@ pub fn seek(rec: &[u8], first: Want, sought: Sought) -> Spot
         at = next;
     }
     Spot {
-        start: 0,
+        start: Place(0),
         length: 0,
     }
 }
@@ -149,7 +154,8 @@ pub fn field(rec: &[u8], code: Code, sought: Sought) -> &[u8]
     ensures { λ r. ⌜ now r ≡ seekLines (kindMeant sought) 0 (fieldsOf (codeMeant code)) (linesOf (now (rec .entry))) .bytes ⌝ }
 {
     let spot = seek(rec, want::first_want(code), sought);
-    let from = spot.start;
+    let start = spot.start;
+    let from = start.0;
     let to = from + spot.length;
     &rec[from..to]
 }
@@ -163,11 +169,11 @@ pub fn type_of(rec: &[u8]) -> u64
 
 // A detail's amount.
 pub fn amount_of(rec: &[u8]) -> Given
-    ensures { λ r. ⌜ (r .given ≡ not (isEmpty (inDetail amount (now (rec .entry)) .bytes))) × (r .amount ≡ number (withoutSign (inDetail amount (now (rec .entry)) .bytes))) ⌝ }
+    ensures { λ r. ⌜ (r .given ≡ not (isEmpty (inDetail amount (now (rec .entry)) .bytes))) × (r .amount .0 ≡ number (withoutSign (inDetail amount (now (rec .entry)) .bytes))) ⌝ }
 {
     let f = field(rec, Code::Detail, Sought::Amount);
     Given {
         given: !read_values::is_empty(f),
-        amount: base_digits::value(base_digits::without_sign(f)),
+        amount: Magnitude(base_digits::value(base_digits::without_sign(f))),
     }
 }

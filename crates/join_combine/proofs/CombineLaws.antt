@@ -84,17 +84,17 @@ module _ (file : Bytes) (g : GoodFile) (is : IsGood g file) where
   pub short : length file ≤ longestFile
   short = accepted file (summaryMeant (g .summary)) (is .accepts) .not-too-long
 
-  pub last-inside : g .last ≤ length file
+  pub last-inside : g .last .0 ≤ length file
   last-inside = rw (is .last) (records-fit (headerIn file ++ concat (groupsIn file)) (parts .trailer ∷ []) file reads)
 
-  last-reads : linesOf (drop (g .last) file) ≡ parts .trailer
+  last-reads : linesOf (drop (g .last .0) file) ≡ parts .trailer
   unfolding concat
   last-reads =
-      lines-are (drop (g .last) file) (parts .trailer ∷ [])
+      lines-are (drop (g .last .0) file) (parts .trailer ∷ [])
       (ap (λ (n : ℕ). fileRecords (drop n file)) (is .last) ∙ records-drop (headerIn file ++ concat (groupsIn file)) (parts .trailer ∷ []) file reads)
       ∙ append-nil (parts .trailer)
 
-  last-place : g .last ≡ length (headerLines file) + length (concat (groupParts file))
+  last-place : g .last .0 ≡ length (headerLines file) + length (concat (groupParts file))
   unfolding headerLines groupParts
   last-place =
       is .last
@@ -116,25 +116,25 @@ module _ (file : Bytes) (g : GoodFile) (is : IsGood g file) where
     header-counted : length (linesOf (take h file)) ≡ headerCount file
     header-counted = ap length (opens .header-reads)
 
-    pub header-first : h ≤ g .last
+    pub header-first : h ≤ g .last .0
     header-first = omega (arith, last-place, header-size)
 
-    groups-size : g .last - h ≡ length (concat (groupParts file))
+    groups-size : g .last .0 - h ≡ length (concat (groupParts file))
     groups-size = omega (arith, last-place, header-size)
 
     -- the groups between them
-    groups-read : linesOf (take (g .last - h) (drop h file)) ≡ concat (concat (groupsIn file))
+    groups-read : linesOf (take (g .last .0 - h) (drop h file)) ≡ concat (concat (groupsIn file))
     unfolding groupParts
     groups-read =
         let gs = concat (groupsIn file) in
-        let size : g .last - h ≡ sizeOfAll gs = groups-size ∙ sym (size-length gs ∙ ap length (bytes-of-parts (groupsIn file))) in
-        let bytes : take (g .last - h) (drop h file) ≡ recordBytes gs = rw size (records-take gs (opens .decomposition .trailer ∷ []) (drop h file) (opens .after)) in
+        let size : g .last .0 - h ≡ sizeOfAll gs = groups-size ∙ sym (size-length gs ∙ ap length (bytes-of-parts (groupsIn file))) in
+        let bytes : take (g .last .0 - h) (drop h file) ≡ recordBytes gs = rw size (records-take gs (opens .decomposition .trailer ∷ []) (drop h file) (opens .after)) in
         ap linesOf bytes ∙ lines-are (recordBytes gs) gs (kept-alone gs (good-kept (groupsIn file) (parts .groups)))
 
-    pub groups-within : T (linesWithin (g .limit) (linesOf (take (g .last - h) (drop h file))))
+    pub groups-within : T (linesWithin (g .limit) (linesOf (take (g .last .0 - h) (drop h file))))
     groups-within = rw (is .limit, groups-read) (parts .within)
 
-    pub same-lines : (limit : ℕ) → linesWithin limit (linesOf (take (g .last - h) (drop h file))) ≡ linesWithin limit (concat (concat (groupsIn file)))
+    pub same-lines : (limit : ℕ) → linesWithin limit (linesOf (take (g .last .0 - h) (drop h file))) ≡ linesWithin limit (concat (concat (groupsIn file)))
     same-lines limit = ap (linesWithin limit) groups-read
 
 -- ---- two accepted files
@@ -146,9 +146,9 @@ same-parts a b d e f g = rw (d, e, f, g)
 module _ (a b : Bytes) (x y : GoodFile) (p : IsGood x a) (q : IsGood y b) (h : ℕ) (e : h ≡ recordSize (firstRecord (linesOf b))) where
   -- the 99, by the numbers that were counted: n is without the records of A's 99 and of B's 01 and 99
   module _ (total : Sum) (n : ℕ) (adds : total ≡ summaryMeant (x .summary) .sum ⊕ summaryMeant (y .summary) .sum)
-      (left : n ≡ ((x .summary .records .0 + y .summary .records .0) - (length (linesOf (drop (x .last) a)) + length (linesOf (take h b)) + length (linesOf (drop (y .last) b)))) + 1) where
+      (left : n ≡ ((x .summary .records .0 + y .summary .records .0) - (length (linesOf (drop (x .last .0) a)) + length (linesOf (take h b)) + length (linesOf (drop (y .last .0) b)))) + 1) where
     abbrev pub fresh99 : Bytes
-    fresh99 = lastLine total (x .summary .groups + y .summary .groups) n
+    fresh99 = lastLine total (x .summary .groups .0 + y .summary .groups .0) n
 
     abbrev numbers : Summary
     numbers = freshNumbers (summaryMeant (x .summary)) (summaryMeant (y .summary)) (length (parts a x p .trailer)) (headerCount b + length (parts b y q .trailer))
@@ -159,19 +159,19 @@ module _ (a b : Bytes) (x y : GoodFile) (p : IsGood x a) (q : IsGood y b) (h : �
     last-is : fresh99 ≡ freshTrailer numbers
     last-is = rw (adds, counted) (is-fresh numbers)
 
-    pub result-is : take (x .last) a ++ (take (y .last - h) (drop h b) ++ fresh99) ≡ combinedResult a b
+    pub result-is : take (x .last .0) a ++ (take (y .last .0 - h) (drop h b) ++ fresh99) ≡ combinedResult a b
     unfolding combinedResult
     result-is =
         same-parts a b (last-place a x p) (sym (header-size b y q h e)) (groups-size b y q h e) last-is
         ∙ sym (combined-by-slices a b (summaryMeant (x .summary)) (summaryMeant (y .summary)) (p .accepts) (q .accepts) (parts a x p) (parts b y q))
 
-  pub result-size : (last : Bytes) → length (take (x .last) a ++ (take (y .last - h) (drop h b) ++ last)) ≡ (x .last + (y .last - h)) + length last
+  pub result-size : (last : Bytes) → length (take (x .last .0) a ++ (take (y .last .0 - h) (drop h b) ++ last)) ≡ (x .last .0 + (y .last .0 - h)) + length last
   result-size last =
-      let size : length (take (y .last - h) (drop h b)) ≡ y .last - h = length-take-le (y .last - h) (drop h b) (rw length-drop (omega (arith, last-inside b y q))) in
+      let size : length (take (y .last .0 - h) (drop h b)) ≡ y .last .0 - h = length-take-le (y .last .0 - h) (drop h b) (rw length-drop (omega (arith, last-inside b y q))) in
       omega (
         arith,
-        length-append (take (x .last) a) (take (y .last - h) (drop h b) ++ last),
-        length-append (take (y .last - h) (drop h b)) last,
-        length-take-le (x .last) a (last-inside a x p),
+        length-append (take (x .last .0) a) (take (y .last .0 - h) (drop h b) ++ last),
+        length-append (take (y .last .0 - h) (drop h b)) last,
+        length-take-le (x .last .0) a (last-inside a x p),
         size,
       )

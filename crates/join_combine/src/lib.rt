@@ -1,5 +1,6 @@
 // Two files combined: A's header and groups, then B's groups, then a fresh 99; measured first, then written.
 use base_limits::LONGEST_FILE;
+use base_quantities::Count;
 use base_quantities::Place;
 use base_quantities::Records;
 use base_quantities::Units;
@@ -74,6 +75,14 @@ fn less(all: Records, some: Records) -> Records
     Records(a - b)
 }
 
+// The groups of two files together.
+fn both(a: Count, b: Count) -> Count
+    requires { ⌜ (a .0 ≤ longestFile) × (b .0 ≤ longestFile) ⌝ }
+    ensures { λ r. ⌜ r .0 ≡ a .0 + b .0 ⌝ }
+{
+    Count(a.0 + b.0)
+}
+
 // No line is over the limit, of lines none of which is over `known`.
 fn within(s: &[u8], known: usize, limit: usize) -> bool
     requires { ⌜ T (linesWithin known (linesOf (now s))) ⌝ }
@@ -125,10 +134,14 @@ fn combine_fitting(
 {
     let s = first.summary;
     let t = second.summary;
-    let a99 = first.last;
-    let b99 = second.last;
+    let a99 = first.last.0;
+    let b99 = second.last.0;
     let records = records_left(s.records, t.records, &a[a99..], &b[0..header], &b[b99..]);
-    let last = join_trailer::fresh_trailer(total, s.groups + t.groups, records.add(Records(1)));
+    let last = join_trailer::fresh_trailer(
+        total,
+        both(s.groups, t.groups),
+        records.add(Records(1)),
+    );
     let size = last.length;
     let length = a99 + (b99 - header) + size;
     if LONGEST_FILE < length {
@@ -166,7 +179,7 @@ fn combine_accepted(
         UnitsSum::Beyond => refused_by(AMOUNTS_TOO_LARGE),
         UnitsSum::Within(total) => {
             let header = read_lines::record_end(b, 0);
-            let b99 = second.last;
+            let b99 = second.last.0;
             if !within(&b[header..b99], second.limit, first.limit) {
                 return refused_by(RESULT_TOO_LONG);
             }

@@ -6,27 +6,28 @@ use mathlib.Core.Path.{_≡_, sym, ap, subst, _∙_}
 use mathlib.Core.List.{List, [], _∷_, _++_, append-nil}
 use lib.Dec.{T}
 use lib.ListN.{length, take, drop}
-use Rattle.rules.specs.Bytes.{Bytes}
+use Rattle.rules.specs.Bytes.{Bytes, sameBytes}
 use Rattle.rules.specs.Numbers.{magnitudes}
 use Rattle.rules.specs.Limits.{most, longestFile}
 use Rattle.rules.specs.Outcome.{fine}
-use Rattle.rules.specs.Lines.{Line, linesOf, Record, recordSize, recordBytes, fileRecords}
+use Rattle.rules.specs.Lines.{lf, Line, linesOf, fileHeader, fileTrailer, codeBytes, begins, Record, recordSize, recordBytes, fileRecords}
 use Rattle.rules.specs.Totals.{Summary, noSummary, _⊞_}
 use Rattle.rules.specs.Verdict.{judge}
-use Rattle.rules.specs.Parts.{headerIn, groupsIn, sizeOfAll}
+use Rattle.rules.specs.Parts.{heads, Parts, cutAt, inGroups, headerIn, groupsIn, sizeOfAll}
 use Rattle.rules.specs.Combine.{summaryOfAll, linesWithin, limitOf, concat}
 use Rattle.rules.proofs.Accepted.{accepted}
 use Rattle.read_lines.specs.LineLengths.{firstRecord}
-use Rattle.laws.specs.LawWords.{All, GroupControlled, between}
-use Rattle.laws.proofs.Lists.{concat-append}
+use Rattle.laws.specs.LawWords.{All, GroupControlled, IsGroup, between}
+use Rattle.laws.proofs.Lists.{all-from, concat-append}
+use Rattle.laws.proofs.PartCuts.{cut-groups}
+use Rattle.laws.proofs.Envelopes.{groups-begin}
 use Rattle.laws.proofs.Shape.{is-file, one-header}
 use Rattle.laws.proofs.SummarySums.{summary-append, within-left, within-right}
 use Rattle.laws.proofs.ControlTotals.{file-controlled}
 use Rattle.laws.proofs.RunsOfRecords.{through}
 use Rattle.laws.proofs.Groups.{GoodGroup, Decomposed, decomposed}
-use Rattle.join_groups.specs.GroupsAhead.{Stands, Ahead}
+use Rattle.join_groups.proofs.GroupsAhead.{Stands, Ahead}
 use Rattle.join_groups.proofs.GroupRecords.{first-is, first-lines, records-drop, records-take, records-fit}
-use Rattle.join_groups.proofs.GroupExtents.{ahead-of}
 
 -- ---- each group stands
 
@@ -52,6 +53,36 @@ all-stand limit (g ∷ gs) a c w m =
     let small = first-small (summaryOfAll g) (summaryOfAll (concat gs)) (subst (λ (u : Summary). magnitudes (u .sum) ≤ most) (summary-append g (concat gs)) m) in (
       stands-of limit g (a .0) (c .0) (within-left limit (concat g) (concat (concat gs)) w′) (small .0),
       all-stand limit gs (a .1) (c .1) (within-right limit (concat g) (concat (concat gs)) w′) (small .1),
+    )
+
+-- ---- groups cut from records
+
+-- a record before groups that is none of theirs
+abbrev other : Record
+other = record { body = codeBytes fileHeader; lineEnd = lf } ∷ []
+
+cut-of : (gs : List (List Record)) (t : Record) → All IsGroup gs → T (heads fileTrailer t) → inGroups (concat gs ++ (t ∷ [])) .parts ≡ gs
+unfolding inGroups cutAt begins sameBytes
+cut-of gs t a h = ap (λ (p : Parts). p .parts) (cut-groups other gs t tt (groups-begin gs a) h)
+
+all-groups : (gs : List (List Record)) → All Stands gs → All IsGroup gs
+all-groups gs a = all-from IsGroup Stands (λ g s. s .is-group) gs a
+
+-- bytes whose records are these groups and a 99
+ahead-of : (xs : Bytes) (gs : List (List Record)) (t : Record) → fileRecords xs ≡ concat gs ++ (t ∷ []) → T (heads fileTrailer t) → All Stands gs
+    → magnitudes (summaryOfAll (concat gs) .sum) ≤ most
+    → Ahead xs × (groupsIn xs ≡ gs)
+unfolding groupsIn
+ahead-of xs gs t reads is-t a b =
+    let e : groupsIn xs ≡ gs = ap (λ (rs : List Record). inGroups rs .parts) reads ∙ cut-of gs t (all-groups gs a) is-t in (
+      record {
+        trailer = t;
+        is-trailer = is-t;
+        reads = rw e reads;
+        groups = rw e a;
+        bounded = rw e b;
+      },
+      e,
     )
 
 -- ---- the file after its header

@@ -103,17 +103,17 @@ module _ (c d : Code) where
   before-first [] ms h = let z : _≡_ {A = ℕ} 0 1 = cc in absurd (omega arith)
   before-first (l ∷ ls) ms h = rw h
 
+  pub passed-88 : T (not (among c (continuation ∷ []))) → T (not (among d (continuation ∷ []))) → (ls : List Line) → All Continues ls → All Passed ls
+  passed-88 c-88 d-88 [] a = tt
+  passed-88 c-88 d-88 (l ∷ ls) a =
+      let o = of-own continuation [] (l ∷ []) (a .0) in
+      (rw (not-of (continuation ∷ []) c (l ∷ []) c-88 o, not-of (continuation ∷ []) d (l ∷ []) d-88 o), passed-88 c-88 d-88 ls (a .1))
+
   module _ (cs : List Code) (c-else : T (not (among c cs))) (d-else : T (not (among d cs)))
       (c-88 : T (not (among c (continuation ∷ [])))) (d-88 : T (not (among d (continuation ∷ [])))) where
-    passed-88 : (ls : List Line) → All Continues ls → All Passed ls
-    passed-88 [] a = tt
-    passed-88 (l ∷ ls) a =
-        let o = of-own continuation [] (l ∷ []) (a .0) in
-        (rw (not-of (continuation ∷ []) c (l ∷ []) c-88 o, not-of (continuation ∷ []) d (l ∷ []) d-88 o), passed-88 ls (a .1))
-
     pub passed-record : (r : Record) → Of cs r → IsRecord r → All Passed r
     passed-record [] o i = absurd i
-    passed-record (l ∷ ls) o i = (rw (not-of cs c (l ∷ ls) c-else o, not-of cs d (l ∷ ls) d-else o), passed-88 ls (i .1))
+    passed-record (l ∷ ls) o i = (rw (not-of cs c (l ∷ ls) c-else o, not-of cs d (l ∷ ls) d-else o), passed-88 c-88 d-88 ls (i .1))
 
     pub passed-records : (rs : List Record) → All (Of cs) rs → All IsRecord rs → All Passed (concat rs)
     unfolding concat

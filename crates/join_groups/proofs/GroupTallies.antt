@@ -1,126 +1,159 @@
--- The numbers of the groups for a name, added up group by group as their 98s state them. Assumes nothing.
-use Prim.Native.Nat.{ℕ, _+_, _≤_}
+-- What a loop over groups has taken so far, and what is left to take: their numbers, and the bytes that were put. Assumes nothing.
+use Prim.Native.Nat.{ℕ, _+_, _-_, _≤_, _<_, _^_, min}
 use native.Mathlib.Omega.{arith}
-use mathlib.Core.Path.{_≡_, refl, sym, ap, subst, _∙_}
-use mathlib.Core.Bool.{Bool, true, false}
+use native.Mathlib.Nat.{zero-add, add-assoc, mod-mod, mod-add-mod}
+use mathlib.Core.Path.{_≡_, sym, ap, subst, _∙_}
+use mathlib.Core.Bool.{true, false}
 use mathlib.Core.List.{List, [], _∷_, _++_}
-use borrow.Author.Tests.{eq-eqb}
-use lib.Dec.{eqb→eq}
-use lib.ListN.{length, length-append}
-use Rattle.rules.specs.Bytes.{sameBytes}
-use Rattle.rules.specs.Numbers.{number, Signed, signed, Sum, zeroSum, _⊕_, asSum, magnitudes}
-use Rattle.rules.specs.Limits.{most}
-use Rattle.rules.specs.Lines.{Code, groupHeader, groupTrailer, Record, recordBytes}
-use Rattle.rules.specs.Grammar.{total, records}
-use Rattle.rules.specs.Records.{Field, the}
-use Rattle.rules.specs.Totals.{Summary, _⊞_, one, adding, ofRecord}
-use Rattle.rules.specs.Combine.{summaryOf, summaryOfAll, concat}
-use Rattle.laws.specs.LawWords.{All, Begins, Of}
-use Rattle.laws.proofs.Codes.{of-each}
-use Rattle.laws.proofs.PartCuts.{groupCodes}
-use Rattle.laws.proofs.Envelopes.{group-begins, group-codes}
-use Rattle.laws.proofs.SummarySums.{summary-append, summary-as, lines-counted}
-use Rattle.laws.proofs.WholeLines.{no-more-lines}
-use Rattle.laws.proofs.KeptBytes.{bytes-append, bytes-joined}
+use borrow.Author.Tests.{leb-true, leb-false}
+use borrow.Rule.Slice.PartMut.{midOf, putMid}
+use lib.Dec.{leb}
+use lib.ListN.{length, length-append, length-drop, take-append-drop}
+use Rattle.rules.specs.Bytes.{Bytes}
+use Rattle.rules.specs.Numbers.{Sum, zeroSum, _⊕_}
+use Rattle.rules.specs.Lines.{Record, recordBytes}
+use Rattle.rules.specs.Combine.{concat}
+use Rattle.rules.proofs.Tests.{Known, holds, fails, known}
+use Rattle.base_quantities.specs.QuantityMeanings.{sumMeant, wrapped, wrappedSum, mostRecords}
+use Rattle.base_quantities.proofs.UnitsLaws.{not-wrapped}
+use Rattle.base_quantities.specs.declared.Units.{Units}
+use Rattle.base_quantities.specs.declared.Records.{Records}
+use Rattle.base_numerals.specs.PutBytes.{Put}
+use Rattle.base_numerals.proofs.PutLaws.{put-unique, put-short, rest-is, rest-back}
+use Rattle.base_slices.specs.WroteBytes.{Wrote}
+use Rattle.base_slices.proofs.WroteLaws.{wrote-none, wrote-part, part-count, wrote-all}
+use Rattle.laws.specs.LawWords.{addUp, sumUp}
+use Rattle.laws.proofs.KeptBytes.{bytes-append}
 use Rattle.join_groups.specs.StatedNumbers.{statedTotal, statedRecords}
-use Rattle.join_groups.proofs.StatedLaws.{stated-total, stated-records}
-use Rattle.join_groups.specs.GroupsAhead.{Stands, Tallied}
+use Rattle.join_groups.specs.GroupsTaken.{lastIn, totalStated, recordsStated, tallyOf, fittingBytes, slicePut}
+use Rattle.join_groups.specs.declared.Tally.{Tally}
 
--- ---- what one group adds
+-- ---- numbers that wrap, and counts that stop
 
--- no 02 but the first
-no-groups : (cs : List Code) (rs : List Record) → All (λ c. one c groupHeader ≡ 0) cs → All (Of cs) rs → summaryOfAll rs .groups ≡ 0
-unfolding summaryOfAll _⊞_ ofRecord adding
-no-groups cs [] n a = refl
-no-groups cs (r ∷ rs) n a =
-    let o = a .0 in
-    let e : summaryOf r .groups ≡ 0 = ap (λ (u : Summary). u .groups) (summary-as (o .code) r (o .is-code)) ∙ of-each (λ c. one c groupHeader ≡ 0) cs n (o .code) (o .is-among) in
-    rw (e, no-groups cs rs n (a .1))
+-- what is added after a wrap and what is added before it give the same
+wrapped-first : (a b c : ℕ) → wrapped (wrapped (a + b) + c) ≡ wrapped (a + (b + c))
+wrapped-first a b c = mod-add-mod (a + b) (2 ^ 64) c ∙ ap wrapped (add-assoc a b c)
 
-one-group : (g : List Record) → Begins groupHeader groupCodes g → summaryOfAll g .groups ≡ 1
-unfolding summaryOfAll _⊞_ ofRecord adding sameBytes
-one-group [] b = absurd b
-one-group (r ∷ rs) b =
-    let e : summaryOf r .groups ≡ 1 = ap (λ (u : Summary). u .groups) (summary-as groupHeader r (b .0)) in
-    rw (e, no-groups groupCodes rs (refl, (refl, (refl, (refl, tt)))) (b .1))
+pub sum-wrapped-first : (a b c : Sum) → wrappedSum (wrappedSum (a ⊕ b) ⊕ c) ≡ wrappedSum (a ⊕ (b ⊕ c))
+sum-wrapped-first a b c = rw (wrapped-first (a .pluses) (b .pluses) (c .pluses), wrapped-first (a .minuses) (b .minuses) (c .minuses))
 
--- a group's numbers: the total and the lines that its 98 states
-pub record Adds (g : List Record) (sum : Sum) (lines : ℕ) : Type 0 where
-  pub group : summaryOfAll g .groups ≡ 1
-  pub total : summaryOfAll g .sum .pluses + sum .minuses ≡ sum .pluses + summaryOfAll g .sum .minuses
-  pub small : magnitudes sum ≤ magnitudes (summaryOfAll g .sum)
-  pub records : lines ≡ summaryOfAll g .records
-  pub few : lines ≤ length (recordBytes g)
+-- a wrap after a wrap changes nothing
+sum-wrapped-once : (a : Sum) → wrappedSum (wrappedSum a) ≡ wrappedSum a
+sum-wrapped-once a = rw (mod-mod (a .pluses) (2 ^ 64), mod-mod (a .minuses) (2 ^ 64))
 
--- a sum with one side is no larger than any that equals it
-one-sided : (a : Sum) (s : Signed) → a .pluses + asSum s .minuses ≡ asSum s .pluses + a .minuses → magnitudes (asSum s) ≤ magnitudes a
-one-sided a s e = go (s .negative) refl
-  where
-    go : (t : Bool) → s .negative ≡ t → magnitudes (asSum s) ≤ magnitudes a
-    go true n = let e′ = rw n at e in rw n (omega arith)
-    go false n = let e′ = rw n at e in rw n (omega arith)
+wrapped-same : (n m : ℕ) → wrapped n ≡ n → wrapped (n + 0) ≡ m → n ≡ m
+wrapped-same n m h e = let same : n + 0 ≡ n = omega arith in sym h ∙ ap wrapped (sym same) ∙ e
 
-pub adds : (g : List Record) (s : Stands g) (sum : Sum) (lines : ℕ) → sum ≡ statedTotal (s .controlled .trailer) → lines ≡ statedRecords (s .controlled .trailer) → Adds g sum lines
-adds g s sum lines said counts =
-    let c = s .controlled in
-    let a = signed (the total (c .fields) .bytes) in
-    let is-total : sum ≡ asSum a = said ∙ stated-total (c .trailer) (c .fields) (c .walked) in
-    let stated = eqb→eq _ _ (c .states-total) in
-    let counted = lines-counted _ g (group-codes g (s .is-group)) in
-    let lines-are : lines ≡ length (concat g) = counts ∙ stated-records (c .trailer) (c .fields) (c .walked) ∙ c .states-lines in
-    let most-lines = no-more-lines (concat g) (s .kept .wholes) in
-    let bytes = ap length (bytes-joined g) in
+stopped-first : (a b c : ℕ) → min (min (a + b) mostRecords + c) mostRecords ≡ min (a + (b + c)) mostRecords
+stopped-first a b c = omega arith
+
+-- ---- what fits
+
+fitting-step : (room : ℕ) (g : List Record) (gs : List (List Record)) → ((r : ℕ) → length (fittingBytes r gs) ≤ r) → Known (leb (length (recordBytes g)) room) → length (fittingBytes room (g ∷ gs)) ≤ room
+unfolding fittingBytes
+fitting-step room g gs ih (holds e) =
+    let h = leb-true (length (recordBytes g)) room e in
+    let rest = fittingBytes (room - length (recordBytes g)) gs in
+    rw e (omega (arith, length-append (recordBytes g) rest, ih (room - length (recordBytes g))))
+fitting-step room g gs ih (fails e) = rw e (ih room)
+
+pub fitting-most : (gs : List (List Record)) (room : ℕ) → length (fittingBytes room gs) ≤ room
+unfolding fittingBytes
+fitting-most [] room = omega arith
+fitting-most (g ∷ gs) room = fitting-step room g gs (fitting-most gs) (known (leb (length (recordBytes g)) room))
+
+-- a call that is lent the rest puts the group's bytes, or nothing
+module _ (result before : Bytes) (o : ℕ) (g : List Record) (gs : List (List Record)) (out : Bytes) (r : ℕ) (after : Bytes)
+    (w : Wrote result before o (fittingBytes (length before - o) (g ∷ gs)) out) (p : Put (recordBytes g) (midOf o (length out - o) out) r after) where
+  abbrev bs : Bytes
+  bs = recordBytes g
+
+  abbrev Puts : ℕ → Bytes → Type 0
+  Puts k now = Wrote result before k (fittingBytes (length before - k) gs) now
+
+  lent-size : length (midOf o (length out - o) out) ≡ length before - o
+  lent-size = rw (rest-is o out) (length-drop o out ∙ rw (w .long))
+
+  fits : leb (length bs) (length before - o) ≡ true → Puts (o + r) (putMid o (length out - o) out after)
+  unfolding fittingBytes
+  fits e =
+      let w′ : Wrote result before o (bs ++ fittingBytes ((length before - o) - length bs) gs) out = rw e at w in
+      let size = part-count result before o bs (fittingBytes ((length before - o) - length bs) gs) out r after w′ p in
+      let left : (length before - o) - length bs ≡ length before - (o + r) = omega (arith, size) in
+      subst (λ (k : ℕ). Wrote result before (o + r) (fittingBytes k gs) (putMid o (length out - o) out after)) left
+      (wrote-part result before o bs (fittingBytes ((length before - o) - length bs) gs) out r after w′ p)
+
+  too-long : leb (length bs) (length before - o) ≡ false → Puts (o + r) (putMid o (length out - o) out after)
+  unfolding fittingBytes
+  too-long e =
+      let w′ : Puts o out = rw e at w in
+      let short : length (midOf o (length out - o) out) < length bs = omega (arith, lent-size, leb-false (length bs) (length before - o) e) in
+      let (none, same) = put-unique p (put-short bs (midOf o (length out - o) out) short) in
+      let back : putMid o (length out - o) out after ≡ out =
+      rest-back o out after (omega (arith, w .room, w .long)) ∙ rw (same, rest-is o out) (take-append-drop o out) in
+      let same-place : o + r ≡ o = omega (arith, none) in
+      rw (same-place, back) w′
+
+  put-next : Puts (o + r) (putMid o (length out - o) out after)
+  put-next = go (known (leb (length bs) (length before - o)))
+    where
+      go : Known (leb (length bs) (length before - o)) → Puts (o + r) (putMid o (length out - o) out after)
+      go (holds e) = fits e
+      go (fails e) = too-long e
+
+-- ---- so far, and ahead
+
+pub record Taking (all ahead : List (List Record)) (before : Bytes) (groups bytes : ℕ) (sum : Sum) (lines o : ℕ) (out : Bytes) : Type 0 where
+  pub count : groups + length ahead ≡ length all
+  pub size : bytes + length (recordBytes (concat ahead)) ≡ length (recordBytes (concat all))
+  pub total : wrappedSum (sum ⊕ totalStated ahead) ≡ wrappedSum (totalStated all)
+  pub kept : wrappedSum sum ≡ sum
+  pub records : min (lines + recordsStated ahead) mostRecords ≡ min (recordsStated all) mostRecords
+  pub few : lines ≤ mostRecords
+  pub wrote : Wrote (fittingBytes (length before) all) before o (fittingBytes (length before - o) ahead) out
+
+pub take-start : (gs : List (List Record)) (before : Bytes) → Taking gs gs before 0 0 zeroSum 0 0 before
+take-start gs before =
+    let all-left : length before - 0 ≡ length before = omega arith in
     record {
-      group = one-group g (group-begins g (s .is-group));
-      total = subst (λ (u : Sum). summaryOfAll g .sum .pluses + u .minuses ≡ u .pluses + summaryOfAll g .sum .minuses) (sym is-total) stated;
-      small = subst (λ (u : Sum). magnitudes u ≤ magnitudes (summaryOfAll g .sum)) (sym is-total) (one-sided (summaryOfAll g .sum) a stated);
-      records = lines-are ∙ sym counted;
+      count = omega arith;
+      size = omega arith;
+      total = rw (zero-add (totalStated gs .pluses), zero-add (totalStated gs .minuses));
+      kept = rw (not-wrapped 0 (omega arith));
+      records = rw (zero-add (recordsStated gs));
       few = omega arith;
+      wrote = rw all-left (wrote-none (fittingBytes (length before) gs) before (fitting-most gs (length before)));
     }
 
--- ---- so far and ahead
-
--- the numbers so far, with those of the groups ahead, are those of all; and the sum leaves room for theirs
-pub record Tallying (all ahead : List (List Record)) (groups bytes : ℕ) (sum : Sum) (lines : ℕ) : Type 0 where
-  pub count : groups + summaryOfAll (concat ahead) .groups ≡ summaryOfAll (concat all) .groups
-  pub size : bytes + length (recordBytes (concat ahead)) ≡ length (recordBytes (concat all))
-  pub total : (sum .pluses + summaryOfAll (concat ahead) .sum .pluses) + summaryOfAll (concat all) .sum .minuses
-      ≡ summaryOfAll (concat all) .sum .pluses + (sum .minuses + summaryOfAll (concat ahead) .sum .minuses)
-  pub records : lines + summaryOfAll (concat ahead) .records ≡ summaryOfAll (concat all) .records
-  pub room : magnitudes sum + magnitudes (summaryOfAll (concat ahead) .sum) ≤ most
-  pub few : lines ≤ bytes
-
-pub tally-start : (gs : List (List Record)) → magnitudes (summaryOfAll (concat gs) .sum) ≤ most → Tallying gs gs 0 0 zeroSum 0
-tally-start gs h = record { count = omega arith; size = omega arith; total = omega arith; records = omega arith; room = omega arith; few = omega arith }
-
-pub tally-end : (gs : List (List Record)) (groups bytes : ℕ) (sum : Sum) (lines : ℕ) → Tallying gs [] groups bytes sum lines → Tallied gs groups bytes sum lines
-unfolding concat summaryOfAll recordBytes
-tally-end gs groups bytes sum lines t =
-    let all = summaryOfAll (concat gs) .sum in
+pub take-one : (all : List (List Record)) (g : List Record) (gs : List (List Record)) (before : Bytes) (groups bytes : ℕ) (sum : Sum) (lines o : ℕ) (out : Bytes) (r : ℕ) (after : Bytes)
+    → Taking all (g ∷ gs) before groups bytes sum lines o out → Put (recordBytes g) (midOf o (length out - o) out) r after
+    → Taking all gs before (groups + 1) (bytes + length (recordBytes g)) (wrappedSum (sum ⊕ statedTotal (lastIn g))) (min (lines + statedRecords (lastIn g)) mostRecords) (o + r) (putMid o (length out - o) out after)
+unfolding concat totalStated recordsStated sumUp addUp
+take-one all g gs before groups bytes sum lines o out r after t p =
+    let b : length (recordBytes (g ++ concat gs)) ≡ length (recordBytes g) + length (recordBytes (concat gs)) =
+    ap length (bytes-append g (concat gs)) ∙ length-append (recordBytes g) (recordBytes (concat gs)) in
     record {
       count = omega (arith, t .count);
       size = omega (arith, t .size);
-      sum = eq-eqb (sum .pluses + all .minuses) (all .pluses + sum .minuses) (omega (arith, t .total));
-      lines = omega (arith, t .records);
-      few = t .few;
+      total = sum-wrapped-first sum (statedTotal (lastIn g)) (totalStated gs) ∙ t .total;
+      kept = sum-wrapped-once (sum ⊕ statedTotal (lastIn g));
+      records = stopped-first lines (statedRecords (lastIn g)) (recordsStated gs) ∙ t .records;
+      few = omega arith;
+      wrote = put-next (fittingBytes (length before) all) before o g gs out r after (t .wrote) p;
     }
 
-pub tally-add : (all : List (List Record)) (g : List Record) (gs : List (List Record)) (groups bytes : ℕ) (sum : Sum) (lines : ℕ) (more : Sum) (n : ℕ)
-    → Tallying all (g ∷ gs) groups bytes sum lines → Adds g more n → Tallying all gs (groups + 1) (bytes + length (recordBytes g)) (sum ⊕ more) (lines + n)
-unfolding concat _⊞_
-tally-add all g gs groups bytes sum lines more n t a =
-    let e : summaryOfAll (g ++ concat gs) ≡ summaryOfAll g ⊞ summaryOfAll (concat gs) = summary-append g (concat gs) in
-    let b : length (recordBytes (g ++ concat gs)) ≡ length (recordBytes g) + length (recordBytes (concat gs)) =
-    ap length (bytes-append g (concat gs)) ∙ length-append (recordBytes g) (recordBytes (concat gs)) in
-    let count = rw e at (t .count) in
-    let total = rw e at (t .total) in
-    let records = rw e at (t .records) in
-    let room = rw e at (t .room) in
-    record {
-      count = omega (arith, a .group);
-      size = omega (arith, t .size);
-      total = omega (arith, a .total);
-      records = omega (arith, a .records);
-      room = omega (arith, a .small);
-      few = omega (arith, a .few, t .few);
-    }
+module _ (gs : List (List Record)) (before : Bytes) (groups bytes : ℕ) (total : Units) (records : Records) (o : ℕ) (out : Bytes)
+    (t : Taking gs [] before groups bytes (sumMeant total) (records .0) o out) where
+  pub take-end : _≡_ {A = Tally} (record { groups = record { 0 = groups }; bytes = bytes; total = total; records = records }) (tallyOf gs)
+  unfolding concat totalStated recordsStated sumUp addUp recordBytes tallyOf
+  take-end =
+      let count : groups ≡ length gs = omega (arith, t .count) in
+      let size : bytes ≡ length (recordBytes (concat gs)) = omega (arith, t .size) in
+      let pluses = wrapped-same (total .0) (wrapped (totalStated gs .pluses)) (ap (λ (s : Sum). s .pluses) (t .kept)) (ap (λ (s : Sum). s .pluses) (t .total)) in
+      let minuses = wrapped-same (total .1) (wrapped (totalStated gs .minuses)) (ap (λ (s : Sum). s .minuses) (t .kept)) (ap (λ (s : Sum). s .minuses) (t .total)) in
+      let lines : records .0 ≡ min (recordsStated gs) mostRecords = omega (arith, t .records, t .few) in
+      λ i. record { groups = record { 0 = count i }; bytes = size i; total = record { 0 = pluses i; 1 = minuses i }; records = record { 0 = lines i } }
+
+  pub take-put : out ≡ slicePut gs before
+  unfolding fittingBytes slicePut
+  take-put = wrote-all (t .wrote)

@@ -1,8 +1,13 @@
--- Laws that belong to no one function. Read in this order.
+-- Laws that belong to no one function: what is taken of any bytes, then of an accepted file. Read in this order.
 pub mod GroupRecords
+pub mod GroupCuts
 pub mod GroupExtents
-pub mod ReceiverLaws
-pub mod StatedLaws
-pub mod GroupTallies
 pub mod GroupTurns
+pub mod GroupTallies
+pub mod GroupsAhead
+pub mod ReceiverLaws
+pub mod GroupShapes
+pub mod StatedLaws
+pub mod StatedTallies
+pub mod TakenLaws
 pub mod GroupOpens

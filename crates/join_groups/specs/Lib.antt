@@ -1,3 +1,3 @@
--- What a group's 98 states, and what is known of the groups ahead.
+-- What a group's 98 states, and what is taken of any bytes for a name.
 pub mod StatedNumbers
-pub mod GroupsAhead
+pub mod GroupsTaken

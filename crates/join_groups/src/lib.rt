@@ -1,17 +1,20 @@
 // The groups of an accepted file that are for one receiver: their totals and records, from what their 98s state, and their bytes, copied.
 use base_codes::Code;
+use base_quantities::Count;
+use base_quantities::Place;
 use base_quantities::Records;
 use base_quantities::Units;
 use find_field::Sought;
 ghost use mathlib.Core.Path.{_≡_};
+ghost use lib.ListN.{drop};
 ghost use Rattle.rules.specs.Lines.{linesOf};
 ghost use Rattle.base_quantities.specs.QuantityMeanings.{sumMeant};
 ghost use Rattle.join_groups.specs.StatedNumbers.{statedTotal, statedRecords};
-ghost use Rattle.join_groups.specs.GroupsAhead.{Takes};
+ghost use Rattle.join_groups.specs.GroupsTaken.{groupsTaken, tallyOf, slicePut};
 
 // What groups add: how many they are, their bytes, their total and their records.
 pub struct Tally {
-    pub groups: u64,
+    pub groups: Count,
     pub bytes: usize,
     pub total: Units,
     pub records: Records,
@@ -35,11 +38,11 @@ fn read_trailer(rec: &[u8]) -> GroupTrailer
     }
 }
 
-// What the groups for this name add, of the groups from `from` on; and their bytes at the front of out, where it has room for them all.
-pub fn take_groups(name: &[u8], file: &[u8], from: usize, out: &mut [u8]) -> Tally
-    ensures { λ r. ⌜ Takes (now (name .entry)) (now (file .entry)) from (now (out .entry)) (r .groups) (r .bytes) (sumMeant (r .total)) (r .records .0) (now (out .exit)) ⌝ }
+// What the groups for this name add, of the groups from `from` on; and at the front of out, one after the other, the bytes of each that still fits.
+pub fn take_groups(name: &[u8], file: &[u8], from: Place, out: &mut [u8]) -> Tally
+    ensures { λ r. ⌜ (r ≡ tallyOf (groupsTaken (now (name .entry)) (drop (from .0) (now (file .entry))))) × (now (out .exit) ≡ slicePut (groupsTaken (now (name .entry)) (drop (from .0) (now (file .entry)))) (now (out .entry))) ⌝ }
 {
-    let mut at = from;
+    let mut at = from.0;
     let mut o: usize = 0;
     let mut groups: u64 = 0;
     let mut bytes: usize = 0;
@@ -60,7 +63,7 @@ pub fn take_groups(name: &[u8], file: &[u8], from: usize, out: &mut [u8]) -> Tal
         at = e;
     }
     Tally {
-        groups,
+        groups: Count(groups),
         bytes,
         total,
         records,

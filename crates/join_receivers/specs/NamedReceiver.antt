@@ -1,11 +1,11 @@
--- Whether the 02 in some bytes names a receiver, whatever the bytes. Assumes nothing.
+-- Whether a 02 names a receiver, whatever its lines. Assumes nothing.
 use mathlib.Core.Bool.{Bool}
 use Rattle.rules.specs.Bytes.{Bytes, sameBytes}
-use Rattle.rules.specs.Lines.{groupHeader, linesOf}
+use Rattle.rules.specs.Lines.{groupHeader, Record}
 use Rattle.rules.specs.Grammar.{ultimateReceiver, fieldsOf}
 use Rattle.find_field.specs.FieldSearch.{seekLines}
 
 -- stands for the test of one step of `groupsFor` (rules/specs/Split.antt), `sameBytes name (receiverOf g)`; joined by `named-is` (proofs/NamedLaws.antt)
 -- and `receiver-is` (join_groups/proofs/ReceiverLaws.antt)
-abbrev pub named : Bytes → Bytes → Bool
-named name rec = sameBytes name (seekLines ultimateReceiver 0 (fieldsOf groupHeader) (linesOf rec) .bytes)
+abbrev pub named : Bytes → Record → Bool
+named name r = sameBytes name (seekLines ultimateReceiver 0 (fieldsOf groupHeader) r .bytes)

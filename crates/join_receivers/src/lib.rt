@@ -2,11 +2,12 @@
 use base_codes::Code;
 use find_field::Sought;
 ghost use mathlib.Core.Path.{_≡_};
+ghost use Rattle.rules.specs.Lines.{linesOf};
 ghost use Rattle.join_receivers.specs.NamedReceiver.{named};
 
 // The 02 in these bytes names this receiver.
 pub fn is_for(name: &[u8], rec: &[u8]) -> bool
-    ensures { λ r. ⌜ r ≡ named (now (name .entry)) (now (rec .entry)) ⌝ }
+    ensures { λ r. ⌜ r ≡ named (now (name .entry)) (linesOf (now (rec .entry))) ⌝ }
 {
     base_slices::same_bytes(
         name,

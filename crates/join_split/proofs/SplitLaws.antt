@@ -26,7 +26,7 @@ use Rattle.laws.proofs.PartSlices.{size-length}
 use Rattle.laws.proofs.Groups.{good-for}
 use Rattle.laws.proofs.Assembly.{few-groups-in, few-lines-in}
 use Rattle.laws.proofs.CombineSplit.{fewer}
-use Rattle.join_groups.specs.GroupsAhead.{matching, Tallied}
+use Rattle.join_groups.proofs.GroupsAhead.{matching, Tallied}
 use Rattle.join_groups.proofs.GroupRecords.{records-fit}
 use Rattle.join_groups.proofs.GroupOpens.{Opened}
 use Rattle.join_split.specs.SplitAnswers.{splitResult, splitGroups, splitLast}

@@ -59,7 +59,7 @@ fn take_rest(name: &[u8], file: &[u8], header: usize, out: &mut [u8]) -> Rest
     requires { ⌜ Opens (now file) header ⌝ }
     ensures { λ r. ⌜ RestIs (now (name .entry)) (now (file .entry)) (now (out .entry)) (r .bytes) (r .last) (now (out .exit)) ⌝ }
 {
-    let tally = join_groups::take_groups(name, file, header, out);
+    let tally = join_groups::take_groups(name, file, Place(header), out);
     let records = join_trailer::count_lines(&file[0..header]).add(tally.records);
     Rest {
         bytes: tally.bytes,

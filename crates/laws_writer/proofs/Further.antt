@@ -19,7 +19,7 @@ use Rattle.rules.specs.Totals.{Summary, _⊞_, sumOf, adding, ofRecord, balance
 use Rattle.rules.specs.Verdict.{State, inOrder, limitAfter, stateAfter}
 use Rattle.rules.specs.Writer.{expectedIn, Writer, Given, sumGiven, ofGiven, bodyOf, lineOf, entryOf}
 use Rattle.rules.proofs.Binds.{refused-fine, fine-same}
-use Rattle.laws_writer.specs.SessionWords.{Value, allSaid, recordsSaid, toLast, gathered}
+use Rattle.laws_writer.specs.SessionWords.{Value, Told, ofCode, allSaid, recordsSaid, toLast, gathered}
 use Rattle.laws_writer.proofs.LinesWritten.{lines-more, cut-more, to-last-record, good-more}
 use Rattle.laws_writer.proofs.WalkWritten.{walkAt}
 use Rattle.laws_writer.proofs.Found.{Found, slashLine, sum-append, said-append}
@@ -55,11 +55,11 @@ plus-assoc : (a b c : Summary) → a ⊞ (b ⊞ c) ≡ (a ⊞ b) ⊞ c
 unfolding _⊞_
 plus-assoc a b c = simp add-assoc
 
-told-last : (ts : List (List Value)) (t vs : List Value) → toLast (ts ++ (t ∷ [])) vs ≡ ts ++ ((t ++ vs) ∷ [])
+told-last : (ts : List Told) (c : Code) (us vs : List Value) → toLast (ts ++ (ofCode c us ∷ [])) vs ≡ ts ++ (ofCode c (us ++ vs) ∷ [])
 unfolding toLast
-told-last [] t vs = refl
-told-last (s ∷ []) t vs = refl
-told-last (s ∷ u ∷ ts) t vs = rw (told-last (u ∷ ts) t vs)
+told-last [] c us vs = refl
+told-last (t ∷ []) c us vs = refl
+told-last (t ∷ s ∷ ts) c us vs = rw (told-last (s ∷ ts) c us vs)
 
 abbrev itemLine : List Bytes → Option Signed → Given
 itemLine fs a = slashLine continuation (furtherType ∷ []) fs a
@@ -158,7 +158,7 @@ module _ (r : Run) (b : After r) (bs : List Bytes) (a : Option Signed) (vs : Lis
         cut = cut-more (r .bytes) (bodyOf (itemLine bs a)) (b .cut) (body-clear (itemLine bs a) l);
         size = size-more (r .writer) (r .bytes) (itemLine bs a) left (b .size);
         told =
-            ap (λ (ts : List (List Value)). toLast ts vs) (b .told)
-            ∙ told-last (recordsSaid (b .before)) (allSaid (b .fields)) vs
-            ∙ rw (said-append (b .fields) (l .fields place), l .back place);
+            ap (λ (ts : List Told). toLast ts vs) (b .told)
+            ∙ told-last (recordsSaid (b .before)) (b .code) (allSaid (b .fields)) vs
+            ∙ rw (is-item .1, said-append (b .fields) (l .fields place), l .back place);
       }

@@ -15,10 +15,10 @@ use Rattle.rules.specs.Lines.{accountHeader, continuation}
 use Rattle.rules.specs.Grammar.{Kind, name, currency, firstType, furtherType, statusAmount, amount, itemCount, funds, count, nothing, Judged, bad, good, fits, fundsOf, judged, mayLack}
 use Rattle.rules.specs.Grammar.{fieldsOf, itemOf}
 use Rattle.rules.specs.Totals.{amountOf, sumOf}
-use Rattle.rules.specs.Writer.{Item, writeAccount, writeItem, Writer, given, amountBytes, countBytes, sumGiven, itemFields, wantsItem, kindsAfter}
+use Rattle.rules.specs.Writer.{Item, writeAccount, writeItem, Writer, given, amountBytes, itemCountBytes, sumGiven, itemFields, wantsItem, kindsAfter}
 use Rattle.rules.proofs.Tests.{Known, holds, fails, known}
 use Rattle.base_digits.proofs.ReadingLaws.{digits-at-most}
-use Rattle.laws_writer.specs.SessionWords.{Value, filled, said, allSaid, word, amountGiven, countGiven, itemGiven, gives}
+use Rattle.laws_writer.specs.SessionWords.{Value, filled, said, allSaid, word, amountGiven, itemsGiven, itemGiven, gives}
 use Rattle.laws_writer.specs.SessionWords as words
 use Rattle.laws_writer.proofs.NumberFields.{amount-reads, amount-said, count-said, no-amount, no-count}
 use Rattle.laws_writer.proofs.FieldsWritten.{bad-good, from-field, none-left, Takes, one, all-taken, in-front}
@@ -26,10 +26,10 @@ use Rattle.laws_writer.proofs.WalkWritten.{zipped}
 use Rattle.laws_writer.proofs.Found.{Found, slashLine, found-slash}
 
 abbrev itemRest : Option Signed → Option ℕ → List Bytes
-itemRest a n = amountBytes a ∷ countBytes n ∷ [] ∷ []
+itemRest a n = amountBytes a ∷ itemCountBytes n ∷ [] ∷ []
 
 abbrev restGiven : Option Signed → Option ℕ → List Value
-restGiven a n = amountGiven a ∷ countGiven n ∷ words.nothing ∷ []
+restGiven a n = amountGiven a ∷ itemsGiven n ∷ words.nothing ∷ []
 
 -- an item's amount, count and funds, taken as the kinds that its type adds
 record ItemFound (new : List Kind) (a : Option Signed) (n : Option ℕ) (left : List Kind) : Type 0 where
@@ -62,10 +62,10 @@ module _ (a : Option Signed) (n : Option ℕ) (left : List Kind) where
   status-item : kindsAfter (statusAmount ∷ nothing ∷ nothing ∷ furtherType ∷ []) (itemRest a n) ≡ fine left → ItemFound (statusAmount ∷ nothing ∷ nothing ∷ furtherType ∷ []) a n left
   unfolding zipped sumOf amountOf allSaid said isEmpty
   status-item h =
-      let s = in-front (statusAmount ∷ []) (nothing ∷ nothing ∷ furtherType ∷ []) (amountBytes a ∷ []) (countBytes n ∷ [] ∷ []) left refl refl h in
+      let s = in-front (statusAmount ∷ []) (nothing ∷ nothing ∷ furtherType ∷ []) (amountBytes a ∷ []) (itemCountBytes n ∷ [] ∷ []) left refl refl h in
       let t = in-front (statusAmount ∷ nothing ∷ nothing ∷ []) (furtherType ∷ []) (itemRest a n) [] left refl refl h in
       let e = none-left (furtherType ∷ []) left (t .0) in
-      let z = no-count n (nothing-empty (countBytes n) (nothing ∷ furtherType ∷ []) ([] ∷ []) left (s .0)) in
+      let z = no-count n (nothing-empty (itemCountBytes n) (nothing ∷ furtherType ∷ []) ([] ∷ []) left (s .0)) in
       record {
         used = statusAmount ∷ nothing ∷ nothing ∷ [];
         takes = t .1 [] (all-taken (furtherType ∷ []) left (t .0));
@@ -79,7 +79,7 @@ module _ (a : Option Signed) (n : Option ℕ) (left : List Kind) where
   summary-item : kindsAfter (amount ∷ itemCount ∷ funds ∷ furtherType ∷ []) (itemRest a n) ≡ fine left → ItemFound (amount ∷ itemCount ∷ funds ∷ furtherType ∷ []) a n left
   unfolding zipped sumOf amountOf allSaid said all judged fundsOf isEmpty
   summary-item h =
-      let t = in-front (amount ∷ itemCount ∷ []) (funds ∷ furtherType ∷ []) (amountBytes a ∷ countBytes n ∷ []) ([] ∷ []) left refl refl h in
+      let t = in-front (amount ∷ itemCount ∷ []) (funds ∷ furtherType ∷ []) (amountBytes a ∷ itemCountBytes n ∷ []) ([] ∷ []) left refl refl h in
       let u = funds-empty (furtherType ∷ []) [] left (t .0) in
       let e = none-left (furtherType ∷ []) left u in
       record {
@@ -96,11 +96,11 @@ module _ (a : Option Signed) (n : Option ℕ) (left : List Kind) where
   no-item : kindsAfter (nothing ∷ nothing ∷ nothing ∷ []) (itemRest a n) ≡ fine left → ItemFound (nothing ∷ nothing ∷ nothing ∷ []) a n left
   unfolding zipped sumOf amountOf allSaid said isEmpty
   no-item h =
-      let s = in-front (nothing ∷ []) (nothing ∷ nothing ∷ []) (amountBytes a ∷ []) (countBytes n ∷ [] ∷ []) left refl refl h in
+      let s = in-front (nothing ∷ []) (nothing ∷ nothing ∷ []) (amountBytes a ∷ []) (itemCountBytes n ∷ [] ∷ []) left refl refl h in
       let t = in-front (nothing ∷ nothing ∷ nothing ∷ []) [] (itemRest a n) [] left refl refl h in
       let e = none-left [] left (t .0) in
-      let x = no-amount a (nothing-empty (amountBytes a) (nothing ∷ nothing ∷ []) (countBytes n ∷ [] ∷ []) left h) in
-      let y = no-count n (nothing-empty (countBytes n) (nothing ∷ []) ([] ∷ []) left (s .0)) in
+      let x = no-amount a (nothing-empty (amountBytes a) (nothing ∷ nothing ∷ []) (itemCountBytes n ∷ [] ∷ []) left h) in
+      let y = no-count n (nothing-empty (itemCountBytes n) (nothing ∷ []) ([] ∷ []) left (s .0)) in
       record {
         used = nothing ∷ nothing ∷ nothing ∷ [];
         takes = t .1 [] (all-taken [] left (t .0));
@@ -142,20 +142,20 @@ item-wants unknown new j = bad-good 8 new j
 pub further-wants : (i : Item) (left : List Kind) → kindsAfter (furtherType ∷ []) (itemFields i) ≡ fine left → wantsItem left ≡ true
 unfolding judged
 further-wants i left h =
-    from-field furtherType (i .type) [] (itemRest (i .amount) (i .count)) left h (λ new c j q.
-    rw (← item-found (i .amount) (i .count) left (typeClass (i .type)) new j q .rest) (item-wants (typeClass (i .type)) new j))
+    from-field furtherType (i .type) [] (itemRest (i .amount) (i .itemCount)) left h (λ new c j q.
+    rw (← item-found (i .amount) (i .itemCount) left (typeClass (i .type)) new j q .rest) (item-wants (typeClass (i .type)) new j))
 
 -- a further item
 pub further-found : (w : Writer) (i : Item) (left : List Kind) → kindsAfter (furtherType ∷ []) (itemFields i) ≡ fine left → Found (given w (writeItem i)) (gives w (writeItem i)) left
 unfolding given gives judged zipped sumOf amountOf allSaid said filled
 further-found w i left h =
-    from-field furtherType (i .type) [] (itemRest (i .amount) (i .count)) left h (λ new c j q.
-    let x = item-found (i .amount) (i .count) left (typeClass (i .type)) new j q in
+    from-field furtherType (i .type) [] (itemRest (i .amount) (i .itemCount)) left h (λ new c j q.
+    let x = item-found (i .amount) (i .itemCount) left (typeClass (i .type)) new j q in
     let at : ℕ → ℕ = λ p. suc (p + length (i .type)) in
-    found-slash continuation (furtherType ∷ []) (furtherType ∷ x .used) left left (i .type) (itemRest (i .amount) (i .count)) (i .amount) (itemGiven i)
+    found-slash continuation (furtherType ∷ []) (furtherType ∷ x .used) left left (i .type) (itemRest (i .amount) (i .itemCount)) (i .amount) (itemGiven i)
     (one c (type-short (i .type) itemOf refl new j) refl j refl (x .takes)) (omega arith) (x .may)
     (λ p. rw (x .back (at p)))
-    (λ p. sum-front (sumOf (zipped (at p) (x .used) (itemRest (i .amount) (i .count)))) (sumGiven (i .amount)) (x .sum (at p)))
+    (λ p. sum-front (sumOf (zipped (at p) (x .used) (itemRest (i .amount) (i .itemCount)))) (sumGiven (i .amount)) (x .sum (at p)))
     refl (λ e. (x .only e, refl)))
 
 -- an account's first type: none, or an item's
@@ -169,10 +169,10 @@ account-line : (m u : Bytes) (i : Item) (left : List Kind) → kindsAfter (field
     → Found (slashLine accountHeader (fieldsOf accountHeader) (m ∷ u ∷ itemFields i) (i .amount)) (word m ∷ word u ∷ itemGiven i) left
 unfolding fieldsOf zipped sumOf amountOf allSaid said filled
 account-line m u i left h =
-    let rest = itemRest (i .amount) (i .count) in
+    let rest = itemRest (i .amount) (i .itemCount) in
     let t = in-front (name ∷ currency ∷ []) (firstType ∷ []) (m ∷ u ∷ []) (itemFields i) left refl refl h in
     from-field firstType (i .type) [] rest left (t .0) (λ new c j q.
-    let y = first-item (i .type) (i .amount) (i .count) left new j q in
+    let y = first-item (i .type) (i .amount) (i .itemCount) left new j q in
     let x = y .0 in
     let at : ℕ → ℕ = λ p. suc (suc (suc (p + length m) + length u) + length (i .type)) in
     found-slash accountHeader (fieldsOf accountHeader) (name ∷ currency ∷ firstType ∷ x .used) left left m (u ∷ itemFields i) (i .amount) (word m ∷ word u ∷ itemGiven i)
@@ -186,7 +186,7 @@ account-line m u i left h =
 pub account-found : (w : Writer) (m u : Bytes) (i : Option Item) (left : List Kind) → kindsAfter (fieldsOf accountHeader) (given w (writeAccount m u i) .fields) ≡ fine left
     → Found (given w (writeAccount m u i)) (gives w (writeAccount m u i)) left
 unfolding given gives isEmpty
-account-found w m u none left h = account-line m u (record { type = []; amount = none; count = none }) left h
+account-found w m u none left h = account-line m u (record { type = []; amount = none; itemCount = none }) left h
 account-found w m u (some i) left h = account-line m u i left h
 
 -- a further item may come after an account with an item
@@ -199,5 +199,5 @@ pub account-wants : (m u : Bytes) (i : Item) (left : List Kind) → kindsAfter (
 unfolding fieldsOf
 account-wants m u i left h =
     let t = in-front (name ∷ currency ∷ []) (firstType ∷ []) (m ∷ u ∷ []) (itemFields i) left refl refl h in
-    from-field firstType (i .type) [] (itemRest (i .amount) (i .count)) left (t .0) (λ new c j q.
-    rw (← first-item (i .type) (i .amount) (i .count) left new j q .0 .rest) (first-wants (i .type) new j))
+    from-field firstType (i .type) [] (itemRest (i .amount) (i .itemCount)) left (t .0) (λ new c j q.
+    rw (← first-item (i .type) (i .amount) (i .itemCount) left new j q .0 .rest) (first-wants (i .type) new j))

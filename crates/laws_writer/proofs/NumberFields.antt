@@ -12,12 +12,12 @@ use borrow.Author.Tests.{lt-ltb, le-ltb, ltb-true, ltb-false}
 use Rattle.rules.specs.Bytes.{Bytes, isEmpty, startsWith}
 use Rattle.rules.specs.Numbers.{Signed, Sum, asSum, signed, asInteger, numberFrom, withoutSign, decimal, totalBytes}
 use Rattle.rules.specs.Grammar.{Kind, sameKind, amount, statusAmount, total, itemCount, count, records}
-use Rattle.rules.specs.Writer.{amountBytes, countBytes, sumGiven}
+use Rattle.rules.specs.Writer.{amountBytes, itemCountBytes, sumGiven}
 use Rattle.rules.proofs.Tests.{Known, holds, fails, known}
 use Rattle.base_digits.proofs.DigitTests.{below-or-from}
 use Rattle.base_digits.proofs.DigitStrings.{decimal-some, number-decimal}
 use Rattle.base_digits.proofs.TotalStrings.{asRead, total-below-zero, total-from-zero, total-read}
-use Rattle.laws_writer.specs.SessionWords.{units, number, filled, said, amountGiven, countGiven}
+use Rattle.laws_writer.specs.SessionWords.{units, number, filled, said, amountGiven, itemsGiven}
 use Rattle.laws_writer.specs.SessionWords as words
 
 -- ---- a written number is never empty
@@ -90,7 +90,7 @@ module _ (k : Kind) (p : ℕ) where
   unfolding said filled
   number-said n s e = rw (decimal-filled n, s, e, number-decimal n)
 
-  pub count-said : (n : Option ℕ) → isSum k ≡ false → isCount k ≡ true → said (record { kind = k; place = p; bytes = countBytes n }) ≡ countGiven n
+  pub count-said : (n : Option ℕ) → isSum k ≡ false → isCount k ≡ true → said (record { kind = k; place = p; bytes = itemCountBytes n }) ≡ itemsGiven n
   unfolding said isEmpty
   count-said none s e = refl
   count-said (some n) s e = number-said n s e
@@ -104,6 +104,6 @@ pub no-amount : (a : Option Signed) → isEmpty (amountBytes a) ≡ true → a �
 no-amount none h = refl
 no-amount (some a) h = absurd (false≢true (sym (total-filled (asSum a)) ∙ h))
 
-pub no-count : (n : Option ℕ) → isEmpty (countBytes n) ≡ true → n ≡ none
+pub no-count : (n : Option ℕ) → isEmpty (itemCountBytes n) ≡ true → n ≡ none
 no-count none h = refl
 no-count (some n) h = absurd (false≢true (sym (decimal-filled n) ∙ h))

@@ -24,7 +24,7 @@ use Rattle.rules.proofs.Binds.{from-bind, then-fine, or-fine, fine-same, refuse
 use Rattle.rules.proofs.LineLaws.{records-append}
 use Rattle.rules.proofs.RunLaws.{run-append}
 use Rattle.rules.proofs.Accepted.{step-again}
-use Rattle.laws_writer.specs.SessionWords.{Value, allSaid, codedSaid, recordSaid, recordsSaid, fileSaid, gathered}
+use Rattle.laws_writer.specs.SessionWords.{Value, Told, ofCode, allSaid, codedSaid, recordSaid, recordsSaid, fileSaid, gathered}
 use Rattle.laws_writer.proofs.WalkWritten.{walkAt}
 use Rattle.laws_writer.proofs.LinesWritten.{all-both, Cut, lines-more, cut-more, code-bytes, good-line, in-order, none-longer}
 use Rattle.laws_writer.proofs.Found.{restOf, textKinds, holdsItems, Found}
@@ -88,7 +88,7 @@ order-code cs l ls c h =
     from-bind (coded 0 l) _ c h (λ d first rest.
     rw (← fine-same d c (then-fine (check (among d cs) 6 0) (fine d) c rest)) (or-fine (codeOf l) 5 0 d first))
 
-taken-said : (w : Writer) (r : Record) (c : Code) (fs : List Field) (wanted : List Kind) → Taken w r c fs wanted → recordSaid r ≡ allSaid fs
+taken-said : (w : Writer) (r : Record) (c : Code) (fs : List Field) (wanted : List Kind) → Taken w r c fs wanted → recordSaid r ≡ ofCode c (allSaid fs)
 unfolding recordSaid codedSaid fieldsIn inOrder
 taken-said w [] c fs wanted t = absurd (refused-fine _ c (t .order))
 taken-said w (l ∷ ls) c fs wanted t = rw (order-code (expectedIn (w .phase)) l ls c (t .order), walk-taken t)
@@ -99,7 +99,7 @@ taken-said w (l ∷ ls) c fs wanted t = rw (order-code (expectedIn (w .phase)) l
 pub record Run : Type 0 where
   pub writer : Writer
   pub bytes : Bytes
-  pub told : List (List Value)
+  pub told : List Told
 
 -- with a line more
 abbrev pub extended : Run → Given → List Kind → List Value → Run
@@ -127,7 +127,7 @@ pub record After (r : Run) : Type 0 where
   pub item : wantsItem wanted ≡ true → (wanted ≡ furtherType ∷ []) × (code ≡ accountHeader)
   pub cut : Cut (r .bytes)
   pub size : r .writer .size ≡ length (r .bytes)
-  pub told : r .told ≡ recordsSaid before ++ (allSaid fields ∷ [])
+  pub told : r .told ≡ recordsSaid before ++ (ofCode code (allSaid fields) ∷ [])
 
 records-said : (rs qs : List Record) → recordsSaid (rs ++ qs) ≡ recordsSaid rs ++ recordsSaid qs
 unfolding recordsSaid
@@ -212,7 +212,7 @@ module _ (r : Run) (ready : Ready r) (g : Given) (vs : List Value) (left : List 
       → limitAfter (g .code) longestLine (l .fields 3) ≡ longestLine → magnitudes (r .writer .file .sum ⊕ sumGiven (g .amount)) ≤ most
       → balanced (g .code) (r .writer .account ⊞ ofGiven g) (r .writer .group ⊞ ofGiven g) (r .writer .file ⊞ ofGiven g) (l .fields 3) ≡ fine tt
       → begins continuation (lineAt g) ≡ false → mayFollow (g .code) ≡ expectedIn (phaseAfter (g .code))
-      → (holdsItems (g .code) ≡ true → g .code ≡ accountHeader) → gathered (g .code) (r .told) vs ≡ r .told ++ (vs ∷ [])
+      → (holdsItems (g .code) ≡ true → g .code ≡ accountHeader) → gathered (g .code) (r .told) vs ≡ r .told ++ (ofCode (g .code) vs ∷ [])
       → After (extended r g left vs)
   unfolding entryOf lineOf fileSaid
   new-record turn kinds limit bound balances begin phase item told =

@@ -52,7 +52,7 @@ module _ (calls : List Call) (out : Bytes) where
         summary = refl;
       })
 
-  -- and the fields of each record say what the calls gave: each amount and count the number given, each text the bytes given.
+  -- and record by record, in order, its code and what its fields say are what the calls gave: each amount and count the number given, each text the bytes given.
   pub reads-back : end .refusal .number ≡ 0 → fileSaid file ≡ called before endFile .told
   unfolding called
   reads-back h = rw (end-ends (before .writer) (before .output) h .len) (end-ready .told)

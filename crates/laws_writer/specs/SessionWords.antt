@@ -39,21 +39,30 @@ unfoldable pub allSaid : List Field → List Value
 allSaid [] = []
 allSaid (f ∷ fs) = said f ∷ allSaid fs
 
--- ---- what a reader finds in a file: what the fields of each record say
+-- ---- what a reader finds in a file: the code of each record, and what its fields say
 
-unfoldable pub codedSaid : Option Code → Record → List Value
-codedSaid none r = []
-codedSaid (some c) r = allSaid (fieldsIn c r)
+-- a record's code, none where its first line has none, and what each of its fields says
+pub record Told : Type 0 where
+  pub code : Option Code
+  pub values : List Value
 
-unfoldable pub recordSaid : Record → List Value
-recordSaid [] = []
+-- a record of this code
+abbrev pub ofCode : Code → List Value → Told
+ofCode c vs = record { code = some c; values = vs }
+
+unfoldable pub codedSaid : Option Code → Record → Told
+codedSaid none r = record { code = none; values = [] }
+codedSaid (some c) r = ofCode c (allSaid (fieldsIn c r))
+
+unfoldable pub recordSaid : Record → Told
+recordSaid [] = record { code = none; values = [] }
 recordSaid (l ∷ ls) = codedSaid (codeOf l) (l ∷ ls)
 
-unfoldable pub recordsSaid : List Record → List (List Value)
+unfoldable pub recordsSaid : List Record → List Told
 recordsSaid [] = []
 recordsSaid (r ∷ rs) = recordSaid r ∷ recordsSaid rs
 
-unfoldable pub fileSaid : Bytes → List (List Value)
+unfoldable pub fileSaid : Bytes → List Told
 fileSaid file = recordsSaid (fileRecords file)
 
 -- ---- what a call gives
@@ -66,13 +75,13 @@ abbrev pub amountGiven : Option Signed → Value
 amountGiven none = nothing
 amountGiven (some a) = units (asInteger (asSum a))
 
-abbrev pub countGiven : Option ℕ → Value
-countGiven none = nothing
-countGiven (some n) = number n
+abbrev pub itemsGiven : Option ℕ → Value
+itemsGiven none = nothing
+itemsGiven (some n) = number n
 
 -- type, amount, item count; no funds
 abbrev pub itemGiven : Item → List Value
-itemGiven i = word (i .type) ∷ amountGiven (i .amount) ∷ countGiven (i .count) ∷ nothing ∷ []
+itemGiven i = word (i .type) ∷ amountGiven (i .amount) ∷ itemsGiven (i .itemCount) ∷ nothing ∷ []
 
 -- a trailer's total, count and record count, itself included
 abbrev pub trailerGiven : Summary → ℕ → List Value
@@ -92,21 +101,21 @@ gives w endFile = trailerGiven (w .file) (w .file .groups)
 
 -- ---- calls one after the other
 
--- values at the end of the last record's
-unfoldable pub toLast : List (List Value) → List Value → List (List Value)
-toLast [] vs = vs ∷ []
-toLast (r ∷ []) vs = (r ++ vs) ∷ []
+-- values at the end of the last record's, whose code stays; an 88 before any record would be one of its own
+unfoldable pub toLast : List Told → List Value → List Told
+toLast [] vs = ofCode continuation vs ∷ []
+toLast (r ∷ []) vs = record { code = r .code; values = r .values ++ vs } ∷ []
 toLast (r ∷ q ∷ rs) vs = r ∷ toLast (q ∷ rs) vs
 
--- record by record, with those of a line of this code: an 88 goes on with the last record
-unfoldable pub gathered : Code → List (List Value) → List Value → List (List Value)
-gathered c told vs = cond (sameCode c continuation) (toLast told vs) (told ++ (vs ∷ []))
+-- record by record, with those of a line of this code: an 88 goes on with the last record, any other begins a record of its code
+unfoldable pub gathered : Code → List Told → List Value → List Told
+gathered c told vs = cond (sameCode c continuation) (toLast told vs) (told ++ (ofCode c vs ∷ []))
 
 -- the state, the output slice, and what the calls so far gave, refused ones left out
 pub record Session : Type 0 where
   pub writer : Writer
   pub output : Bytes
-  pub told : List (List Value)
+  pub told : List Told
 
 abbrev pub freshSession : Bytes → Session
 freshSession out = record { writer = freshWriter; output = out; told = [] }

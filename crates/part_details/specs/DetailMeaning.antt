@@ -20,16 +20,16 @@ detailMeant d =
     record {
       refusal = refusalMeant (d .refusal);
       type = d .«type_code»;
-      amountGiven = amountMeant (d .«amount_given») (d .amount);
-      textStart = d .«text_start»;
+      amountGiven = amountMeant (d .«amount_given») (d .amount .0);
+      textStart = d .«text_start» .0;
       textLength = d .«text_length»;
     }
 
 -- its amount is 0 where none is given
 abbrev pub ZeroWithout : DetailAnswer → Type 0
-ZeroWithout d = d .«amount_given» ≡ false → d .amount ≡ 0
+ZeroWithout d = d .«amount_given» ≡ false → d .amount .0 ≡ 0
 
 -- its text stands in the file where it says
 pub record TextStands (file : Bytes) (d : DetailAnswer) (text : Bytes) : Type 0 where
-  pub bytes : take (d .«text_length») (drop (d .«text_start») file) ≡ text
-  pub inside : d .«text_start» + d .«text_length» ≤ length file
+  pub bytes : take (d .«text_length») (drop (d .«text_start» .0) file) ≡ text
+  pub inside : d .«text_start» .0 + d .«text_length» ≤ length file

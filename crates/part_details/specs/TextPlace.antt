@@ -17,4 +17,4 @@ pieceAt p x = cond (just slash (x .bytes)) nothingFound (record { place = p + x 
 -- of the detail from `from` to `to`
 pub record TextIs (file : Bytes) (from to : ℕ) (r : Spot) : Type 0 where
   pub answer : spotMeant file r ≡ pieceAt from (inDetail text (take (to - from) (drop from file)))
-  pub inside : r .start + r .length ≤ length file
+  pub inside : r .start .0 + r .length ≤ length file

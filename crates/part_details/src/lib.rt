@@ -1,5 +1,7 @@
 // A detail by number: its type, its amount and its first text piece, which is a slice of the lent file itself.
 use base_codes::Code;
+use base_quantities::Magnitude;
+use base_quantities::Place;
 use base_refusals::Refusal;
 use find_field::Sought;
 use find_field::Spot;
@@ -18,29 +20,32 @@ pub struct DetailAnswer {
     pub refusal: Refusal,
     pub type_code: u64,
     pub amount_given: bool,
-    pub amount: u64,
-    pub text_start: usize,
+    pub amount: Magnitude,
+    pub text_start: Place,
     pub text_length: usize,
 }
 
 // Where the first text piece of the detail from `from` to `to` starts in the file, and its length; 0 and 0 where there is none.
-fn text_in(file: &[u8], from: usize, to: usize) -> Spot
-    requires { ⌜ (from ≤ to) × (to ≤ length (now file)) ⌝ }
-    ensures { λ r. ⌜ TextIs (now (file .entry)) from to r ⌝ }
+fn text_in(file: &[u8], from: Place, to: Place) -> Spot
+    requires { ⌜ (from .0 ≤ to .0) × (to .0 ≤ length (now file)) ⌝ }
+    ensures { λ r. ⌜ TextIs (now (file .entry)) (from .0) (to .0) r ⌝ }
 {
-    let rec = &file[from..to];
+    let first = from.0;
+    let last = to.0;
+    let rec = &file[first..last];
     let text = find_field::seek(rec, want::first_want(Code::Detail), Sought::Text);
-    let start = text.start;
+    let found = text.start;
+    let start = found.0;
     let end = start + text.length;
     if read_values::is_one_of(&rec[start..end], b'/', b'/') {
         return Spot {
-            start: 0,
+            start: Place(0),
             length: 0,
         };
     }
-    let in_file = from + start;
+    let in_file = first + start;
     Spot {
-        start: in_file,
+        start: Place(in_file),
         length: text.length,
     }
 }
@@ -56,22 +61,25 @@ pub fn detail(file: &[u8], g: u64, a: u64, n: u64) -> DetailAnswer
             refusal,
             type_code: 0,
             amount_given: false,
-            amount: 0,
-            text_start: 0,
+            amount: Magnitude(0),
+            text_start: Place(0),
             text_length: 0,
         };
     }
-    let from = part.start;
+    let start = part.start;
+    let from = start.0;
     let to = from + part.length;
     let rec = &file[from..to];
     let amount = find_field::amount_of(rec);
-    let text = text_in(file, from, to);
+    let text = text_in(file, start, Place(to));
+    let magnitude = amount.amount;
+    let text_start = text.start;
     DetailAnswer {
         refusal,
         type_code: find_field::type_of(rec),
         amount_given: amount.given,
-        amount: amount.amount,
-        text_start: text.start,
+        amount: magnitude,
+        text_start,
         text_length: text.length,
     }
 }
@@ -81,7 +89,8 @@ pub fn detail_text(file: &[u8], g: u64, a: u64, n: u64) -> &[u8]
     ensures { λ r. ⌜ now r ≡ orElse (rules.detailAt (now (file .entry)) g a n) noDetail .textBytes ⌝ }
 {
     let found = detail(file, g, a, n);
-    let from = found.text_start;
+    let start = found.text_start;
+    let from = start.0;
     let to = from + found.text_length;
     &file[from..to]
 }

@@ -10,6 +10,7 @@ use Rattle.rules.specs.Lines.{Code, Record, recordBytes, fileRecords}
 use Rattle.rules.specs.Parts.{cutAt, Placed, Parts, partFrom, partIn, partBytes, sizeOfAll}
 use Rattle.rules.specs.Answers.{PartAnswer, partAnswer}
 use Rattle.rules.proofs.Binds.{refused-fine}
+use Rattle.part_groups.specs.PartMeaning.{bytesAt}
 use Rattle.part_groups.specs.PartsEnclosed.{Envelope, Finds, Stands, Numbered, Outer}
 
 -- ---- places counted from p bytes before
@@ -121,12 +122,7 @@ module _ (c d : Code) (file : Bytes) (n : ℕ) (outer : PartAnswer) (inner : Par
 
 pub named-slice : (file : Bytes) (o : Outcome Placed) (q : PartAnswer) → q ≡ partAnswer o
     → ((x : Placed) → o ≡ fine x → take (length (recordBytes (x .records))) (drop (x .place) file) ≡ recordBytes (x .records))
-    → take (q .start + q .len - q .start) (drop (q .start) file) ≡ partBytes o
+    → bytesAt file q ≡ partBytes o
 unfolding partAnswer partBytes
-named-slice file (refused why) q e s =
-    let size : q .start + q .len - q .start ≡ 0 = omega (arith, ap (λ (a : PartAnswer). a .len) e) in
-    rw size
-named-slice file (fine x) q e s =
-    let at : q .start ≡ x .place = ap (λ (a : PartAnswer). a .start) e in
-    let size : q .start + q .len - q .start ≡ length (recordBytes (x .records)) = omega (arith, ap (λ (a : PartAnswer). a .len) e) in
-    rw (size, at) (s x refl)
+named-slice file (refused why) q e s = rw (ap (λ (a : PartAnswer). a .len) e)
+named-slice file (fine x) q e s = rw (ap (λ (a : PartAnswer). a .len) e, ap (λ (a : PartAnswer). a .start) e) (s x refl)

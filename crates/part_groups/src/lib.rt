@@ -12,13 +12,13 @@ ghost use Rattle.rules.specs.Parts as rules;
 ghost use Rattle.rules.specs.Answers.{partAnswer, groupPart, accountPart};
 ghost use Rattle.base_refusals.specs.RefusalMeaning.{refusalMeant};
 ghost use Rattle.base_codes.specs.CodeMeaning.{codeMeant};
-ghost use Rattle.part_groups.specs.PartMeaning.{partMeant, Inside};
+ghost use Rattle.part_groups.specs.PartMeaning.{partMeant, Inside, bytesAt};
 ghost use Rattle.part_groups.specs.PartsEnclosed.{Finds, FindsWithin};
 
 // The refusal, by number 0 at place 0 where there is none; and where the part starts in the file, and its length.
 pub struct Part {
     pub refusal: Refusal,
-    pub start: usize,
+    pub start: Place,
     pub length: usize,
 }
 
@@ -28,7 +28,7 @@ fn no_part(why: Refusal) -> Part
 {
     Part {
         refusal: why,
-        start: 0,
+        start: Place(0),
         length: 0,
     }
 }
@@ -48,7 +48,7 @@ fn nth_part(s: &[u8], opening: Code, closing: Code, n: u64) -> Part
                     number: 0,
                     place: Place(0),
                 },
-                start: at,
+                start: Place(at),
                 length,
             };
         }
@@ -63,27 +63,29 @@ fn nth_part(s: &[u8], opening: Code, closing: Code, n: u64) -> Part
 
 // The same in a part of the file: the middle of the file is handed on, and the place answered there is counted from the file's start.
 fn part_within(file: &[u8], outer: Part, opening: Code, closing: Code, n: u64) -> Part
-    requires { ⌜ outer .start + outer .length ≤ length (now file) ⌝ }
+    requires { ⌜ outer .start .0 + outer .length ≤ length (now file) ⌝ }
     ensures { λ r. ⌜ FindsWithin (codeMeant opening) (codeMeant closing) (now (file .entry)) (partMeant outer) n (partMeant r) ⌝ }
 {
     let why = outer.refusal;
     if why.number != 0 {
         return no_part(why);
     }
-    let from = outer.start;
+    let begin = outer.start;
+    let from = begin.0;
     let to = from + outer.length;
     let inner = nth_part(&file[from..to], opening, closing, n);
     let missing = inner.refusal;
     if missing.number != 0 {
         return inner;
     }
-    let start = from + inner.start;
+    let within = inner.start;
+    let start = from + within.0;
     Part {
         refusal: Refusal {
             number: 0,
             place: Place(0),
         },
-        start,
+        start: Place(start),
         length: inner.length,
     }
 }
@@ -124,24 +126,29 @@ pub fn find_detail(file: &[u8], g: u64, a: u64, n: u64) -> Part
     )
 }
 
+// The bytes of a part that ends within the file.
+fn bytes_of(file: &[u8], part: Part) -> &[u8]
+    requires { ⌜ Inside (now file) (partMeant part) ⌝ }
+    ensures { λ r. ⌜ now r ≡ bytesAt (now (file .entry)) (partMeant part) ⌝ }
+{
+    let start = part.start;
+    let from = start.0;
+    let to = from + part.length;
+    &file[from..to]
+}
+
 // The group's part of the file; empty when refused.
 pub fn group(file: &[u8], n: u64) -> &[u8]
     ensures { λ r. ⌜ now r ≡ rules.partBytes (rules.groupAt (now (file .entry)) n) ⌝ }
 {
-    let part = find_group(file, n);
-    let from = part.start;
-    let to = from + part.length;
-    &file[from..to]
+    bytes_of(file, find_group(file, n))
 }
 
 // The account's part of the file; empty when refused.
 pub fn account(file: &[u8], g: u64, n: u64) -> &[u8]
     ensures { λ r. ⌜ now r ≡ rules.partBytes (rules.accountAt (now (file .entry)) g n) ⌝ }
 {
-    let part = find_account(file, g, n);
-    let from = part.start;
-    let to = from + part.length;
-    &file[from..to]
+    bytes_of(file, find_account(file, g, n))
 }
 
 // Why there is no such group.

@@ -24,7 +24,7 @@ use Rattle.read_file.specs.declared.Judged.the-variants as judged
 -- the state after the last record, and where that starts
 module _ (file : Bytes) (s : State) (last : ℕ) (some : 0 < length file) (short : length file ≤ longestFile) (held : Held s) (few : s .file .records .0 ≤ longestFile)
     (runs : runFrom 0 start file ≡ fine (stateMeant s)) (place : lastFrom 0 0 file ≡ last) where
-  good : judge file ≡ fine (summaryMeant (s .file)) → IsGood (record { summary = s .file; limit = s .limit; last = last }) file
+  good : judge file ≡ fine (summaryMeant (s .file)) → IsGood (record { summary = s .file; limit = s .limit; last = record { 0 = last } }) file
   unfolding runFrom lastFrom fileRecords
   good accepts =
       let d = decomposed file (summaryMeant (s .file)) accepts in

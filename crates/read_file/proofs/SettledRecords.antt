@@ -2,46 +2,29 @@
 use Prim.Native.Nat.{ℕ}
 use mathlib.Core.Path.{_≡_, refl, ap, _∙_}
 use mathlib.Core.Bool.{Bool, true, false, cond, not}
-use mathlib.Core.List.{List, [], _∷_}
+use mathlib.Core.List.{List}
 use lib.Dec.{eqb}
 use lib.ListN.{length}
-use Rattle.rules.specs.Bytes.{Bytes, isEmpty, plus, minus}
+use Rattle.rules.specs.Bytes.{isEmpty}
 use Rattle.rules.specs.Outcome.{Outcome, refused, fine, _>>=_, _>>_, check}
-use Rattle.rules.specs.Numbers.{Signed, signed, asSum, equals, magnitudes, number, numberFrom, withoutSign}
+use Rattle.rules.specs.Numbers.{asSum, equals, magnitudes, number}
 use Rattle.rules.specs.Lines.{Code, fileHeader, groupHeader, accountHeader, detail, accountTrailer, groupTrailer, fileTrailer, continuation, sameCode, Record}
 use Rattle.rules.specs.Grammar.{total, count, records, physicalLength}
 use Rattle.rules.specs.Records.{Field, the}
 use Rattle.rules.specs.Totals.{Summary, _⊞_, ofRecord, balanced, rightTotal, rightCount, rightRecords, sumWithin}
 use Rattle.rules.specs.Verdict.{State, limitGiven, limitAfter, ownLines, stateAfter, settled}
-use Rattle.rules.proofs.Tests.{Known, holds, fails, known, true-eq}
+use Rattle.rules.proofs.Tests.{Known, holds, fails, known}
 use Rattle.read_kept.specs.declared.Kept.{Kept}
-use Rattle.read_kept.specs.declared.Stated.{Stated}
-use Rattle.read_kept.specs.KeptOfFields.{StatedIs, KeptOf, overOf}
+use Rattle.read_kept.specs.KeptOfFields.{KeptOf, overOf}
 use Rattle.read_trailers.specs.TrailerChecks.{withinK, totalK, countK, recordsK, accountK, trailerK, balancedK}
 use Rattle.read_file.specs.RecordSteps.{limitK, thisK, nextK, settledK}
-
--- a sign adds nothing to a number
-sign-step : (b : ℕ) (bs : Bytes) → Known (eqb b plus) → Known (eqb b minus) → number (withoutSign (b ∷ bs)) ≡ number (b ∷ bs)
-unfolding withoutSign numberFrom
-sign-step b bs (holds e) m = rw e (rw (true-eq b plus e))
-sign-step b bs (fails e) (holds f) = rw (e, f) (rw (true-eq b minus f))
-sign-step b bs (fails e) (fails f) = rw (e, f)
-
-number-sign : (bs : Bytes) → number (withoutSign bs) ≡ number bs
-unfolding withoutSign
-number-sign [] = refl
-number-sign (b ∷ bs) = sign-step b bs (known (eqb b plus)) (known (eqb b minus))
-
-value-is : (x : Stated) (f : Field) → StatedIs x f → x .value ≡ number (f .bytes)
-unfolding signed
-value-is x f i = ap (λ (a : Signed). a .magnitude) (i .amount) ∙ number-sign (f .bytes)
 
 -- what is kept of these fields, after records with magnitudes m
 module _ (m : ℕ) (fs : List Field) (k : Kept) (is : KeptOf m fs k) where
   -- ---- L
-  given-right : (limit : ℕ) → cond (k .length .given) (k .length .value) limit ≡ limitGiven limit fs
+  given-right : (limit : ℕ) → cond (k .«length_given») (k .length) limit ≡ limitGiven limit fs
   unfolding limitGiven
-  given-right limit = rw (is .length .given, value-is (k .length) (the physicalLength fs) (is .length)) (by-empty (isEmpty (the physicalLength fs .bytes)))
+  given-right limit = rw (ap (λ x. x .0) (is .length), ap (λ x. x .1) (is .length)) (by-empty (isEmpty (the physicalLength fs .bytes)))
     where
       by-empty : (t : Bool) → cond (not t) (number (the physicalLength fs .bytes)) limit ≡ cond t limit (number (the physicalLength fs .bytes))
       by-empty true = refl
@@ -54,19 +37,19 @@ module _ (m : ℕ) (fs : List Field) (k : Kept) (is : KeptOf m fs k) where
   -- ---- 14, 11, 12, 13
   within-right : (s : Summary) → withinK s k ≡ sumWithin s fs
   unfolding withinK sumWithin
-  within-right s = rw (is .total .place)
+  within-right s = rw (ap (λ x. x .0) (is .total))
 
   total-right : (s : Summary) → totalK s k ≡ rightTotal s fs
   unfolding totalK rightTotal
-  total-right s = rw (is .total .place) (ap (λ (a : Signed). check (equals (s .sum) (asSum a)) 11 (the total fs .place)) (is .total .amount))
+  total-right s = ap (λ x. check (equals (s .sum) (asSum (x .1))) 11 (x .0)) (is .total)
 
   count-right : (n : ℕ) → countK n k ≡ rightCount n fs
   unfolding countK rightCount
-  count-right n = rw (is .count .place, value-is (k .count) (the count fs) (is .count))
+  count-right n = ap (λ x. check (eqb n (x .1)) 12 (x .0)) (is .count)
 
   records-right : (s : Summary) → recordsK s k ≡ rightRecords s fs
   unfolding recordsK rightRecords
-  records-right s = rw (is .records .place, value-is (k .records) (the records fs) (is .records))
+  records-right s = ap (λ x. check (eqb (s .records) (x .1)) 13 (x .0)) (is .records)
 
   trailer-right : (s : Summary) (n : ℕ) → trailerK s n k ≡ (sumWithin s fs >> (rightTotal s fs >> (rightCount n fs >> rightRecords s fs)))
   unfolding trailerK

@@ -77,9 +77,9 @@ module _ (c : Code) (a : Sum) (n : ℕ) (t : Summary) (e : summaryMeant t ≡ ad
 pub record Both (a b r : Summary) : Type 0 where
   pub pluses : r .total .0 ≡ a .total .0 + b .total .0
   pub minuses : r .total .1 ≡ a .total .1 + b .total .1
-  pub groups : r .groups ≡ a .groups + b .groups
-  pub accounts : r .accounts ≡ a .accounts + b .accounts
-  pub details : r .details ≡ a .details + b .details
+  pub groups : r .groups .0 ≡ a .groups .0 + b .groups .0
+  pub accounts : r .accounts .0 ≡ a .accounts .0 + b .accounts .0
+  pub details : r .details .0 ≡ a .details .0 + b .details .0
   pub records : r .records .0 ≡ a .records .0 + b .records .0
 
 both : (a b r : Summary) → summaryMeant r ≡ summaryMeant a ⊞ summaryMeant b → Both a b r

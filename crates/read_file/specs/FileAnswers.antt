@@ -92,7 +92,7 @@ atEnd s n = do
   fine (s .file)
 
 abbrev pub EndIs : Judged → State → ℕ → ℕ → Type 0
-EndIs (judged.Accepted g) s last n = (atEnd (stateMeant s) n ≡ fine (summaryMeant (s .file))) × (g ≡ record { summary = s .file; limit = s .limit; last = last })
+EndIs (judged.Accepted g) s last n = (atEnd (stateMeant s) n ≡ fine (summaryMeant (s .file))) × (g ≡ record { summary = s .file; limit = s .limit; last = record { 0 = last } })
 EndIs (judged.Refused why) s last n = atEnd (stateMeant s) n ≡ refused (refusalMeant why)
 
 -- ---- a file
@@ -101,8 +101,8 @@ EndIs (judged.Refused why) s last n = atEnd (stateMeant s) n ≡ refused (refusa
 pub record IsGood (g : GoodFile) (file : Bytes) : Type 0 where
   pub accepts : judge file ≡ fine (summaryMeant (g .summary))
   pub limit : g .limit ≡ limitOf (headerIn file)
-  pub last : g .last ≡ sizeOfAll (headerIn file ++ concat (groupsIn file))
-  pub groups : g .summary .groups ≤ longestFile
+  pub last : g .last .0 ≡ sizeOfAll (headerIn file ++ concat (groupsIn file))
+  pub groups : g .summary .groups .0 ≤ longestFile
   pub records : g .summary .records .0 ≤ longestFile
 
 abbrev pub JudgedIs : Judged → Bytes → Type 0

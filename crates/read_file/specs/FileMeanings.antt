@@ -34,16 +34,16 @@ verdictMeant (Refused why) = refused (refusalMeant why)
 pub record Below (a b : Summary) : Type 0 where
   pub pluses : a .total .0 ≤ b .total .0
   pub minuses : a .total .1 ≤ b .total .1
-  pub groups : a .groups ≤ b .groups
-  pub accounts : a .accounts ≤ b .accounts
-  pub details : a .details ≤ b .details
+  pub groups : a .groups .0 ≤ b .groups .0
+  pub accounts : a .accounts .0 ≤ b .accounts .0
+  pub details : a .details .0 ≤ b .details .0
   pub records : a .records .0 ≤ b .records .0
 
 -- no more groups, accounts and details than lines
 pub record Counted (s : Summary) : Type 0 where
-  pub groups : s .groups ≤ s .records .0
-  pub accounts : s .accounts ≤ s .records .0
-  pub details : s .details ≤ s .records .0
+  pub groups : s .groups .0 ≤ s .records .0
+  pub accounts : s .accounts .0 ≤ s .records .0
+  pub details : s .details .0 ≤ s .records .0
 
 -- between two records: the magnitudes are within the bound, and the open group and account are parts of the file
 pub record Held (s : State) : Type 0 where

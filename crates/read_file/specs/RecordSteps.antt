@@ -21,7 +21,7 @@ use Rattle.read_walk.specs.WalkKept.{walkFrom}
 
 -- the limit after a record of this code: only a 01 gives one
 unfoldable pub limitK : Code → ℕ → Kept → ℕ
-limitK c limit k = cond (sameCode c fileHeader) (cond (k .length .given) (k .length .value) limit) limit
+limitK c limit k = cond (sameCode c fileHeader) (cond (k .«length_given») (k .length) limit) limit
 
 -- what a record of this code and so many lines adds
 unfoldable pub thisK : Code → ℕ → Kept → Summary

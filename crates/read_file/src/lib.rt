@@ -26,7 +26,7 @@ pub enum Verdict {
 pub struct GoodFile {
     pub summary: Summary,
     pub limit: usize,
-    pub last: usize,
+    pub last: Place,
 }
 
 // What is known of an accepted file, or a refusal with its place in the file.
@@ -36,8 +36,8 @@ pub enum Judged {
 }
 
 // After the last record, which starts at `last`, of a file of this length: 6, where the 99 was not there.
-fn at_end(st: State, last: usize, length: usize) -> Judged
-    ensures { λ r. ⌜ EndIs r st last length ⌝ }
+fn at_end(st: State, last: Place, length: usize) -> Judged
+    ensures { λ r. ⌜ EndIs r st (last .0) length ⌝ }
 {
     let expected = st.expected;
     if read_order::has_ended(expected) {
@@ -75,7 +75,7 @@ pub fn judge_file(file: &[u8]) -> Judged
     let mut at: usize = 0;
     loop {
         match record::step(st, &file[at..]) {
-            Stepped::End => return at_end(st, last, file.len()),
+            Stepped::End => return at_end(st, Place(last), file.len()),
             Stepped::Refused(why) => {
                 let in_record = why.place;
                 let place = at + in_record.0;

@@ -1,6 +1,7 @@
 // One record, in document 01's order: 3, 4, 5; 6; 7, 8, 9; the header's own lines against L; 10; 14, 11, 12, 13.
 use crate::state::State;
 use base_codes::Code;
+use base_quantities::Magnitude;
 use base_quantities::Place;
 use base_quantities::Records;
 use base_refusals::AMOUNTS_TOO_LARGE;
@@ -42,10 +43,9 @@ enum Settled {
 fn limit_after(code: Code, limit: usize, kept: Kept) -> usize
     ensures { λ r. ⌜ r ≡ limitK (codeMeant code) limit kept ⌝ }
 {
-    let length = kept.length;
     if base_codes::same_code(code, Code::FileHeader) {
-        if length.given {
-            return length.value as usize;
+        if kept.length_given {
+            return kept.length;
         }
         return limit;
     }
@@ -122,7 +122,8 @@ pub(crate) fn step(st: State, rest: &[u8]) -> Stepped
             let file = st.file;
             let total = file.total;
             let rec = &rest[0..size];
-            match read_walk::walk_record(rest, size, want::first_want(code), total.0 + total.1) {
+            let before = Magnitude(total.0 + total.1);
+            match read_walk::walk_record(rest, size, want::first_want(code), before) {
                 Walked::Refused(why) => return Stepped::Refused(why),
                 Walked::Done(kept) => match settle(st, rec, code, records, kept) {
                     Settled::Refused(why) => return Stepped::Refused(why),

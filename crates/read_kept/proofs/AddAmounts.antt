@@ -12,9 +12,8 @@ use Rattle.base_quantities.specs.QuantityMeanings.{sumMeant, unitsOf, wrappedSu
 use Rattle.base_quantities.specs.declared.Units.{Units}
 use Rattle.base_quantities.proofs.UnitsLaws.{sum-not-wrapped}
 use Rattle.read_wanted.specs.Wants.{Purpose, forAmount, forTotal, forCount, forRecords, forLength, forNothing, samePurpose}
-use Rattle.read_kept.specs.declared.Stated.{Stated}
 use Rattle.read_kept.specs.declared.Kept.{Kept}
-use Rattle.read_kept.specs.KeepFields.{place, statedWith, Amounts, addTo, keepWith, keepRead}
+use Rattle.read_kept.specs.KeepFields.{place, Amounts, addTo, keepWith, keepRead}
 
 -- ---- the largest
 
@@ -63,17 +62,6 @@ module _ (m : ℕ) (x : Amounts) (p : ℕ) (a : Signed) where
           let sum : sumMeant u ≡ sumMeant (x .sum) ⊕ asSum a =
           is-u ∙ ap (λ (b : Sum). wrappedSum (sumMeant (x .sum) ⊕ b)) is-v ∙ sum-not-wrapped (sumMeant (x .sum)) (asSum a) (omega (arith, amount-magnitude a)) (omega (arith, amount-magnitude a)) in
           ap (λ (b : Sum). record { sum = unitsOf b; over = x .over; past = x .past }) sum ∙ sym add-fits
-
--- ---- what a trailer states
-
-module _ (old : Stated) (p : ℕ) (g : Bool) (a : Signed) where
-  pub stated-old : old .seen ≡ true → old ≡ statedWith old p g a
-  unfolding statedWith
-  stated-old h = rw h
-
-  pub stated-new : old .seen ≡ false → record { seen = true; given = g; at = place p; negative = a .negative; value = a .magnitude } ≡ statedWith old p g a
-  unfolding statedWith
-  stated-new h = rw h
 
 -- ---- a field that is kept for nothing
 

@@ -1,6 +1,9 @@
 // What a walk keeps of a record's fields for the checks that come after it: 10, a trailer's 11 to 14, and L.
 use base_limits::MOST;
+use base_quantities::Count;
+use base_quantities::Magnitude;
 use base_quantities::Place;
+use base_quantities::Records;
 use base_quantities::Units;
 use read_wanted::want::Keep;
 use read_wanted::want::Want;
@@ -8,34 +11,49 @@ ghost use mathlib.Core.Path.{_≡_};
 ghost use mathlib.Core.Bool.{not};
 ghost use Prim.Native.Nat.{_+_};
 ghost use lib.Dec.{ltb};
-ghost use Rattle.rules.specs.Bytes.{isEmpty};
 ghost use Rattle.rules.specs.Numbers.{magnitudes};
 ghost use Rattle.rules.specs.Limits.{most};
 ghost use Rattle.rules.specs.Grammar.{nextKind};
 ghost use Rattle.base_quantities.specs.QuantityMeanings.{sumMeant};
 ghost use Rattle.base_digits.specs.NumbersRead.{amountIn};
-ghost use Rattle.read_wanted.specs.Wants.{wantedOf, forNothing, samePurpose, purpose};
-ghost use Rattle.read_kept.specs.KeepFields.{notStated, statedWith, nothingKept, addedTo, keepRead};
+ghost use Rattle.read_wanted.specs.Wants.{wantedOf, forTotal, forCount, forRecords, forLength, forNothing, samePurpose, purpose};
+ghost use Rattle.read_kept.specs.KeepFields.{nothingKept, addedTo, keepRead};
 
-// A trailer's figure, or L. seen: its field was there; given: it was not empty. Here and below the bools stand last, for speed: copies have no gaps.
-pub struct Stated {
+// A trailer's total, less its sign, and where it stands.
+pub struct StatedTotal {
     pub at: Place,
-    pub value: u64,
-    pub seen: bool,
-    pub given: bool,
-    pub negative: bool,
+    pub magnitude: Magnitude,
 }
 
-// before: the magnitudes of the records before; sum: of this record's amounts; over: one of them passed the largest, the first at `past`.
+// A trailer's count of accounts or groups, and where it stands.
+pub struct StatedCount {
+    pub at: Place,
+    pub count: Count,
+}
+
+// A trailer's record count, and where it stands.
+pub struct StatedRecords {
+    pub at: Place,
+    pub records: Records,
+}
+
+// before: the magnitudes of the records before; sum: of this record's amounts; over: one of them passed the largest, the first at `past`; length: L.
+// seen: the field was there; given: it was not empty. The flags stand together and last, for speed: copies have no gaps.
 pub struct Kept {
-    pub before: u64,
+    pub before: Magnitude,
     pub sum: Units,
     pub past: Place,
-    pub total: Stated,
-    pub count: Stated,
-    pub records: Stated,
-    pub length: Stated,
+    pub total: StatedTotal,
+    pub count: StatedCount,
+    pub records: StatedRecords,
+    pub length: usize,
     pub over: bool,
+    pub total_seen: bool,
+    pub total_negative: bool,
+    pub count_seen: bool,
+    pub records_seen: bool,
+    pub length_seen: bool,
+    pub length_given: bool,
 }
 
 // The next field is kept for something.
@@ -52,71 +70,55 @@ pub fn is_kept(want: Want) -> bool
     }
 }
 
-impl Stated {
-    // No field yet.
-    fn none() -> Stated
-        ensures { λ r. ⌜ r ≡ notStated ⌝ }
-    {
-        Stated {
-            seen: false,
-            given: false,
-            at: Place(0),
-            negative: false,
-            value: 0,
-        }
-    }
-
-    // The figure that a field gives, unless one was there before it.
-    fn or_first(self, at: Place, f: &[u8]) -> Stated
-        ensures { λ r. ⌜ r ≡ statedWith self (at .0) (not (isEmpty (now (f .entry)))) (amountIn (now (f .entry))) ⌝ }
-    {
-        if self.seen {
-            return self;
-        }
-        let a = base_digits::amount_in(f);
-        Stated {
-            seen: true,
-            given: !read_values::is_empty(f),
-            at,
-            negative: a.negative,
-            value: a.magnitude,
-        }
-    }
-}
-
 impl Kept {
     // Nothing is kept yet, after records with these magnitudes.
-    pub fn none(before: u64) -> Kept
-        ensures { λ r. ⌜ r ≡ nothingKept before ⌝ }
+    pub fn none(before: Magnitude) -> Kept
+        ensures { λ r. ⌜ r ≡ nothingKept (before .0) ⌝ }
     {
         Kept {
             before,
             sum: Units(0, 0),
-            over: false,
             past: Place(0),
-            total: Stated::none(),
-            count: Stated::none(),
-            records: Stated::none(),
-            length: Stated::none(),
+            total: StatedTotal {
+                at: Place(0),
+                magnitude: Magnitude(0),
+            },
+            count: StatedCount {
+                at: Place(0),
+                count: Count(0),
+            },
+            records: StatedRecords {
+                at: Place(0),
+                records: Records(0),
+            },
+            length: 0,
+            over: false,
+            total_seen: false,
+            total_negative: false,
+            count_seen: false,
+            records_seen: false,
+            length_seen: false,
+            length_given: false,
         }
     }
 
     // The magnitudes with n more pass the largest.
-    fn passes(self, n: u64) -> bool
-        ensures { λ r. ⌜ r ≡ ltb most (self .before + magnitudes (sumMeant (self .sum)) + n) ⌝ }
+    fn passes(self, n: Magnitude) -> bool
+        ensures { λ r. ⌜ r ≡ ltb most (self .before .0 + magnitudes (sumMeant (self .sum)) + n .0) ⌝ }
     {
         let sum = self.sum;
-        if MOST < self.before {
+        let before = self.before;
+        if MOST < before.0 {
             return true;
         }
-        let room = MOST - self.before;
+        let room = MOST - before.0;
         if room < sum.0 {
             return true;
         }
         if room - sum.0 < sum.1 {
             return true;
         }
-        room - sum.0 - sum.1 < n
+        room - sum.0 - sum.1 < n.0
     }
 
     // With an amount more, unless it or one before it passes the largest.
@@ -139,42 +141,84 @@ impl Kept {
         kept
     }
 
+    // With a trailer's total, unless one was there before it.
+    fn keep_total(self, at: Place, f: &[u8]) -> Kept
+        ensures { λ r. ⌜ r ≡ keepRead forTotal self (at .0) (now (f .entry)) ⌝ }
+    {
+        if self.total_seen {
+            return self;
+        }
+        let mut kept = self;
+        let a = base_digits::amount_in(f);
+        let magnitude = a.magnitude;
+        let total = StatedTotal { at, magnitude };
+        kept.total = total;
+        kept.total_negative = a.negative;
+        kept.total_seen = true;
+        kept
+    }
+
+    // With a trailer's count of accounts or groups, unless one was there before it.
+    fn keep_count(self, at: Place, f: &[u8]) -> Kept
+        ensures { λ r. ⌜ r ≡ keepRead forCount self (at .0) (now (f .entry)) ⌝ }
+    {
+        if self.count_seen {
+            return self;
+        }
+        let mut kept = self;
+        let n = base_digits::value(f);
+        let count = StatedCount {
+            at,
+            count: Count(n),
+        };
+        kept.count = count;
+        kept.count_seen = true;
+        kept
+    }
+
+    // With a trailer's record count, unless one was there before it.
+    fn keep_records(self, at: Place, f: &[u8]) -> Kept
+        ensures { λ r. ⌜ r ≡ keepRead forRecords self (at .0) (now (f .entry)) ⌝ }
+    {
+        if self.records_seen {
+            return self;
+        }
+        let mut kept = self;
+        let n = base_digits::value(f);
+        let records = StatedRecords {
+            at,
+            records: Records(n),
+        };
+        kept.records = records;
+        kept.records_seen = true;
+        kept
+    }
+
+    // With L, unless it was there before.
+    fn keep_length(self, f: &[u8]) -> Kept
+        ensures { λ r. ⌜ r ≡ keepRead forLength self 0 (now (f .entry)) ⌝ }
+    {
+        if self.length_seen {
+            return self;
+        }
+        let mut kept = self;
+        kept.length = base_digits::value(f) as usize;
+        kept.length_given = !read_values::is_empty(f);
+        kept.length_seen = true;
+        kept
+    }
+
     // With a field that is the first of what is wanted, kept for what it is needed for.
     pub fn keep(self, want: Want, at: Place, f: &[u8]) -> Kept
         ensures { λ r. ⌜ r ≡ keepRead (purpose (nextKind (wantedOf want))) self (at .0) (now (f .entry)) ⌝ }
     {
-        let mut kept = self;
         match read_wanted::want::kept_for(want) {
-            Keep::Nothing => {
-                return self;
-            }
-            Keep::Amount => {
-                return self.add_amount(at, f);
-            }
-            Keep::Total => {
-                let old = self.total;
-                let figure = old.or_first(at, f);
-                kept.total = figure;
-                return kept;
-            }
-            Keep::Count => {
-                let old = self.count;
-                let figure = old.or_first(at, f);
-                kept.count = figure;
-                return kept;
-            }
-            Keep::Records => {
-                let old = self.records;
-                let figure = old.or_first(at, f);
-                kept.records = figure;
-                return kept;
-            }
-            Keep::Length => {
-                let old = self.length;
-                let figure = old.or_first(at, f);
-                kept.length = figure;
-                return kept;
-            }
+            Keep::Nothing => self,
+            Keep::Amount => self.add_amount(at, f),
+            Keep::Total => self.keep_total(at, f),
+            Keep::Count => self.keep_count(at, f),
+            Keep::Records => self.keep_records(at, f),
+            Keep::Length => self.keep_length(f),
         }
     }
 }

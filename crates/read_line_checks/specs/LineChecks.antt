@@ -31,7 +31,7 @@ placeWithin (checked.Refused why) n = why .place .0 ≤ n
 -- 3, 4, 5 of the line that starts at p, with these bytes from there on: refused; or its code, and the place after it
 abbrev pub LineIs : GoodLine → ℕ → ℕ → Bytes → Type 0
 LineIs (good.Refused why) p limit xs = (goodLine p limit (firstLine xs) ≡ refused (refusalMeant why)) × (why .place .0 ≤ p + length xs)
-LineIs (good.Good c n) p limit xs = (goodLine p limit (firstLine xs) ≡ fine (codeMeant c)) × (n ≡ p + lineLen xs)
+LineIs (good.Good c n) p limit xs = (goodLine p limit (firstLine xs) ≡ fine (codeMeant c)) × (n .0 ≡ p + lineLen xs)
 
 -- 3, 4, 5 of each line of the first record: refused
 pub record Stopped (limit : ℕ) (s : Bytes) (why : Refusal) : Type 0 where

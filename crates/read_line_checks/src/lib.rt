@@ -23,7 +23,7 @@ pub enum Checked {
 // A line's code and the place after the line, or a refusal.
 enum GoodLine {
     Refused(Refusal),
-    Good(Code, usize),
+    Good(Code, Place),
 }
 
 // A record's code, how many lines it has, and how many bytes; a refusal; or no record is left.
@@ -33,11 +33,12 @@ pub enum Scanned {
     Record(Code, Records, usize),
 }
 
-// 3, 4, 5 of the line that starts at `at`.
-fn good_line(s: &[u8], at: usize, limit: usize) -> GoodLine
-    requires { ⌜ at < length (now s) ⌝ }
-    ensures { λ r. ⌜ LineIs r at limit (drop at (now (s .entry))) ⌝ }
+// 3, 4, 5 of the line that starts there.
+fn good_line(s: &[u8], start: Place, limit: usize) -> GoodLine
+    requires { ⌜ start .0 < length (now s) ⌝ }
+    ensures { λ r. ⌜ LineIs r (start .0) limit (drop (start .0) (now (s .entry))) ⌝ }
 {
+    let at = start.0;
     let i = read_lines::scan::plain_end(s, at, b'~');
     let e = read_lines::body_end(s, i);
     if limit < e - at {
@@ -57,21 +58,21 @@ fn good_line(s: &[u8], at: usize, limit: usize) -> GoodLine
             number: NO_RECORD_CODE,
             place: Place(at),
         }),
-        Coded::With(code) => GoodLine::Good(code, e + read_lines::end_len(s, e)),
+        Coded::With(code) => GoodLine::Good(code, Place(e + read_lines::end_len(s, e))),
     }
 }
 
 // 3, 4, 5 of the 88 lines from `next` on, after a good first line of this code.
-fn scan_further(s: &[u8], limit: usize, code: Code, next: usize) -> Scanned
+fn scan_further(s: &[u8], limit: usize, code: Code, next: Place) -> Scanned
     requires { ⌜ (0 < length (now s)) × LineIs (GoodLine.Good code next) 0 limit (now s) ⌝ }
     ensures { λ r. ⌜ ScanIs r limit (now (s .entry)) ⌝ }
 {
-    let mut at = next;
+    let mut at = next.0;
     let mut n: u64 = 1;
     while read_lines::begins_with(s, at, b'8', b'8') {
-        match good_line(s, at, limit) {
+        match good_line(s, Place(at), limit) {
             GoodLine::Refused(why) => return Scanned::Refused(why),
-            GoodLine::Good(_, after) => at = after,
+            GoodLine::Good(_, after) => at = after.0,
         }
         n += 1;
     }
@@ -85,7 +86,7 @@ pub fn scan_record(s: &[u8], limit: usize) -> Scanned
     if s.len() == 0 {
         return Scanned::End;
     }
-    match good_line(s, 0, limit) {
+    match good_line(s, Place(0), limit) {
         GoodLine::Refused(why) => Scanned::Refused(why),
         GoodLine::Good(code, next) => scan_further(s, limit, code, next),
     }

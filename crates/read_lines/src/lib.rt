@@ -1,5 +1,6 @@
 // Lines and records of a file: where they end, and a line's code. `scan` finds the first byte outside a range, block by block.
 use base_codes::Code;
+use base_quantities::Place;
 ghost use mathlib.Core.Path.{_≡_};
 ghost use mathlib.Core.List.{[], _∷_};
 ghost use Prim.Native.Nat.{_+_, _-_, _≤_};
@@ -54,15 +55,16 @@ pub fn body_end(s: &[u8], at: usize) -> usize
     i
 }
 
-// Where the line that starts at `at` ends among the first `size` bytes; after them more bytes help to search by blocks.
-pub fn body_end_in(s: &[u8], size: usize, at: usize) -> usize
-    ensures { λ r. ⌜ r ≡ at + bodyLen (drop at (take size (now (s .entry)))) ⌝ }
+// Where the line that starts there ends among the first `size` bytes; after them more bytes help to search by blocks.
+pub fn body_end_in(s: &[u8], size: usize, start: Place) -> Place
+    ensures { λ r. ⌜ r .0 ≡ start .0 + bodyLen (drop (start .0) (take size (now (s .entry)))) ⌝ }
 {
+    let at = start.0;
     let e = body_end(s, at);
     if e + end_len(s, e) <= size {
-        return e;
+        return Place(e);
     }
-    body_end(base_slices::front(s, size), at)
+    Place(body_end(base_slices::front(s, size), at))
 }
 
 // Where the line after the one at `at` starts.

@@ -25,38 +25,38 @@ module _ (s : Summary) (k : Kept) where
   within-below p = sym (rw (le-leb (s .sum .pluses) (most + s .sum .minuses) (omega arith), lt-leb (s .sum .minuses) (most + s .sum .pluses) p))
 
   -- 11
-  module _ (n : k .total .negative ≡ true) where
-    pub minus-fine : s .sum .pluses + k .total .value ≡ s .sum .minuses → fine tt ≡ totalK s k
+  module _ (n : k .«total_negative» ≡ true) where
+    pub minus-fine : s .sum .pluses + k .total .magnitude .0 ≡ s .sum .minuses → fine tt ≡ totalK s k
     unfolding totalK
-    minus-fine e = sym (rw (n, eq-eqb (s .sum .pluses + k .total .value) (0 + s .sum .minuses) (omega arith)))
+    minus-fine e = sym (rw (n, eq-eqb (s .sum .pluses + k .total .magnitude .0) (0 + s .sum .minuses) (omega arith)))
 
-    pub minus-wrong : (s .sum .pluses + k .total .value ≡ s .sum .minuses → ⊥) → refuse 11 (k .total .at .0) ≡ totalK s k
+    pub minus-wrong : (s .sum .pluses + k .total .magnitude .0 ≡ s .sum .minuses → ⊥) → refuse 11 (k .total .at .0) ≡ totalK s k
     unfolding totalK
-    minus-wrong e = sym (rw (n, ne-eqb (s .sum .pluses + k .total .value) (0 + s .sum .minuses) (λ q. e (omega arith))))
+    minus-wrong e = sym (rw (n, ne-eqb (s .sum .pluses + k .total .magnitude .0) (0 + s .sum .minuses) (λ q. e (omega arith))))
 
-  module _ (n : k .total .negative ≡ false) where
-    pub plus-fine : s .sum .pluses ≡ k .total .value + s .sum .minuses → fine tt ≡ totalK s k
+  module _ (n : k .«total_negative» ≡ false) where
+    pub plus-fine : s .sum .pluses ≡ k .total .magnitude .0 + s .sum .minuses → fine tt ≡ totalK s k
     unfolding totalK
-    plus-fine e = sym (rw (n, eq-eqb (s .sum .pluses + 0) (k .total .value + s .sum .minuses) (omega arith)))
+    plus-fine e = sym (rw (n, eq-eqb (s .sum .pluses + 0) (k .total .magnitude .0 + s .sum .minuses) (omega arith)))
 
-    pub plus-wrong : (s .sum .pluses ≡ k .total .value + s .sum .minuses → ⊥) → refuse 11 (k .total .at .0) ≡ totalK s k
+    pub plus-wrong : (s .sum .pluses ≡ k .total .magnitude .0 + s .sum .minuses → ⊥) → refuse 11 (k .total .at .0) ≡ totalK s k
     unfolding totalK
-    plus-wrong e = sym (rw (n, ne-eqb (s .sum .pluses + 0) (k .total .value + s .sum .minuses) (λ q. e (omega arith))))
+    plus-wrong e = sym (rw (n, ne-eqb (s .sum .pluses + 0) (k .total .magnitude .0 + s .sum .minuses) (λ q. e (omega arith))))
 
   -- 13
-  pub records-fine : s .records ≡ k .records .value → fine tt ≡ recordsK s k
+  pub records-fine : s .records ≡ k .records .records .0 → fine tt ≡ recordsK s k
   unfolding recordsK
-  records-fine e = sym (rw (eq-eqb (s .records) (k .records .value) e))
+  records-fine e = sym (rw (eq-eqb (s .records) (k .records .records .0) e))
 
-  pub records-wrong : (s .records ≡ k .records .value → ⊥) → refuse 13 (k .records .at .0) ≡ recordsK s k
+  pub records-wrong : (s .records ≡ k .records .records .0 → ⊥) → refuse 13 (k .records .at .0) ≡ recordsK s k
   unfolding recordsK
-  records-wrong e = sym (rw (ne-eqb (s .records) (k .records .value) e))
+  records-wrong e = sym (rw (ne-eqb (s .records) (k .records .records .0) e))
 
 -- 12
-pub count-fine : (n : ℕ) (k : Kept) → n ≡ k .count .value → fine tt ≡ countK n k
+pub count-fine : (n : ℕ) (k : Kept) → n ≡ k .count .count .0 → fine tt ≡ countK n k
 unfolding countK
-count-fine n k e = sym (rw (eq-eqb n (k .count .value) e))
+count-fine n k e = sym (rw (eq-eqb n (k .count .count .0) e))
 
-pub count-wrong : (n : ℕ) (k : Kept) → (n ≡ k .count .value → ⊥) → refuse 12 (k .count .at .0) ≡ countK n k
+pub count-wrong : (n : ℕ) (k : Kept) → (n ≡ k .count .count .0 → ⊥) → refuse 12 (k .count .at .0) ≡ countK n k
 unfolding countK
-count-wrong n k e = sym (rw (ne-eqb n (k .count .value) e))
+count-wrong n k e = sym (rw (ne-eqb n (k .count .count .0) e))

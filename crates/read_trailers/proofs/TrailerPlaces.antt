@@ -31,11 +31,11 @@ then-most n (fine u) r h l = l
 module _ (n m : ℕ) (k : Kept) (w : Within n m k) where
   total-most : (s : Summary) → AtMost n (totalK s k)
   unfolding totalK
-  total-most s = check-most n 11 (k .total .at .0) (equals (s .sum) (asSum (record { negative = k .total .negative; magnitude = k .total .value }))) (w .total)
+  total-most s = check-most n 11 (k .total .at .0) (equals (s .sum) (asSum (record { negative = k .«total_negative»; magnitude = k .total .magnitude .0 }))) (w .total)
 
   records-most : (s : Summary) → AtMost n (recordsK s k)
   unfolding recordsK
-  records-most s = check-most n 13 (k .records .at .0) (eqb (s .records) (k .records .value)) (w .records)
+  records-most s = check-most n 13 (k .records .at .0) (eqb (s .records) (k .records .records .0)) (w .records)
 
   account-most : (s : Summary) → AtMost n (accountK s k)
   unfolding accountK
@@ -46,7 +46,7 @@ module _ (n m : ℕ) (k : Kept) (w : Within n m k) where
   trailer-most s i =
       then-most n (withinK s k) _ (check-most n 14 (k .total .at .0) (withinMost (s .sum)) (w .total))
       (then-most n (totalK s k) _ (total-most s)
-      (then-most n (countK i k) (recordsK s k) (check-most n 12 (k .count .at .0) (eqb i (k .count .value)) (w .count)) (records-most s)))
+      (then-most n (countK i k) (recordsK s k) (check-most n 12 (k .count .at .0) (eqb i (k .count .count .0)) (w .count)) (records-most s)))
 
   pub balanced-most : (c : Code) (a g f : Summary) (why : Refusal) → balancedK c a g f k ≡ refused why → why .place ≤ n
   unfolding balancedK

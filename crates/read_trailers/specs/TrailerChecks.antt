@@ -14,15 +14,15 @@ withinK s k = check (withinMost (s .sum)) 14 (k .total .at .0)
 
 -- 11: `rightTotal`; `total-right`
 unfoldable pub totalK : totals.Summary → Kept → Outcome (Unit {0})
-totalK s k = check (equals (s .sum) (asSum (record { negative = k .total .negative; magnitude = k .total .value }))) 11 (k .total .at .0)
+totalK s k = check (equals (s .sum) (asSum (record { negative = k .«total_negative»; magnitude = k .total .magnitude .0 }))) 11 (k .total .at .0)
 
 -- 12: `rightCount`; `count-right`
 unfoldable pub countK : ℕ → Kept → Outcome (Unit {0})
-countK n k = check (eqb n (k .count .value)) 12 (k .count .at .0)
+countK n k = check (eqb n (k .count .count .0)) 12 (k .count .at .0)
 
 -- 13: `rightRecords`; `records-right`
 unfoldable pub recordsK : totals.Summary → Kept → Outcome (Unit {0})
-recordsK s k = check (eqb (s .records) (k .records .value)) 13 (k .records .at .0)
+recordsK s k = check (eqb (s .records) (k .records .records .0)) 13 (k .records .at .0)
 
 -- an account's trailer; a group's or the file's, with the number of its accounts or groups
 unfoldable pub accountK : totals.Summary → Kept → Outcome (Unit {0})

@@ -1,6 +1,7 @@
 // What a trailer is held to against the summary of what it encloses: refusals 14, 11, 12 and 13.
 use base_codes::Code;
 use base_limits::MOST;
+use base_quantities::Count;
 use base_refusals::Refusal;
 use base_refusals::SUM_TOO_LARGE;
 use base_refusals::WRONG_COUNT;
@@ -45,15 +46,16 @@ fn right_total(s: Summary, kept: Kept) -> Checked
     let sum = s.total;
     let t = kept.total;
     let at = t.at;
+    let magnitude = t.magnitude;
     let why = Refusal {
         number: WRONG_TOTAL,
         place: at,
     };
-    if t.negative {
+    if kept.total_negative {
         if sum.1 < sum.0 {
             return Checked::Refused(why);
         }
-        if sum.1 - sum.0 != t.value {
+        if sum.1 - sum.0 != magnitude.0 {
             return Checked::Refused(why);
         }
         return Checked::Fine;
@@ -61,23 +63,24 @@ fn right_total(s: Summary, kept: Kept) -> Checked
     if sum.0 < sum.1 {
         return Checked::Refused(why);
     }
-    if sum.0 - sum.1 != t.value {
+    if sum.0 - sum.1 != magnitude.0 {
         return Checked::Refused(why);
     }
     Checked::Fine
 }
 
 // 12: a trailer's count of accounts or groups.
-fn right_count(n: u64, kept: Kept) -> Checked
-    ensures { λ r. ⌜ checkedOf r ≡ countK n kept ⌝ }
+fn right_count(n: Count, kept: Kept) -> Checked
+    ensures { λ r. ⌜ checkedOf r ≡ countK (n .0) kept ⌝ }
 {
     let t = kept.count;
     let at = t.at;
+    let count = t.count;
     let why = Refusal {
         number: WRONG_COUNT,
         place: at,
     };
-    if n != t.value {
+    if n.0 != count.0 {
         return Checked::Refused(why);
     }
     Checked::Fine
@@ -90,19 +93,20 @@ fn right_records(s: Summary, kept: Kept) -> Checked
     let n = s.records;
     let t = kept.records;
     let at = t.at;
+    let records = t.records;
     let why = Refusal {
         number: WRONG_RECORD_COUNT,
         place: at,
     };
-    if n.0 != t.value {
+    if n.0 != records.0 {
         return Checked::Refused(why);
     }
     Checked::Fine
 }
 
 // The 98 of a group with n accounts, or the 99 of a file with n groups.
-fn right_trailer(s: Summary, n: u64, kept: Kept) -> Checked
-    ensures { λ r. ⌜ checkedOf r ≡ trailerK (summaryMeant s) n kept ⌝ }
+fn right_trailer(s: Summary, n: Count, kept: Kept) -> Checked
+    ensures { λ r. ⌜ checkedOf r ≡ trailerK (summaryMeant s) (n .0) kept ⌝ }
 {
     match sum_within(s, kept) {
         Checked::Refused(why) => return Checked::Refused(why),

@@ -21,6 +21,10 @@ pub record Fits (n m : ℕ) (w : WalkK) : Type 0 where
   pub kept : Within n m (w .kept)
   pub slash : w .lastSlash ≤ n
 
+-- after the same magnitudes
+pub fits-same : (n m k : ℕ) (w : WalkK) → m ≡ k → Fits n m w → Fits n k w
+fits-same n m k w e f = rw (sym e) f
+
 module _ (n m : ℕ) where
   pub start-fits : (w : WalkK) → w .kept ≡ nothingKept m → w .lastSlash ≡ 0 → Fits n m w
   start-fits w e h = record { kept = rw e (nothing-within n m); slash = rw h zero-le }

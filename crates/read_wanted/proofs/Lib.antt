@@ -2,3 +2,4 @@
 pub mod OtherWants
 pub mod NextWants
 pub mod TakeLaws
+pub mod WantsApart

@@ -2,7 +2,7 @@
 -- answer; where refused, every other number is 0. What combine and split answer is in `Combine`, the writer in `Writer`. Assumes nothing.
 use Prim.Native.Nat.{ℕ}
 use mathlib.Core.List.{[]}
-use mathlib.Core.Option.{Option, none, some}
+use mathlib.Core.Option.{Option, none}
 use lib.ListN.{length}
 use Rattle.rules.specs.Bytes.{Bytes}
 use Rattle.rules.specs.Outcome.{Refusal, Outcome, orElse, refusalOf}

@@ -5,8 +5,8 @@ use mathlib.Core.Bool.{Bool, true, _&&_}
 use mathlib.Core.List.{List, [], _∷_, _++_}
 use lib.Dec.{T}
 use lib.ListN.{replicate}
-use Rattle.rules.specs.Bytes.{Bytes, bytes, letter, LF, blank, isEmpty, all, sameBytes, startsWith, oneOf, trimmedBefore, trimmed}
-use Rattle.rules.specs.Outcome.{refused, fine, moved}
+use Rattle.rules.specs.Bytes.{Bytes, bytes, letter, LF, isEmpty, all, sameBytes, startsWith, oneOf, trimmedBefore, trimmed}
+use Rattle.rules.specs.Outcome.{moved}
 use Rattle.rules.specs.Lines.{longerLine, longerFirst, linesOf, begins, codeIn, codeOf, lineBefore, recordsOf, recordSize, lineBytes, recordBytes, fileRecords}
 use Rattle.rules.specs.Cells.{lengthened, cellsFrom, cellsOf, leadingBlanks}
 use Rattle.rules.specs.Numbers.{digits, numberFrom, withoutSign, signed, decimalWithin, decimal, totalBytes}
@@ -20,25 +20,16 @@ use Rattle.rules.specs.Verdict.{notLonger, allAllowed, coded, goodLine, 
 use Rattle.rules.specs.Parts.{cutAt, inGroups, headerIn, groupsIn, fieldsIn, firstFields, receiverOf}
 use Rattle.rules.specs.Combine.{ofCoded, summaryOf, summaryOfAll, freshTrailer, withTrailer, concat, limitOf, linesWithin, fitting, combined, Answer, answered, whichFile, combine}
 use Rattle.rules.specs.Split.{isName, groupsFor, splitOut, split}
+use Rattle.rules.specs.Report.{words, asLine, verdictWords, report}
 
 -- lines of text, each with LF
 unfoldable pub lines : List String → Bytes
 lines [] = []
 lines (s ∷ ss) = bytes s ++ (LF ∷ lines ss)
 
--- words with a blank between them
-unfoldable pub words : List Bytes → Bytes
-words [] = []
-words (w ∷ []) = w
-words (w ∷ v ∷ ws) = w ++ (blank ∷ words (v ∷ ws))
-
--- the line that the program writes for a file that it judges
+-- the line that the program writes for a file
 unfoldable pub verdict : List String → Bytes
-verdict file =
-    elim (judge (lines file)) [
-      | refused why ↦ words (bytes "refused" ∷ decimal (why .number) ∷ decimal (why .place) ∷ [])
-      | fine s ↦ words (bytes "ok" ∷ totalBytes (s .sum) ∷ decimal (s .groups) ∷ decimal (s .accounts) ∷ decimal (s .details) ∷ decimal (s .records) ∷ [])
-    ]
+verdict file = report (lines file)
 
 -- an answer: its number, place, file and length, then the output slice
 unfoldable pub written : Answer → Bytes
@@ -88,7 +79,7 @@ k1 = h1 ∷ g1 ∷ a1 ∷ d1 ∷ t1 ∷ u1 ∷ v1 ∷ []
 unfoldable pub examples : List Example
 examples =
     -- K1
-    verdict k1 ⇒ bytes "ok 1000 1 1 1 7"
+    verdict k1 ⇒ lines ("ok 1000 1 1 1 7" ∷ [])
     -- K2: split for 031001234 is K1 itself; it has 188 bytes
     ∷ written (split (bytes "031001234") (lines k1) (dots 190)) ⇒ (bytes "0 0 0 188 " ++ lines k1 ++ bytes "..")
     -- K3: split for 31001234
@@ -96,27 +87,27 @@ examples =
     -- K4: K1 with itself
     ∷ written (combine (lines k1) (lines k1) (dots 324)) ⇒ (bytes "0 0 0 322 " ++ lines (h1 ∷ g1 ∷ a1 ∷ d1 ∷ t1 ∷ u1 ∷ g1 ∷ a1 ∷ d1 ∷ t1 ∷ u1 ∷ "99,2000,2,12/" ∷ []) ++ bytes "..")
     -- K5
-    ∷ verdict (h1 ∷ g1 ∷ a1 ∷ d1 ∷ "49,-2000,3/" ∷ u1 ∷ v1 ∷ []) ⇒ bytes "refused 11 154"
+    ∷ verdict (h1 ∷ g1 ∷ a1 ∷ d1 ∷ "49,-2000,3/" ∷ u1 ∷ v1 ∷ []) ⇒ lines ("refused 11 154" ∷ [])
     -- K6
-    ∷ verdict (h1 ∷ g1 ∷ a1 ∷ d1 ∷ "49,1000,2/" ∷ u1 ∷ v1 ∷ []) ⇒ bytes "refused 13 159"
+    ∷ verdict (h1 ∷ g1 ∷ a1 ∷ d1 ∷ "49,1000,2/" ∷ u1 ∷ v1 ∷ []) ⇒ lines ("refused 13 159" ∷ [])
     -- K7
-    ∷ verdict (h1 ∷ g1 ∷ u1 ∷ v1 ∷ []) ⇒ bytes "refused 6 83"
+    ∷ verdict (h1 ∷ g1 ∷ u1 ∷ v1 ∷ []) ⇒ lines ("refused 6 83" ∷ [])
     -- K8
-    ∷ verdict ("01,122099999,123456789,040229,0200,1,,,2/" ∷ g1 ∷ a1 ∷ d1 ∷ t1 ∷ u1 ∷ v1 ∷ []) ⇒ bytes "ok 1000 1 1 1 7"
-    ∷ verdict ("01,122099999,123456789,050229,0200,1,,,2/" ∷ g1 ∷ a1 ∷ d1 ∷ t1 ∷ u1 ∷ v1 ∷ []) ⇒ bytes "refused 8 23"
+    ∷ verdict ("01,122099999,123456789,040229,0200,1,,,2/" ∷ g1 ∷ a1 ∷ d1 ∷ t1 ∷ u1 ∷ v1 ∷ []) ⇒ lines ("ok 1000 1 1 1 7" ∷ [])
+    ∷ verdict ("01,122099999,123456789,050229,0200,1,,,2/" ∷ g1 ∷ a1 ∷ d1 ∷ t1 ∷ u1 ∷ v1 ∷ []) ⇒ lines ("refused 8 23" ∷ [])
     -- K9
-    ∷ verdict ("01,122099999,123456789,040621,2400,1,,,2/" ∷ g1 ∷ a1 ∷ d1 ∷ t1 ∷ u1 ∷ v1 ∷ []) ⇒ bytes "ok 1000 1 1 1 7"
-    ∷ verdict ("01,122099999,123456789,040621,9999,1,,,2/" ∷ g1 ∷ a1 ∷ d1 ∷ t1 ∷ u1 ∷ v1 ∷ []) ⇒ bytes "ok 1000 1 1 1 7"
-    ∷ verdict ("01,122099999,123456789,040621,2401,1,,,2/" ∷ g1 ∷ a1 ∷ d1 ∷ t1 ∷ u1 ∷ v1 ∷ []) ⇒ bytes "refused 8 30"
-    ∷ verdict ("01,122099999,123456789,040621,1260,1,,,2/" ∷ g1 ∷ a1 ∷ d1 ∷ t1 ∷ u1 ∷ v1 ∷ []) ⇒ bytes "refused 8 30"
+    ∷ verdict ("01,122099999,123456789,040621,2400,1,,,2/" ∷ g1 ∷ a1 ∷ d1 ∷ t1 ∷ u1 ∷ v1 ∷ []) ⇒ lines ("ok 1000 1 1 1 7" ∷ [])
+    ∷ verdict ("01,122099999,123456789,040621,9999,1,,,2/" ∷ g1 ∷ a1 ∷ d1 ∷ t1 ∷ u1 ∷ v1 ∷ []) ⇒ lines ("ok 1000 1 1 1 7" ∷ [])
+    ∷ verdict ("01,122099999,123456789,040621,2401,1,,,2/" ∷ g1 ∷ a1 ∷ d1 ∷ t1 ∷ u1 ∷ v1 ∷ []) ⇒ lines ("refused 8 30" ∷ [])
+    ∷ verdict ("01,122099999,123456789,040621,1260,1,,,2/" ∷ g1 ∷ a1 ∷ d1 ∷ t1 ∷ u1 ∷ v1 ∷ []) ⇒ lines ("refused 8 30" ∷ [])
     -- K10
-    ∷ verdict ("01,122099999,123456789,040621,0200,1,48,,2/" ∷ g1 ∷ a1 ∷ d1 ∷ t1 ∷ u1 ∷ v1 ∷ []) ⇒ bytes "ok 1000 1 1 1 7"
-    ∷ verdict ("01,122099999,123456789,040621,0200,1,47,,2/" ∷ g1 ∷ a1 ∷ d1 ∷ t1 ∷ u1 ∷ v1 ∷ []) ⇒ bytes "refused 8 37"
+    ∷ verdict ("01,122099999,123456789,040621,0200,1,48,,2/" ∷ g1 ∷ a1 ∷ d1 ∷ t1 ∷ u1 ∷ v1 ∷ []) ⇒ lines ("ok 1000 1 1 1 7" ∷ [])
+    ∷ verdict ("01,122099999,123456789,040621,0200,1,47,,2/" ∷ g1 ∷ a1 ∷ d1 ∷ t1 ∷ u1 ∷ v1 ∷ []) ⇒ lines ("refused 8 37" ∷ [])
     -- K11
-    ∷ verdict (h1 ∷ g1 ∷ "03,0975312468,USD,165,-500,,/" ∷ d1 ∷ t1 ∷ u1 ∷ v1 ∷ []) ⇒ bytes "refused 8 105"
+    ∷ verdict (h1 ∷ g1 ∷ "03,0975312468,USD,165,-500,,/" ∷ d1 ∷ t1 ∷ u1 ∷ v1 ∷ []) ⇒ lines ("refused 8 105" ∷ [])
     -- K12
-    ∷ verdict (h1 ∷ g1 ∷ "03,0975312468,USD,010,-999999999999999998,,/" ∷ "16,165,1,1,DD1620,,DEALER PAYMENTS" ∷ "49,-999999999999999997,3/" ∷ "98,-999999999999999997,1,5/" ∷ "99,-999999999999999997,1,7/" ∷ []) ⇒ bytes "ok -999999999999999997 1 1 1 7"
-    ∷ verdict (h1 ∷ g1 ∷ "03,0975312468,USD,010,-999999999999999998,,/" ∷ "16,165,2,1,DD1620,,DEALER PAYMENTS" ∷ t1 ∷ u1 ∷ v1 ∷ []) ⇒ bytes "refused 10 135"
+    ∷ verdict (h1 ∷ g1 ∷ "03,0975312468,USD,010,-999999999999999998,,/" ∷ "16,165,1,1,DD1620,,DEALER PAYMENTS" ∷ "49,-999999999999999997,3/" ∷ "98,-999999999999999997,1,5/" ∷ "99,-999999999999999997,1,7/" ∷ []) ⇒ lines ("ok -999999999999999997 1 1 1 7" ∷ [])
+    ∷ verdict (h1 ∷ g1 ∷ "03,0975312468,USD,010,-999999999999999998,,/" ∷ "16,165,2,1,DD1620,,DEALER PAYMENTS" ∷ t1 ∷ u1 ∷ v1 ∷ []) ⇒ lines ("refused 10 135" ∷ [])
     ∷ []
 
 pub examples-agree : T (agree examples)
@@ -134,4 +125,5 @@ unfolding
     cutAt inGroups headerIn groupsIn fieldsIn firstFields receiverOf
     ofCoded summaryOf summaryOfAll freshTrailer withTrailer concat limitOf linesWithin fitting combined answered whichFile combine
     isName groupsFor splitOut split
+    asLine verdictWords report
 examples-agree = tt

@@ -17,4 +17,5 @@ pub mod Combine
 pub mod Split
 pub mod Writer
 pub mod Answers
+pub mod Report
 pub mod Examples

@@ -1,4 +1,4 @@
--- Document 01: the longest file, line and name, and the largest sum, each said once. Assumes nothing.
+-- Document 01: the longest file, line and name, and the largest sum; and what the program judges at most. Each is said once. Assumes nothing.
 use Prim.Native.Nat.{ℕ}
 
 -- a file is 1 to 16,777,216 bytes, and so is a result
@@ -16,3 +16,7 @@ longestName = 76
 -- the magnitudes of all item and detail amounts, funds left out, add up to at most this (10); no sum is beyond it either way (14)
 abbrev pub most : ℕ
 most = 999_999_999_999_999_999
+
+-- the program `summary` judges at most 65,536 bytes
+abbrev pub mostInput : ℕ
+mostInput = 65_536

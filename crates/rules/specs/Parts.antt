@@ -5,7 +5,7 @@ use mathlib.Core.List.{List, [], _∷_}
 use mathlib.Core.Option.{Option, none, some}
 use Rattle.rules.specs.Bytes.{Bytes, slash, isEmpty, just}
 use Rattle.rules.specs.Numbers.{number, withoutSign}
-use Rattle.rules.specs.Outcome.{Outcome, refused, refuse, fine, _>>=_, _>>_, orElse}
+use Rattle.rules.specs.Outcome.{Outcome, refused, refuse, fine, _>>=_, orElse}
 use Rattle.rules.specs.Lines.{Code, groupHeader, accountHeader, detail, accountTrailer, groupTrailer, fileTrailer, begins, Record, recordSize, recordBytes, fileRecords}
 use Rattle.rules.specs.Grammar.{ultimateReceiver, detailType, amount, text}
 use Rattle.rules.specs.Records.{Field, the, walkRecord}

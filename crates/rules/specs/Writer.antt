@@ -21,7 +21,7 @@ use Rattle.rules.specs.Order.{mayFollow, among, groupAfter, accountAfter
 pub record Item : Type 0 where
   pub type : Bytes
   pub amount : Option Signed
-  pub count : Option ℕ
+  pub itemCount : Option ℕ
 
 -- amounts and item counts come as numbers or none, all else as bytes
 pub data Call : Type 0 where
@@ -96,9 +96,9 @@ abbrev pub amountBytes : Option Signed → Bytes
 amountBytes none = []
 amountBytes (some a) = totalBytes (asSum a)
 
-abbrev pub countBytes : Option ℕ → Bytes
-countBytes none = []
-countBytes (some n) = decimal n
+abbrev pub itemCountBytes : Option ℕ → Bytes
+itemCountBytes none = []
+itemCountBytes (some n) = decimal n
 
 -- a call without text or amount
 abbrev pub plain : Code → List Bytes → Given
@@ -106,7 +106,7 @@ plain c fs = record { code = c; kinds = fieldsOf c; fields = fs; text = none; am
 
 -- type, amount, item count, funds
 abbrev pub itemFields : Item → List Bytes
-itemFields i = i .type ∷ amountBytes (i .amount) ∷ countBytes (i .count) ∷ [] ∷ []
+itemFields i = i .type ∷ amountBytes (i .amount) ∷ itemCountBytes (i .itemCount) ∷ [] ∷ []
 
 -- a trailer's fields: the total, the count of accounts or groups, and the record count, itself included
 abbrev pub trailerFields : Summary → ℕ → List Bytes

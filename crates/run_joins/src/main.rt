@@ -145,7 +145,8 @@ fn detail(path: &[u8], g: u64, a: u64, n: u64) {
     answer(d.refusal);
     figure(d.type_code);
     if d.amount_given {
-        figure(d.amount);
+        let amount = d.amount;
+        figure(amount.0);
     }
     say(b" \"");
     say(part_details::detail_text(&file[..k], g, a, n));

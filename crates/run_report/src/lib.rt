@@ -1,69 +1,82 @@
-// Reads a file of up to 65,536 bytes and writes one line: its summary, its refusal, or that it is too long.
-use base_quantities::Units;
+// The line that the program `summary` writes: a file's summary, its refusal, or that there are too many bytes.
+use base_limits::MOST_INPUT;
 use base_refusals::Refusal;
 use base_totals::Summary;
-use libc::STDOUT_FILENO;
 use read_file::Verdict;
+ghost use Prim.Native.Nat.{_≤_};
+ghost use lib.ListN.{length};
+ghost use Rattle.rules.specs.Outcome.{refused, fine};
+ghost use Rattle.rules.specs.Report.{asLine, verdictWords, report};
+ghost use Rattle.base_numerals.specs.PutBytes.{Put};
+ghost use Rattle.base_refusals.specs.RefusalMeaning.{refusalMeant};
+ghost use Rattle.base_totals.specs.SummaryMeaning.{summaryMeant};
+ghost use Rattle.read_file.specs.FileMeanings.{verdictMeant};
+ghost use Rattle.run_report.specs.PutLines.{counts, longestReport, PutLine};
 
-// The line for what can be read from fd.
-pub fn judge_input(fd: i32) {
-    let mut buf = io::large_buffer();
-    let n = io::read_full(fd, &mut buf);
-    if more_waits(fd, n) {
-        io::write_all(STDOUT_FILENO, b"too long\n");
-        return;
-    }
-    print_verdict(read_file::read(&buf[..n]));
+// The longest line: `ok`, five numbers of up to 20 digits, each after a blank and the first with a sign, and a line feed.
+pub const LONGEST_REPORT: usize = 109;
+
+// A summary's four counts, each after a blank, at the front of out: how many bytes.
+fn put_counts(out: &mut [u8], summary: Summary) -> usize
+    requires { ⌜ length (counts (summaryMeant summary)) ≤ length (now out) ⌝ }
+    ensures { λ r. ⌜ Put (counts (summaryMeant summary)) (now (out .entry)) r (now (out .exit)) ⌝ }
+{
+    let groups = summary.groups;
+    let accounts = summary.accounts;
+    let details = summary.details;
+    let records = summary.records;
+    let mut o = base_numerals::put_digits_after(out, b' ', groups.0);
+    o += base_numerals::put_digits_after(&mut out[o..], b' ', accounts.0);
+    o += base_numerals::put_digits_after(&mut out[o..], b' ', details.0);
+    o += base_numerals::put_digits_after(&mut out[o..], b' ', records.0);
+    o
 }
 
-// The buffer is full, and one byte more can be read.
-fn more_waits(fd: i32, n: usize) -> bool {
-    if n < 65536 {
-        return false;
-    }
-    let mut one = [0u8; 1];
-    io::read_full(fd, &mut one) != 0
+// The line for a summary at the front of out: how many bytes.
+fn put_summary(out: &mut [u8], summary: Summary) -> usize
+    requires { ⌜ longestReport ≤ length (now out) ⌝ }
+    ensures { λ r. ⌜ PutLine (asLine (verdictWords (fine (summaryMeant summary)))) (now (out .entry)) r (now (out .exit)) ⌝ }
+{
+    let total = summary.total;
+    let mut o = base_slices::put(out, b"ok ");
+    o += base_numerals::put_total(&mut out[o..], total);
+    o += put_counts(&mut out[o..], summary);
+    o += base_slices::put(&mut out[o..], b"\n");
+    o
 }
 
-// The line for a verdict.
-fn print_verdict(verdict: Verdict) {
-    match verdict {
-        Verdict::Accepted(s) => print_summary(s),
-        Verdict::Refused(why) => print_refusal(why),
-    }
-}
-
-// `ok` and the summary's five figures.
-fn print_summary(s: Summary) {
-    let total = s.total;
-    let records = s.records;
-    io::write_all(STDOUT_FILENO, b"ok ");
-    print_total(total);
-    print_figure(s.groups);
-    print_figure(s.accounts);
-    print_figure(s.details);
-    print_figure(records.0);
-    io::write_all(STDOUT_FILENO, b"\n");
-}
-
-// `refused`, the number and the place.
-fn print_refusal(why: Refusal) {
+// The line for a refusal at the front of out: how many bytes.
+fn put_refusal(out: &mut [u8], why: Refusal) -> usize
+    requires { ⌜ longestReport ≤ length (now out) ⌝ }
+    ensures { λ r. ⌜ PutLine (asLine (verdictWords (refused (refusalMeant why)))) (now (out .entry)) r (now (out .exit)) ⌝ }
+{
     let place = why.place;
-    io::write_all(STDOUT_FILENO, b"refused");
-    print_figure(why.number);
-    print_figure(place.0 as u64);
-    io::write_all(STDOUT_FILENO, b"\n");
+    let mut o = base_slices::put(out, b"refused");
+    o += base_numerals::put_digits_after(&mut out[o..], b' ', why.number);
+    o += base_numerals::put_digits_after(&mut out[o..], b' ', place.0 as u64);
+    o += base_slices::put(&mut out[o..], b"\n");
+    o
 }
 
-// A blank and a number.
-fn print_figure(n: u64) {
-    io::write_all(STDOUT_FILENO, b" ");
-    io::print_decimal(STDOUT_FILENO, n);
+// The line for a verdict at the front of out: how many bytes.
+fn put_verdict(out: &mut [u8], verdict: Verdict) -> usize
+    requires { ⌜ longestReport ≤ length (now out) ⌝ }
+    ensures { λ r. ⌜ PutLine (asLine (verdictWords (verdictMeant verdict))) (now (out .entry)) r (now (out .exit)) ⌝ }
+{
+    match verdict {
+        Verdict::Accepted(summary) => put_summary(out, summary),
+        Verdict::Refused(why) => put_refusal(out, why),
+    }
 }
 
-// A total as one number.
-fn print_total(total: Units) {
-    let mut text = [0u8; 21];
-    let k = base_numerals::put_total(&mut text, total);
-    io::write_all(STDOUT_FILENO, &text[0..k]);
+// The line for these bytes at the front of out: how many bytes; or 0, and nothing changed, where it doesn't fit.
+pub fn report(input: &[u8], out: &mut [u8]) -> usize
+    ensures { λ r. ⌜ PutLine (report (now (input .entry))) (now (out .entry)) r (now (out .exit)) ⌝ }
+{
+    if MOST_INPUT < input.len() {
+        return base_slices::put(out, b"too long\n");
+    }
+    let mut line = [0u8; LONGEST_REPORT];
+    let length = put_verdict(&mut line, read_file::read(input));
+    base_slices::put(out, &line[0..length])
 }

@@ -1,5 +1,7 @@
 // For each argument, a file of data/: its name, a colon, and the line that `summary` writes for it.
+use base_limits::MOST_INPUT;
 use libc::STDOUT_FILENO;
+use run_report::LONGEST_REPORT;
 
 fn main() {
     let count = os::arg_count();
@@ -10,7 +12,7 @@ fn main() {
     }
 }
 
-// The line for the file that the argument of this number names.
+// Writes the name and the line of the file that the argument of this number names.
 fn judge_file(i: usize) {
     let mut path = io::buffer();
     let length = os::arg(i, &mut path);
@@ -21,6 +23,15 @@ fn judge_file(i: usize) {
     }
     io::write_all(STDOUT_FILENO, &path[..length]);
     io::write_all(STDOUT_FILENO, b": ");
-    run_report::judge_input(fd);
+    write_line(fd);
     libc::close(fd);
+}
+
+// Writes the line for what can be read from fd.
+fn write_line(fd: i32) {
+    let mut input = [0u8; MOST_INPUT + 1];
+    let mut line = [0u8; LONGEST_REPORT];
+    let size = io::read_full(fd, &mut input);
+    let length = run_report::report(&input[..size], &mut line);
+    io::write_all(STDOUT_FILENO, &line[0..length]);
 }

@@ -1,9 +1,10 @@
 // Two files: K1, and one with every call of the writer.
-use run_refused_calls::amounts::minus;
-use run_refused_calls::amounts::plus;
-use run_refused_calls::printing::after;
+use crate::amounts::minus;
+use crate::amounts::plus;
+use crate::printing::after;
+use write_line::Items;
 use write_line::MaybeAmount;
-use write_line::MaybeCount;
+use write_line::MaybeItems;
 use write_state::Writer;
 
 // K1 of document 01; the writer leaves the 16's funds empty.
@@ -57,7 +58,7 @@ fn status_account(
         true,
         b"010",
         amount,
-        MaybeCount::NoCount,
+        MaybeItems::NoItems,
         out,
     ))
 }
@@ -114,7 +115,7 @@ fn without_items(w: Writer, out: &mut [u8; 4096]) -> Writer {
         false,
         b"",
         MaybeAmount::NoAmount,
-        MaybeCount::NoCount,
+        MaybeItems::NoItems,
         out,
     ));
     let w = after(write_calls::detail(
@@ -132,8 +133,8 @@ fn without_items(w: Writer, out: &mut [u8; 4096]) -> Writer {
 // An account with three items, a credit and a debit.
 fn with_items(w: Writer, out: &mut [u8; 4096]) -> Writer {
     let w = status_account(w, b"0099887766", b"CAD", minus(250_075), out);
-    let w = after(write_calls::item(w, b"100", plus(300_000), MaybeCount::Given(2), out));
-    let w = after(write_calls::item(w, b"400", plus(50_000), MaybeCount::NoCount, out));
+    let w = after(write_calls::item(w, b"100", plus(300_000), MaybeItems::Given(Items(2)), out));
+    let w = after(write_calls::item(w, b"400", plus(50_000), MaybeItems::NoItems, out));
     credit_and_debit(w, out)
 }
 

@@ -1,8 +1,8 @@
 // Writes two files with every call of the writer, then tries calls that are refused. What it prints is held to `stdout`.
-use run_refused_calls::printing;
-use run_refused_calls::refusals;
-
+mod amounts;
 mod files;
+mod printing;
+mod refusals;
 
 fn main() {
     let mut out = io::buffer();

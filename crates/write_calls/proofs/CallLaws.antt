@@ -6,7 +6,7 @@ use mathlib.Core.Option.{Option, none, some}
 use Prim.Native.Nat.{ℕ, _+_, _≤_, min}
 use native.Mathlib.Omega.{arith}
 use native.Mathlib.Nat.{min-eq-left}
-use lib.ListN.{length, length-append}
+use lib.ListN.{length, replicate, length-append}
 use borrow.Author.Tests.{le-leb}
 use Rattle.rules.specs.Bytes.{Bytes, LF, comma, slash, isEmpty}
 use Rattle.rules.specs.Numbers.{Signed, Sum, zeroSum, decimal, totalBytes}
@@ -14,7 +14,7 @@ use Rattle.rules.specs.Outcome.{Outcome, refused, refuse, fine, _>>=_, check}
 use Rattle.rules.specs.Lines.{Code, fileHeader, groupHeader, accountHeader, detail, accountTrailer, groupTrailer, fileTrailer, continuation, codeBytes}
 use Rattle.rules.specs.Totals.{Summary}
 use Rattle.rules.specs.Grammar.{Kind, furtherType, detailType, reference, text, fieldsOf}
-use Rattle.rules.specs.Writer.{Item, Call, writeHeader, writeGroup, writeAccount, writeItem, writeDetail, endAccount, endGroup, endFile, Writer, Given, given, plain, amountBytes, countBytes}
+use Rattle.rules.specs.Writer.{Item, Call, writeHeader, writeGroup, writeAccount, writeItem, writeDetail, endAccount, endGroup, endFile, Writer, Given, given, plain, amountBytes, itemCountBytes}
 use Rattle.rules.specs.Writer.{itemFields, sumGiven, ofGiven, withCommas, bodyOf, lineOf, sound, kindsAfter, goodText, goodTextOrNone, wantsItem, entryOf, lineFits, writeLine}
 use Rattle.rules.specs.Writer.{Written, writtenBy, write}
 use Rattle.rules.proofs.Tests.{Known, holds, fails, known}
@@ -24,11 +24,14 @@ use Rattle.laws_writer.proofs.FieldsWritten.{takes-all, simples}
 use Rattle.laws_writer.proofs.LinesWritten.{code-bytes}
 use Rattle.laws_writer.proofs.ItemsWritten.{further-wants, account-wants}
 use Rattle.laws_writer.proofs.DetailsWritten.{detailRest, detail-left}
-use Rattle.write_line.specs.DraftMeaning.{Sofar, withText, textAdded}
-use Rattle.write_records.specs.RecordLines.{lineIn}
+use Rattle.write_line.specs.DraftMeaning.{Sofar, lineSpace, draftOf, withText, textAdded}
+use Rattle.write_line.specs.DrawnLine.{drawnOf, textDrawn}
+use Rattle.write_line.specs.declared.Draft.{Draft}
+use Rattle.write_records.specs.RecordLines.{lineIn, lineDrawn}
+use Rattle.write_records.proofs.LinesSaid.{line-said, line-text-said}
 use Rattle.write_line.proofs.FieldChains.{noText, lineSofar, chain-is, fields-fit}
 use Rattle.write_line.specs.declared.MaybeAmount.{MaybeAmount}
-use Rattle.write_line.specs.declared.MaybeCount.{MaybeCount}
+use Rattle.write_line.specs.declared.MaybeItems.{MaybeItems}
 use Rattle.write_commit.specs.Commit.{roomFor, committed}
 use Rattle.write_calls.specs.EndLines.{ended}
 use Rattle.write_calls.specs.ItemMeaning.{itemMeant, itemGiven}
@@ -96,44 +99,54 @@ none-wanted ks fs s n left h = ap wantsItem (sym (takes-all ks fs left s n h .0)
 abbrev pub answered : Writer → Bytes → Code → Outcome Sofar → Sum → Bool → Written
 answered w out c o sum items = writtenBy w (committed w c o sum items (length out)) out
 
-module _ (w : Writer) (out : Bytes) (o : Outcome Sofar) (sum : Sum) where
-  -- where the line is the rules' line
-  answers : (call : Call) (g : Given) (items : Bool) → given w call ≡ g → sum ≡ sumGiven (g .amount) → (sound w ≡ true → Drafts g items o)
-      → answered w out (g .code) o sum items ≡ write w call out
-  unfolding write
-  answers call g items e z d = rw (e, z, committed-is w g items (length out) o d)
+-- where the line is the rules' line
+answers : (w : Writer) (out : Bytes) (o : Outcome Sofar) (sum : Sum) (call : Call) (g : Given) (items : Bool) → given w call ≡ g → sum ≡ sumGiven (g .amount)
+    → (sound w ≡ true → Drafts g items o) → answered w out (g .code) o sum items ≡ write w call out
+unfolding write
+answers w out o sum call g items e z d = rw (e, z, committed-is w g items (length out) o d)
 
-  pub header-written : (s r d t n : Bytes) → sum ≡ zeroSum → o ≡ lineIn fileHeader (fieldsOf fileHeader) (s ∷ r ∷ d ∷ t ∷ n ∷ [] ∷ [] ∷ (50 ∷ []) ∷ []) slash
-      → answered w out fileHeader o sum false ≡ write w (writeHeader s r d t n) out
+-- the space of a call before its line is drafted
+abbrev zeroSpace : Bytes
+zeroSpace = replicate lineSpace 0
+
+-- the line of this draft, in this space
+module _ (w : Writer) (out space : Bytes) (draft : Draft) (sum : Sum) where
+  -- that a slash ends
+  slash-written : (call : Call) (c : Code) (ks : List Kind) (f : Bytes) (fs : List Bytes) (a : Option Signed) (items : Bool) → given w call ≡ slashLine c ks (f ∷ fs) a
+      → ((left : List Kind) → kindsAfter ks (f ∷ fs) ≡ fine left → wantsItem left ≡ items) → noText ks ≡ true → length (f ∷ fs) ≤ 8 → sum ≡ sumGiven a
+      → drawnOf space draft ≡ lineDrawn c ks (f ∷ fs) slash zeroSpace → answered w out c (draftOf space draft) sum items ≡ write w call out
+  slash-written call c ks f fs a items g wants n few z e =
+      answers w out (draftOf space draft) sum call (slashLine c ks (f ∷ fs) a) items g z (λ _.
+      slash-drafts c ks f fs a items wants (draftOf space draft) n few (line-said c ks (f ∷ fs) slash zeroSpace refl space draft e))
+
+  pub header-written : (s r d t n : Bytes) → sum ≡ zeroSum
+      → drawnOf space draft ≡ lineDrawn fileHeader (fieldsOf fileHeader) (s ∷ r ∷ d ∷ t ∷ n ∷ [] ∷ [] ∷ (50 ∷ []) ∷ []) slash zeroSpace
+      → answered w out fileHeader (draftOf space draft) sum false ≡ write w (writeHeader s r d t n) out
   unfolding given fieldsOf
-  header-written s r d t n z e =
+  header-written s r d t n =
       let fs = r ∷ d ∷ t ∷ n ∷ [] ∷ [] ∷ (50 ∷ []) ∷ [] in
-      answers (writeHeader s r d t n) (plain fileHeader (s ∷ fs)) false refl z (λ _.
-      slash-drafts fileHeader (fieldsOf fileHeader) s fs none false (none-wanted (fieldsOf fileHeader) (s ∷ fs) refl refl) o refl (omega arith) e)
+      slash-written (writeHeader s r d t n) fileHeader (fieldsOf fileHeader) s fs none false refl (none-wanted (fieldsOf fileHeader) (s ∷ fs) refl refl) refl (omega arith)
 
-  pub group-written : (u p s d t c m : Bytes) → sum ≡ zeroSum → o ≡ lineIn groupHeader (fieldsOf groupHeader) (u ∷ p ∷ s ∷ d ∷ t ∷ c ∷ m ∷ []) slash
-      → answered w out groupHeader o sum false ≡ write w (writeGroup u p s d t c m) out
+  pub group-written : (u p s d t c m : Bytes) → sum ≡ zeroSum → drawnOf space draft ≡ lineDrawn groupHeader (fieldsOf groupHeader) (u ∷ p ∷ s ∷ d ∷ t ∷ c ∷ m ∷ []) slash zeroSpace
+      → answered w out groupHeader (draftOf space draft) sum false ≡ write w (writeGroup u p s d t c m) out
   unfolding given fieldsOf
-  group-written u p s d t c m z e =
+  group-written u p s d t c m =
       let fs = p ∷ s ∷ d ∷ t ∷ c ∷ m ∷ [] in
-      answers (writeGroup u p s d t c m) (plain groupHeader (u ∷ fs)) false refl z (λ _.
-      slash-drafts groupHeader (fieldsOf groupHeader) u fs none false (none-wanted (fieldsOf groupHeader) (u ∷ fs) refl refl) o refl (omega arith) e)
+      slash-written (writeGroup u p s d t c m) groupHeader (fieldsOf groupHeader) u fs none false refl (none-wanted (fieldsOf groupHeader) (u ∷ fs) refl refl) refl (omega arith)
 
-  pub account-written : (n c : Bytes) (i : Item) → sum ≡ sumGiven (i .amount) → o ≡ lineIn accountHeader (fieldsOf accountHeader) (n ∷ c ∷ itemFields i) slash
-      → answered w out accountHeader o sum (not (isEmpty (i .type))) ≡ write w (writeAccount n c (some i)) out
+  pub account-written : (n c : Bytes) (i : Item) → sum ≡ sumGiven (i .amount)
+      → drawnOf space draft ≡ lineDrawn accountHeader (fieldsOf accountHeader) (n ∷ c ∷ itemFields i) slash zeroSpace
+      → answered w out accountHeader (draftOf space draft) sum (not (isEmpty (i .type))) ≡ write w (writeAccount n c (some i)) out
   unfolding given fieldsOf
-  account-written n c i z e =
-      let items = not (isEmpty (i .type)) in
-      answers (writeAccount n c (some i)) (slashLine accountHeader (fieldsOf accountHeader) (n ∷ c ∷ itemFields i) (i .amount)) items refl z (λ _.
-      slash-drafts accountHeader (fieldsOf accountHeader) n (c ∷ itemFields i) (i .amount) items (account-wants n c i) o refl (omega arith) e)
+  account-written n c i =
+      slash-written (writeAccount n c (some i)) accountHeader (fieldsOf accountHeader) n (c ∷ itemFields i) (i .amount) (not (isEmpty (i .type))) refl (account-wants n c i) refl (omega arith)
 
-  pub item-written : (i : Item) → sum ≡ sumGiven (i .amount) → o ≡ lineIn continuation (furtherType ∷ []) (itemFields i) slash
-      → answered w out continuation o sum true ≡ write w (writeItem i) out
+  pub item-written : (i : Item) → sum ≡ sumGiven (i .amount) → drawnOf space draft ≡ lineDrawn continuation (furtherType ∷ []) (itemFields i) slash zeroSpace
+      → answered w out continuation (draftOf space draft) sum true ≡ write w (writeItem i) out
   unfolding given
-  item-written i z e =
-      let fs = amountBytes (i .amount) ∷ countBytes (i .count) ∷ [] ∷ [] in
-      answers (writeItem i) (slashLine continuation (furtherType ∷ []) (i .type ∷ fs) (i .amount)) true refl z (λ _.
-      slash-drafts continuation (furtherType ∷ []) (i .type) fs (i .amount) true (further-wants i) o refl (omega arith) e)
+  item-written i =
+      let fs = amountBytes (i .amount) ∷ itemCountBytes (i .itemCount) ∷ [] ∷ [] in
+      slash-written (writeItem i) continuation (furtherType ∷ []) (i .type) fs (i .amount) true refl (further-wants i) refl (omega arith)
 
 -- ---- the ends
 
@@ -149,13 +162,14 @@ module _ (w : Writer) (out : Bytes) (call : Call) (c : Code) (f : Bytes) (fs : �
       slash-drafts c (fieldsOf c) f (fs (n + 1)) none false (none-wanted (fieldsOf c) (f ∷ fs (n + 1)) simple size) o no-text short (rw counted at e))
 
 module _ (w : Writer) (out : Bytes) where
-  pub account-end-written : (o : Outcome Sofar) (sum : Sum) (k : ℕ) → sum ≡ zeroSum → k ≡ min (w .account .records + 1) mostRecords
-      → o ≡ lineIn accountTrailer (fieldsOf accountTrailer) (totalBytes (w .account .sum) ∷ decimal k ∷ []) slash
-      → answered w out accountTrailer o sum false ≡ write w endAccount out
+  pub account-end-written : (space : Bytes) (draft : Draft) (sum : Sum) (k : ℕ) → sum ≡ zeroSum → k ≡ min (w .account .records + 1) mostRecords
+      → drawnOf space draft ≡ lineDrawn accountTrailer (fieldsOf accountTrailer) (totalBytes (w .account .sum) ∷ decimal k ∷ []) slash zeroSpace
+      → answered w out accountTrailer (draftOf space draft) sum false ≡ write w endAccount out
   unfolding given fieldsOf
-  account-end-written o sum k z m e =
-      end-written w out endAccount accountTrailer (totalBytes (w .account .sum)) (λ n. decimal n ∷ []) (w .account .records) (λ s. s .in-account .records) o sum
-      refl refl refl refl (omega arith) z (rw m at e)
+  account-end-written space draft sum k z m e =
+      let line = line-said accountTrailer (fieldsOf accountTrailer) (totalBytes (w .account .sum) ∷ decimal k ∷ []) slash zeroSpace refl space draft e in
+      end-written w out endAccount accountTrailer (totalBytes (w .account .sum)) (λ n. decimal n ∷ []) (w .account .records) (λ s. s .in-account .records) (draftOf space draft) sum
+      refl refl refl refl (omega arith) z (rw m at line)
 
   pub group-end-written : ended w groupTrailer (w .group) (w .group .accounts) out ≡ write w endGroup out
   unfolding given fieldsOf ended
@@ -170,10 +184,11 @@ module _ (w : Writer) (out : Bytes) where
       end-written w out endFile fileTrailer (totalBytes (w .file .sum)) fs (w .file .records) (λ s. s .in-file .records) _ _ refl refl refl refl (omega arith) refl refl
 
 -- what `end` answers
-pub end-answers : (w : Writer) (c : Code) (s : Summary) (n k : ℕ) (out : Bytes) (o : Outcome Sofar) (sum : Sum) → sum ≡ zeroSum → k ≡ min (s .records + 1) mostRecords
-    → o ≡ lineIn c (fieldsOf c) (totalBytes (s .sum) ∷ decimal n ∷ decimal k ∷ []) slash → answered w out c o sum false ≡ ended w c s n out
+pub end-answers : (w : Writer) (c : Code) (s : Summary) (n k : ℕ) (out space : Bytes) (draft : Draft) (sum : Sum) → sum ≡ zeroSum → k ≡ min (s .records + 1) mostRecords
+    → drawnOf space draft ≡ lineDrawn c (fieldsOf c) (totalBytes (s .sum) ∷ decimal n ∷ decimal k ∷ []) slash zeroSpace
+    → answered w out c (draftOf space draft) sum false ≡ ended w c s n out
 unfolding ended
-end-answers w c s n k out o sum z m e = rw (e, z, m)
+end-answers w c s n k out space draft sum z m e = rw (line-said c (fieldsOf c) (totalBytes (s .sum) ∷ decimal n ∷ decimal k ∷ []) slash zeroSpace refl space draft e, z, m)
 
 -- ---- a detail, with its text
 
@@ -211,21 +226,22 @@ module _ (w : Writer) (y : Bytes) (a : Option Signed) (b c t : Bytes) where
   text-fields o (refused why) h e = rw e (bad-field (why .number) (why .place) h)
   text-fields o (fine left) h e = rw e (with-text left h)
 
-  pub detail-written : (out : Bytes) (o : Outcome Sofar) (sum : Sum) → sum ≡ sumGiven a → o ≡ textAdded t (lineIn detail (fieldsOf detail) parts comma)
-      → answered w out detail o sum false ≡ write w (writeDetail y a b c t) out
+  pub detail-written : (out space : Bytes) (draft : Draft) (sum : Sum) → sum ≡ sumGiven a
+      → drawnOf space draft ≡ textDrawn t (lineDrawn detail (fieldsOf detail) parts comma zeroSpace)
+      → answered w out detail (draftOf space draft) sum false ≡ write w (writeDetail y a b c t) out
   unfolding given fieldsOf
-  detail-written out o sum z e =
-      answers w out o sum (writeDetail y a b c t) (given w (writeDetail y a b c t)) false refl z (λ _.
-      text-fields o (kindsAfter wanted parts) refl
-      (e ∙ ap (textAdded t) (chain-is (text ∷ []) comma wanted (codeBytes detail) y (detailRest a b c) refl refl (omega arith))))
+  detail-written out space draft sum z e =
+      answers w out (draftOf space draft) sum (writeDetail y a b c t) (given w (writeDetail y a b c t)) false refl z (λ _.
+      text-fields (draftOf space draft) (kindsAfter wanted parts) refl
+      (line-text-said detail (fieldsOf detail) parts comma zeroSpace refl space draft t e ∙ ap (textAdded t) (chain-is (text ∷ []) comma wanted (codeBytes detail) y (detailRest a b c) refl refl (omega arith))))
 
 -- ---- an account without an item
 
 -- is one with an empty item
-pub no-item : (w : Writer) (n c out : Bytes) → write w (writeAccount n c (some (record { type = []; amount = none; count = none }))) out ≡ write w (writeAccount n c none) out
+pub no-item : (w : Writer) (n c out : Bytes) → write w (writeAccount n c (some (record { type = []; amount = none; itemCount = none }))) out ≡ write w (writeAccount n c none) out
 unfolding write given
 no-item w n c out = refl
 
-pub with-item : (w : Writer) (n c y out : Bytes) (a : MaybeAmount) (k : MaybeCount) (g : Bool) {r : Written} → g ≡ true
+pub with-item : (w : Writer) (n c y out : Bytes) (a : MaybeAmount) (k : MaybeItems) (g : Bool) {r : Written} → g ≡ true
     → r ≡ write w (writeAccount n c (some (itemMeant y a k))) out → r ≡ write w (writeAccount n c (itemGiven g y a k)) out
 with-item w n c y out a k g e h = rw e h

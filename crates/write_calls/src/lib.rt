@@ -1,12 +1,13 @@
 // The writer of document 01: each call takes the state by value and hands back its answer with the state after it. The line is drafted in a space
 // of its own, by `write_records`; `write_commit` decides whether it is written.
 use base_codes::Code;
+use base_quantities::Count;
 use base_quantities::Records;
 use base_quantities::Units;
 use base_totals::Summary;
 use write_line::LINE_SPACE;
 use write_line::MaybeAmount;
-use write_line::MaybeCount;
+use write_line::MaybeItems;
 use write_state::Writer;
 use write_state::Written;
 ghost use mathlib.Core.Path.{_≡_};
@@ -26,7 +27,7 @@ fn open_account(
     currency: &[u8],
     type_code: &[u8],
     amount: MaybeAmount,
-    count: MaybeCount,
+    count: MaybeItems,
     out: &mut [u8],
 ) -> Written
     ensures { λ r. ⌜ writtenMeant r (now (out .exit)) ≡ rules.write (writerMeant w)
@@ -97,7 +98,7 @@ pub fn account(
     item_given: bool,
     type_code: &[u8],
     amount: MaybeAmount,
-    count: MaybeCount,
+    count: MaybeItems,
     out: &mut [u8],
 ) -> Written
     ensures { λ r. ⌜ writtenMeant r (now (out .exit)) ≡ rules.write (writerMeant w)
@@ -114,7 +115,7 @@ pub fn account(
         currency,
         &none[0..0],
         MaybeAmount::NoAmount,
-        MaybeCount::NoCount,
+        MaybeItems::NoItems,
         out,
     )
 }
@@ -124,7 +125,7 @@ pub fn item(
     w: Writer,
     type_code: &[u8],
     amount: MaybeAmount,
-    count: MaybeCount,
+    count: MaybeItems,
     out: &mut [u8],
 ) -> Written
     ensures { λ r. ⌜ writtenMeant r (now (out .exit)) ≡ rules.write (writerMeant w)
@@ -171,7 +172,7 @@ pub fn end_account(w: Writer, out: &mut [u8]) -> Written
     let account = w.account;
     let records = account.records.add(Records(1));
     let mut space = [0u8; LINE_SPACE];
-    let d = write_records::account_end(&mut space, account.total, records.0);
+    let d = write_records::account_end(&mut space, account.total, records);
     write_commit::commit(
         w,
         Code::AccountTrailer,
@@ -184,12 +185,12 @@ pub fn end_account(w: Writer, out: &mut [u8]) -> Written
 }
 
 // The line 98 or 99: the total, this count, and the records with itself.
-fn end(w: Writer, code: Code, summary: Summary, count: u64, out: &mut [u8]) -> Written
-    ensures { λ r. ⌜ writtenMeant r (now (out .exit)) ≡ ended (writerMeant w) (codeMeant code) (summaryMeant summary) count (now (out .entry)) ⌝ }
+fn end(w: Writer, code: Code, summary: Summary, count: Count, out: &mut [u8]) -> Written
+    ensures { λ r. ⌜ writtenMeant r (now (out .exit)) ≡ ended (writerMeant w) (codeMeant code) (summaryMeant summary) (count .0) (now (out .entry)) ⌝ }
 {
     let records = summary.records.add(Records(1));
     let mut space = [0u8; LINE_SPACE];
-    let d = write_records::trailer(&mut space, code, summary.total, count, records.0);
+    let d = write_records::trailer(&mut space, code, summary.total, count, records);
     write_commit::commit(w, code, &space, d, Units::none(), false, out)
 }
 

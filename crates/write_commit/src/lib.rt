@@ -41,21 +41,22 @@ fn room_number(w: Writer, sum: Units, n: usize, room: usize) -> u64
     let total = f.total;
     match total.join(sum) {
         UnitsSum::Beyond => AMOUNTS_TOO_LARGE,
-        UnitsSum::Within(_) => size_number(size.0, n, room),
+        UnitsSum::Within(_) => size_number(size, n, room),
     }
 }
 
 // 18 or 15 where n bytes more don't fit the file or the slice; 0 where they do.
-fn size_number(size: usize, n: usize, room: usize) -> u64
-    ensures { λ r. ⌜ r ≡ numberOf (hasRoom (size + n) room) ⌝ }
+fn size_number(size: Place, n: usize, room: usize) -> u64
+    ensures { λ r. ⌜ r ≡ numberOf (hasRoom (size .0 + n) room) ⌝ }
 {
-    if LONGEST_FILE < size {
+    let end = size.0;
+    if LONGEST_FILE < end {
         return RESULT_TOO_LONG;
     }
-    if LONGEST_FILE - size < n {
+    if LONGEST_FILE - end < n {
         return RESULT_TOO_LONG;
     }
-    if room < size + n {
+    if room < end + n {
         return NO_ROOM;
     }
     0
@@ -138,7 +139,7 @@ pub fn commit(
     if number != 0 {
         return refused(w, number);
     }
-    write_line::put_at(out, size.0, body);
+    write_line::put_at(out, size, body);
     out[size.0 + body.len()] = b'\n';
     Written {
         refusal: Refusal {

@@ -1,14 +1,14 @@
 -- What a space holds: bytes put in it, and a line in the making with a field or a text more. Assumes nothing.
 use mathlib.Core.Path.{_≡_, refl, ap, _∙_}
 use mathlib.Core.Bool.{true, false, cond, and-false}
-use mathlib.Core.List.{[], _∷_, _++_, append-assoc}
+use mathlib.Core.List.{[], _∷_, _++_}
 use mathlib.Core.Logic.{⊎-elim}
 use Prim.Native.Nat.{ℕ, _+_, _-_, _≤_, _<_}
 use native.Mathlib.Numerals.{add-one}
 use native.Mathlib.Omega.{arith}
 use lib.Dec.{leb}
 use lib.ListN.{length, take, drop, set, length-append, length-drop, take-append-drop}
-use lib.Seq.{length-take-le, take-all, set-split, take-append-seam, drop-drop}
+use lib.Seq.{take-all, set-split, take-append-seam, drop-drop}
 use borrow.Author.Tests.{le-leb, lt-leb, leb-true, leb-false}
 use borrow.Rule.Slice.PartMut.{midOf, putMid}
 use Rattle.rules.specs.Bytes.{Bytes, slash, isEmpty, clean}
@@ -24,13 +24,14 @@ use Rattle.base_digits.proofs.TotalStrings.{total-below-zero, total-from-zero}
 use Rattle.base_numerals.proofs.PutLaws.{put-count, put-bytes, rest-is, rest-back}
 use Rattle.laws_writer.proofs.NumberFields.{not-empty}
 use Rattle.laws_writer.proofs.LinesWritten.{code-bytes}
-use Rattle.laws_writer.proofs.Placing.{placed-front, placed-more}
+use Rattle.laws_writer.proofs.Placing.{placed-more}
 use Rattle.read_wanted.specs.Wants.{wantedOf}
 use Rattle.read_wanted.specs.TakenMeaning.{judgedOf}
 use Rattle.read_wanted.specs.declared.Taken.{Taken}
 use Rattle.read_wanted.specs.declared.Taken.the-variants.{Next, Refused}
 use Rattle.read_wanted.specs.declared.want.Want.{Want}
-use Rattle.write_line.specs.DraftMeaning.{draftOf, wanting, begun, withField, fieldAdded, withText, textAdded}
+use Rattle.write_line.specs.DraftMeaning.{wanting}
+use Rattle.write_line.specs.DrawnLine.{drawnOf, codeDrawn, fieldDrawn, textDrawn}
 use Rattle.write_line.specs.declared.Draft.{Draft}
 
 -- ---- bytes put at a place
@@ -65,91 +66,81 @@ text-short t h = leb-true (length t) 76 (and-left (leb (length t) 76) _ h)
 abbrev pub refusedDraft : Draft
 refusedDraft = record { taken = Refused 20; len = 0 }
 
-module _ (line : Bytes) (len : ℕ) (space : length line ≡ 640) where
-  no-room : 640 < len + 77 → leb (length (take len line) + 77) 640 ≡ false
-  no-room h =
-      lt-leb (length (take len line) + 77) 640
-      (⊎-elim (λ g. rw (take-all len line (omega arith)) (omega arith)) (λ g. rw (length-take-le len line g) h) (below-or-from (length line) len))
-
-  has-room : len + 77 ≤ 640 → leb (length (take len line) + 77) 640 ≡ true
-  has-room h = le-leb (length (take len line) + 77) 640 (rw (length-take-le len line (omega arith)) h)
-
+module _ (line : Bytes) (len : ℕ) where
   module _ (want : Want) (f : Bytes) (mark : ℕ) where
     -- a field is refused where no room is left, or it is too long or not clean
-    pub field-no-room : 640 < len + 77 → draftOf line refusedDraft ≡ fieldAdded f mark (draftOf line (wanting want len))
-    unfolding draftOf judgedOf fieldAdded withField
-    field-no-room h = rw (no-room h)
+    pub field-no-room : 640 < len + 77 → drawnOf line refusedDraft ≡ fieldDrawn f mark (drawnOf line (wanting want len))
+    unfolding drawnOf judgedOf fieldDrawn
+    field-no-room h = rw (lt-leb (len + 77) 640 h)
 
-    pub field-long : len + 77 ≤ 640 → 76 < length f → draftOf line refusedDraft ≡ fieldAdded f mark (draftOf line (wanting want len))
-    unfolding draftOf judgedOf fieldAdded withField
-    field-long h g = rw (has-room h, lt-leb (length f) 76 g, and-false (clean f))
+    pub field-long : 76 < length f → drawnOf line refusedDraft ≡ fieldDrawn f mark (drawnOf line (wanting want len))
+    unfolding drawnOf judgedOf fieldDrawn
+    field-long g = rw (lt-leb (length f) 76 g, and-false (clean f), and-false (leb (len + 77) 640))
 
-    pub field-unclean : len + 77 ≤ 640 → clean f ≡ false → draftOf line refusedDraft ≡ fieldAdded f mark (draftOf line (wanting want len))
-    unfolding draftOf judgedOf fieldAdded withField
-    field-unclean h e = rw (has-room h, e)
+    pub field-unclean : clean f ≡ false → drawnOf line refusedDraft ≡ fieldDrawn f mark (drawnOf line (wanting want len))
+    unfolding drawnOf judgedOf fieldDrawn
+    field-unclean e = rw (e, and-false (leb (len + 77) 640))
 
     -- else it is put with its mark, and judged
-    pub field-put : (t : Taken) (put now : Bytes) → len + 77 ≤ 640 → length f ≤ 76 → clean f ≡ true → judgedOf t ≡ takeNext (wantedOf want) f
+    pub field-put : (t : Taken) (put now : Bytes) → length line ≡ 640 → len + 77 ≤ 640 → length f ≤ 76 → clean f ≡ true → judgedOf t ≡ takeNext (wantedOf want) f
         → put ≡ cond (leb (len + length f) (length line)) (placed len f line) line → now ≡ set put (len + length f) mark
-        → draftOf now (record { taken = t; len = len + length f + 1 }) ≡ fieldAdded f mark (draftOf line (wanting want len))
-    unfolding draftOf judgedOf fieldAdded withField
-    field-put t put now h s c j p q =
+        → drawnOf now (record { taken = t; len = len + length f + 1 }) ≡ fieldDrawn f mark (drawnOf line (wanting want len))
+    unfolding drawnOf judgedOf fieldDrawn
+    field-put t put now space h s c j p q =
         let size : len + length f + 1 ≡ len + length (f ++ (mark ∷ [])) = rw (length-append f (mark ∷ [])) (omega arith) in
         let p′ : put ≡ placed len f line = rw (le-leb (len + length f) (length line) (omega arith)) at p in
         let e : now ≡ placed len (f ++ (mark ∷ [])) line = q ∙ ap (λ (bs : Bytes). set bs (len + length f) mark) p′ ∙ placed-more len f line mark (omega arith) in
-        rw (has-room h, c, le-leb (length f) 76 s, j, e, size, placed-front len (f ++ (mark ∷ [])) line (omega arith))
+        rw (le-leb (len + 77) 640 h, c, le-leb (length f) 76 s, j, e, size)
 
   module _ (want : Want) (t : Bytes) where
     -- a text likewise
-    pub text-no-room : 640 < len + 77 → draftOf line refusedDraft ≡ textAdded t (draftOf line (wanting want len))
-    unfolding draftOf judgedOf textAdded withText
-    text-no-room h = rw (no-room h)
+    pub text-no-room : 640 < len + 77 → drawnOf line refusedDraft ≡ textDrawn t (drawnOf line (wanting want len))
+    unfolding drawnOf judgedOf textDrawn
+    text-no-room h = rw (lt-leb (len + 77) 640 h)
 
-    pub text-bad : len + 77 ≤ 640 → goodText t ≡ false → draftOf line refusedDraft ≡ textAdded t (draftOf line (wanting want len))
-    unfolding draftOf judgedOf textAdded withText
-    text-bad h e = rw (has-room h, e)
+    pub text-bad : goodText t ≡ false → drawnOf line refusedDraft ≡ textDrawn t (drawnOf line (wanting want len))
+    unfolding drawnOf judgedOf textDrawn
+    text-bad e = rw (e, and-false (leb (len + 77) 640))
 
-    pub text-put : (now : Bytes) → len + 77 ≤ 640 → goodText t ≡ true → (length t ≡ 0 → ⊥)
+    pub text-put : (now : Bytes) → length line ≡ 640 → len + 77 ≤ 640 → goodText t ≡ true → (length t ≡ 0 → ⊥)
         → now ≡ cond (leb (len + length t) (length line)) (placed len t line) line
-        → draftOf now (wanting want (len + length t)) ≡ textAdded t (draftOf line (wanting want len))
-    unfolding draftOf judgedOf textAdded withText
-    text-put now h g n p =
+        → drawnOf now (wanting want (len + length t)) ≡ textDrawn t (drawnOf line (wanting want len))
+    unfolding drawnOf judgedOf textDrawn
+    text-put now space h g n p =
         let s = text-short t g in
-        rw (has-room h, g, not-empty t (omega arith), p, le-leb (len + length t) (length line) (omega arith), placed-front len t line (omega arith))
+        rw (le-leb (len + 77) 640 h, g, not-empty t (omega arith), p, le-leb (len + length t) (length line) (omega arith))
 
-    pub text-slash : (now : Bytes) → len + 77 ≤ 640 → goodText t ≡ true → length t ≡ 0 → now ≡ set line len slash
-        → draftOf now (wanting want (len + 1)) ≡ textAdded t (draftOf line (wanting want len))
-    unfolding draftOf judgedOf textAdded withText
-    text-slash now h g e p =
+    pub text-slash : (now : Bytes) → length line ≡ 640 → len + 77 ≤ 640 → goodText t ≡ true → length t ≡ 0 → now ≡ set line len slash
+        → drawnOf now (wanting want (len + 1)) ≡ textDrawn t (drawnOf line (wanting want len))
+    unfolding drawnOf judgedOf textDrawn
+    text-slash now space h g e p =
         let q : now ≡ placed len (slash ∷ []) line = p ∙ set-split line len slash (omega arith) ∙ rw add-one in
-        rw (has-room h, g, none-empty t e, q, placed-front len (slash ∷ []) line (omega arith))
+        rw (le-leb (len + 77) 640 h, g, none-empty t e, q)
 
--- a refused draft stays refused
+-- a refused draft stays
 module _ (line : Bytes) (d : Draft) (n : ℕ) (e : d .taken ≡ Refused n) where
-  pub refused-stays : (f : Bytes) (mark : ℕ) → draftOf line d ≡ fieldAdded f mark (draftOf line d)
-  unfolding draftOf judgedOf fieldAdded
+  pub refused-stays : (f : Bytes) (mark : ℕ) → drawnOf line d ≡ fieldDrawn f mark (drawnOf line d)
+  unfolding drawnOf judgedOf fieldDrawn
   refused-stays f mark = rw e
 
-  pub refused-text : (t : Bytes) → draftOf line d ≡ textAdded t (draftOf line d)
-  unfolding draftOf judgedOf textAdded
+  pub refused-text : (t : Bytes) → drawnOf line d ≡ textDrawn t (drawnOf line d)
+  unfolding drawnOf judgedOf textDrawn
   refused-text t = rw e
 
 -- what is wanted says what a draft says
-pub wanted-is : (line : Bytes) (d : Draft) (want : Want) → d .taken ≡ Next want → draftOf line d ≡ draftOf line (wanting want (d .len))
-unfolding draftOf
+pub wanted-is : (line : Bytes) (d : Draft) (want : Want) → d .taken ≡ Next want → drawnOf line d ≡ drawnOf line (wanting want (d .len))
+unfolding drawnOf
 wanted-is line d want e = rw e
 
 -- a code in front
 module _ (line : Bytes) (c : Code) (want : Want) where
   pub begin-put : (bytes now : Bytes) → length line ≡ 640 → bytes ≡ codeBytes c
-      → now ≡ cond (leb (0 + length (take 3 bytes)) (length line)) (placed 0 (take 3 bytes) line) line → draftOf now (wanting want 3) ≡ begun c (wantedOf want)
-  unfolding draftOf judgedOf
+      → now ≡ cond (leb (0 + length (take 3 bytes)) (length line)) (placed 0 (take 3 bytes) line) line → drawnOf now (wanting want 3) ≡ codeDrawn c (wantedOf want) line
+  unfolding drawnOf judgedOf
   begin-put bytes now h b p =
       let n = code-bytes c .size in
       let all : take 3 bytes ≡ codeBytes c = rw b (take-all 3 (codeBytes c) (omega arith)) in
-      let z : 3 ≡ 0 + length (codeBytes c) = omega arith in
-      let front : take 3 now ≡ codeBytes c = rw (p, all, le-leb (0 + length (codeBytes c)) (length line) (omega arith), z) (placed-front 0 (codeBytes c) line (omega arith)) in
-      rw front
+      rw (p, all, le-leb (0 + length (codeBytes c)) (length line) (omega arith))
 
 -- ---- numbers put in a space of their own
 

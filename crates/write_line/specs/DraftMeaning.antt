@@ -21,8 +21,8 @@ use Rattle.read_wanted.specs.declared.want.Want.{Want}
 use Rattle.write_line.specs.declared.Draft.{Draft}
 use Rattle.write_line.specs.declared.MaybeAmount.{MaybeAmount}
 use Rattle.write_line.specs.declared.MaybeAmount.the-variants as amounts
-use Rattle.write_line.specs.declared.MaybeCount.{MaybeCount}
-use Rattle.write_line.specs.declared.MaybeCount.the-variants as counts
+use Rattle.write_line.specs.declared.MaybeItems.{MaybeItems}
+use Rattle.write_line.specs.declared.MaybeItems.the-variants as counts
 
 -- the kinds wanted next, and the bytes so far
 pub record Sofar : Type 0 where
@@ -81,6 +81,6 @@ abbrev pub amountGiven : MaybeAmount → Option Signed
 amountGiven (amounts.Given a) = some (amountMeant a)
 amountGiven amounts.NoAmount = none
 
-abbrev pub countGiven : MaybeCount → Option ℕ
-countGiven (counts.Given n) = some n
-countGiven counts.NoCount = none
+abbrev pub itemsGiven : MaybeItems → Option ℕ
+itemsGiven (counts.Given n) = some (n .0)
+itemsGiven counts.NoItems = none

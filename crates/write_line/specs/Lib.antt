@@ -1,2 +1,3 @@
--- What the code's structs and enums mean in the rules' terms.
+-- What the code's structs and enums mean in the rules' terms, and what stands in a draft's space.
 pub mod DraftMeaning
+pub mod DrawnLine

@@ -2,6 +2,9 @@
 use base_codes::Code;
 use base_digits::Amount;
 use base_limits::LONGEST_NAME;
+use base_quantities::Count;
+use base_quantities::Place;
+use base_quantities::Records;
 use base_quantities::Units;
 use base_refusals::WRONG_FIELD_GIVEN;
 use read_wanted::Taken;
@@ -11,13 +14,14 @@ ghost use mathlib.Core.Bool.{cond};
 ghost use mathlib.Core.List.{[], _∷_};
 ghost use Prim.Native.Nat.{_+_};
 ghost use lib.Dec.{leb};
-ghost use lib.ListN.{length};
+ghost use lib.ListN.{length, replicate};
 ghost use Rattle.rules.specs.Numbers.{decimal, totalBytes};
-ghost use Rattle.rules.specs.Writer.{placed, goodText, sumGiven, amountBytes, countBytes};
+ghost use Rattle.rules.specs.Writer.{placed, goodText, sumGiven, amountBytes, itemCountBytes};
 ghost use Rattle.base_codes.specs.CodeMeaning.{codeMeant};
 ghost use Rattle.base_quantities.specs.QuantityMeanings.{sumMeant};
 ghost use Rattle.read_wanted.specs.Wants.{wantedOf};
-ghost use Rattle.write_line.specs.DraftMeaning.{lineSpace, draftOf, wanting, begun, fieldAdded, textAdded, amountGiven, countGiven};
+ghost use Rattle.write_line.specs.DraftMeaning.{lineSpace, wanting, amountGiven, itemsGiven};
+ghost use Rattle.write_line.specs.DrawnLine.{drawnOf, codeDrawn, fieldDrawn, textDrawn};
 
 // What is wanted next, or that a field was refused; and how many bytes of the line stand.
 pub struct Draft {
@@ -31,10 +35,13 @@ pub enum MaybeAmount {
     NoAmount,
 }
 
+// How many items a summary item stands for: document 01's item count.
+pub struct Items(pub u64);
+
 // A number of items or none.
-pub enum MaybeCount {
-    Given(u64),
-    NoCount,
+pub enum MaybeItems {
+    Given(Items),
+    NoItems,
 }
 
 // The space of a line in the making: room for a code, and eight fields of 76 bytes with their marks.
@@ -44,15 +51,16 @@ pub const LINE_SPACE: usize = 640;
 
 // Room for any number: a sign and 20 digits.
 fn number_space() -> [u8; 21]
-    ensures { λ r. ⌜ 21 ≡ length r ⌝ }
+    ensures { λ r. ⌜ r ≡ replicate 21 0 ⌝ }
 {
     [0; 21]
 }
 
 // The bytes at a place of out; nothing changed where they don't fit.
-pub fn put_at(out: &mut [u8], at: usize, src: &[u8])
-    ensures { λ _. ⌜ now (out .exit) ≡ cond (leb (at + length (now (src .entry))) (length (now (out .entry)))) (placed at (now (src .entry)) (now (out .entry))) (now (out .entry)) ⌝ }
+pub fn put_at(out: &mut [u8], place: Place, src: &[u8])
+    ensures { λ _. ⌜ now (out .exit) ≡ cond (leb (place .0 + length (now (src .entry))) (length (now (out .entry)))) (placed (place .0) (now (src .entry)) (now (out .entry))) (now (out .entry)) ⌝ }
 {
+    let at = place.0;
     if out.len() < at {
         return;
     }
@@ -82,11 +90,11 @@ fn is_good_text(t: &[u8]) -> bool
 
 // A line with its code, and this wanted after it.
 pub fn begin(line: &mut [u8; LINE_SPACE], code: Code, want: Want) -> Draft
-    ensures { λ r. ⌜ draftOf (now (line .exit)) r ≡ begun (codeMeant code) (wantedOf want) ⌝ }
+    ensures { λ r. ⌜ drawnOf (now (line .exit)) r ≡ codeDrawn (codeMeant code) (wantedOf want) (now (line .entry)) ⌝ }
 {
     let digits = base_codes::digits_of(code);
     let bytes = [digits.0, digits.1, b','];
-    put_at(line, 0, &bytes[0..3]);
+    put_at(line, Place(0), &bytes[0..3]);
     Draft {
         taken: Taken::Next(want),
         len: 3,
@@ -96,7 +104,7 @@ pub fn begin(line: &mut [u8; LINE_SPACE], code: Code, want: Want) -> Draft
 // A field as the first of what is wanted, and the mark after it.
 fn add_wanted(line: &mut [u8], len: usize, want: Want, f: &[u8], mark: u8) -> Draft
     requires { ⌜ length (now line) ≡ lineSpace ⌝ }
-    ensures { λ r. ⌜ draftOf (now (line .exit)) r ≡ fieldAdded (now (f .entry)) mark (draftOf (now (line .entry)) (wanting want len)) ⌝ }
+    ensures { λ r. ⌜ drawnOf (now (line .exit)) r ≡ fieldDrawn (now (f .entry)) mark (drawnOf (now (line .entry)) (wanting want len)) ⌝ }
 {
     let refused = Draft {
         taken: Taken::Refused(WRONG_FIELD_GIVEN),
@@ -111,7 +119,7 @@ fn add_wanted(line: &mut [u8], len: usize, want: Want, f: &[u8], mark: u8) -> Dr
     if !read_values::is_clean(f) {
         return refused;
     }
-    put_at(line, len, f);
+    put_at(line, Place(len), f);
     line[len + f.len()] = mark;
     Draft {
         taken: read_fields::take_field(want, f),
@@ -121,7 +129,7 @@ fn add_wanted(line: &mut [u8], len: usize, want: Want, f: &[u8], mark: u8) -> Dr
 
 // The line with a field more and the mark after it.
 pub fn add(line: &mut [u8; LINE_SPACE], d: Draft, f: &[u8], mark: u8) -> Draft
-    ensures { λ r. ⌜ draftOf (now (line .exit)) r ≡ fieldAdded (now (f .entry)) mark (draftOf (now (line .entry)) d) ⌝ }
+    ensures { λ r. ⌜ drawnOf (now (line .exit)) r ≡ fieldDrawn (now (f .entry)) mark (drawnOf (now (line .entry)) d) ⌝ }
 {
     let taken = d.taken;
     match taken {
@@ -132,7 +140,7 @@ pub fn add(line: &mut [u8; LINE_SPACE], d: Draft, f: &[u8], mark: u8) -> Draft
 
 // The line with an empty field more.
 pub fn add_empty(line: &mut [u8; LINE_SPACE], d: Draft, mark: u8) -> Draft
-    ensures { λ r. ⌜ draftOf (now (line .exit)) r ≡ fieldAdded [] mark (draftOf (now (line .entry)) d) ⌝ }
+    ensures { λ r. ⌜ drawnOf (now (line .exit)) r ≡ fieldDrawn [] mark (drawnOf (now (line .entry)) d) ⌝ }
 {
     let none = [0u8];
     add(line, d, &none[0..0], mark)
@@ -140,7 +148,7 @@ pub fn add_empty(line: &mut [u8; LINE_SPACE], d: Draft, mark: u8) -> Draft
 
 // The line with version 2, its last field.
 pub fn add_version(line: &mut [u8; LINE_SPACE], d: Draft) -> Draft
-    ensures { λ r. ⌜ draftOf (now (line .exit)) r ≡ fieldAdded (50 ∷ []) 47 (draftOf (now (line .entry)) d) ⌝ }
+    ensures { λ r. ⌜ drawnOf (now (line .exit)) r ≡ fieldDrawn (50 ∷ []) 47 (drawnOf (now (line .entry)) d) ⌝ }
 {
     let two = [b'2'];
     add(line, d, &two[0..1], b'/')
@@ -148,20 +156,34 @@ pub fn add_version(line: &mut [u8; LINE_SPACE], d: Draft) -> Draft
 
 // The line with a sum's number more.
 pub fn add_total(line: &mut [u8; LINE_SPACE], d: Draft, total: Units, mark: u8) -> Draft
-    ensures { λ r. ⌜ draftOf (now (line .exit)) r ≡ fieldAdded (totalBytes (sumMeant total)) mark (draftOf (now (line .entry)) d) ⌝ }
+    ensures { λ r. ⌜ drawnOf (now (line .exit)) r ≡ fieldDrawn (totalBytes (sumMeant total)) mark (drawnOf (now (line .entry)) d) ⌝ }
 {
     let mut space = number_space();
     let k = base_numerals::put_total(&mut space, total);
     add(line, d, &space[0..k], mark)
 }
 
-// The line with a count more.
-pub fn add_count(line: &mut [u8; LINE_SPACE], d: Draft, n: u64, mark: u8) -> Draft
-    ensures { λ r. ⌜ draftOf (now (line .exit)) r ≡ fieldAdded (decimal n) mark (draftOf (now (line .entry)) d) ⌝ }
+// The line with a number more.
+fn add_number(line: &mut [u8; LINE_SPACE], d: Draft, n: u64, mark: u8) -> Draft
+    ensures { λ r. ⌜ drawnOf (now (line .exit)) r ≡ fieldDrawn (decimal n) mark (drawnOf (now (line .entry)) d) ⌝ }
 {
     let mut space = number_space();
     let k = base_numerals::put_digits(&mut space, n);
     add(line, d, &space[0..k], mark)
+}
+
+// The line with a count of groups or accounts more.
+pub fn add_count(line: &mut [u8; LINE_SPACE], d: Draft, n: Count, mark: u8) -> Draft
+    ensures { λ r. ⌜ drawnOf (now (line .exit)) r ≡ fieldDrawn (decimal (n .0)) mark (drawnOf (now (line .entry)) d) ⌝ }
+{
+    add_number(line, d, n.0, mark)
+}
+
+// The line with a record count more.
+pub fn add_records(line: &mut [u8; LINE_SPACE], d: Draft, n: Records, mark: u8) -> Draft
+    ensures { λ r. ⌜ drawnOf (now (line .exit)) r ≡ fieldDrawn (decimal (n .0)) mark (drawnOf (now (line .entry)) d) ⌝ }
+{
+    add_number(line, d, n.0, mark)
 }
 
 // What an amount or none adds.
@@ -176,7 +198,7 @@ pub fn sum_given(amount: MaybeAmount) -> Units
 
 // The line with an amount more, or with an empty field where there is none.
 pub fn add_amount(line: &mut [u8; LINE_SPACE], d: Draft, amount: MaybeAmount, mark: u8) -> Draft
-    ensures { λ r. ⌜ draftOf (now (line .exit)) r ≡ fieldAdded (amountBytes (amountGiven amount)) mark (draftOf (now (line .entry)) d) ⌝ }
+    ensures { λ r. ⌜ drawnOf (now (line .exit)) r ≡ fieldDrawn (amountBytes (amountGiven amount)) mark (drawnOf (now (line .entry)) d) ⌝ }
 {
     match amount {
         MaybeAmount::Given(a) => add_total(line, d, Units::of(a.negative, a.magnitude), mark),
@@ -185,19 +207,19 @@ pub fn add_amount(line: &mut [u8; LINE_SPACE], d: Draft, amount: MaybeAmount, ma
 }
 
 // The line with a number of items more, or with an empty field where there is none.
-pub fn add_items(line: &mut [u8; LINE_SPACE], d: Draft, count: MaybeCount, mark: u8) -> Draft
-    ensures { λ r. ⌜ draftOf (now (line .exit)) r ≡ fieldAdded (countBytes (countGiven count)) mark (draftOf (now (line .entry)) d) ⌝ }
+pub fn add_items(line: &mut [u8; LINE_SPACE], d: Draft, count: MaybeItems, mark: u8) -> Draft
+    ensures { λ r. ⌜ drawnOf (now (line .exit)) r ≡ fieldDrawn (itemCountBytes (itemsGiven count)) mark (drawnOf (now (line .entry)) d) ⌝ }
 {
     match count {
-        MaybeCount::Given(n) => add_count(line, d, n, mark),
-        MaybeCount::NoCount => add_empty(line, d, mark),
+        MaybeItems::Given(n) => add_number(line, d, n.0, mark),
+        MaybeItems::NoItems => add_empty(line, d, mark),
     }
 }
 
 // The text's bytes after the last mark; "/" for an empty one.
 fn put_text(line: &mut [u8], len: usize, want: Want, t: &[u8]) -> Draft
     requires { ⌜ length (now line) ≡ lineSpace ⌝ }
-    ensures { λ r. ⌜ draftOf (now (line .exit)) r ≡ textAdded (now (t .entry)) (draftOf (now (line .entry)) (wanting want len)) ⌝ }
+    ensures { λ r. ⌜ drawnOf (now (line .exit)) r ≡ textDrawn (now (t .entry)) (drawnOf (now (line .entry)) (wanting want len)) ⌝ }
 {
     let refused = Draft {
         taken: Taken::Refused(WRONG_FIELD_GIVEN),
@@ -216,7 +238,7 @@ fn put_text(line: &mut [u8], len: usize, want: Want, t: &[u8]) -> Draft
             len: len + 1,
         };
     }
-    put_at(line, len, t);
+    put_at(line, Place(len), t);
     Draft {
         taken: Taken::Next(want),
         len: len + t.len(),
@@ -225,7 +247,7 @@ fn put_text(line: &mut [u8], len: usize, want: Want, t: &[u8]) -> Draft
 
 // The line with its text.
 pub fn add_text(line: &mut [u8; LINE_SPACE], d: Draft, t: &[u8]) -> Draft
-    ensures { λ r. ⌜ draftOf (now (line .exit)) r ≡ textAdded (now (t .entry)) (draftOf (now (line .entry)) d) ⌝ }
+    ensures { λ r. ⌜ drawnOf (now (line .exit)) r ≡ textDrawn (now (t .entry)) (drawnOf (now (line .entry)) d) ⌝ }
 {
     let taken = d.taken;
     match taken {

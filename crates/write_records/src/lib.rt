@@ -1,22 +1,25 @@
 // The lines of the writer's calls, drafted: the fields in the order of their record.
 use base_codes::Code;
+use base_quantities::Count;
+use base_quantities::Records;
 use base_quantities::Units;
 use read_wanted::want;
 use read_wanted::want::Want;
 use write_line::Draft;
 use write_line::LINE_SPACE;
 use write_line::MaybeAmount;
-use write_line::MaybeCount;
+use write_line::MaybeItems;
 ghost use mathlib.Core.Path.{_≡_};
 ghost use mathlib.Core.List.{[], _∷_};
 ghost use Rattle.rules.specs.Numbers.{decimal, totalBytes};
 ghost use Rattle.rules.specs.Lines as lines;
 ghost use Rattle.rules.specs.Grammar.{fieldsOf, furtherType};
-ghost use Rattle.rules.specs.Writer.{amountBytes, countBytes};
+ghost use Rattle.rules.specs.Writer.{amountBytes, itemCountBytes};
 ghost use Rattle.base_codes.specs.CodeMeaning.{codeMeant};
 ghost use Rattle.base_quantities.specs.QuantityMeanings.{sumMeant};
-ghost use Rattle.write_line.specs.DraftMeaning.{draftOf, textAdded, amountGiven, countGiven};
-ghost use Rattle.write_records.specs.RecordLines.{lineIn};
+ghost use Rattle.write_line.specs.DraftMeaning.{amountGiven, itemsGiven};
+ghost use Rattle.write_line.specs.DrawnLine.{drawnOf, textDrawn};
+ghost use Rattle.write_records.specs.RecordLines.{lineDrawn};
 
 // The line 01: L and block size stay empty, and the version is 2.
 pub fn header(
@@ -27,8 +30,8 @@ pub fn header(
     time: &[u8],
     file_number: &[u8],
 ) -> Draft
-    ensures { λ r. ⌜ draftOf (now (line .exit)) r ≡ lineIn lines.fileHeader (fieldsOf lines.fileHeader)
-        (now (sender .entry) ∷ now (receiver .entry) ∷ now (date .entry) ∷ now (time .entry) ∷ now («file_number» .entry) ∷ [] ∷ [] ∷ (50 ∷ []) ∷ []) 47 ⌝ }
+    ensures { λ r. ⌜ drawnOf (now (line .exit)) r ≡ lineDrawn lines.fileHeader (fieldsOf lines.fileHeader)
+        (now (sender .entry) ∷ now (receiver .entry) ∷ now (date .entry) ∷ now (time .entry) ∷ now («file_number» .entry) ∷ [] ∷ [] ∷ (50 ∷ []) ∷ []) 47 (now (line .entry)) ⌝ }
 {
     let d = write_line::begin(line, Code::FileHeader, want::first_want(Code::FileHeader));
     let d = write_line::add(line, d, sender, b',');
@@ -52,8 +55,8 @@ pub fn group(
     currency: &[u8],
     modifier: &[u8],
 ) -> Draft
-    ensures { λ r. ⌜ draftOf (now (line .exit)) r ≡ lineIn lines.groupHeader (fieldsOf lines.groupHeader)
-        (now (receiver .entry) ∷ now (originator .entry) ∷ now (status .entry) ∷ now (date .entry) ∷ now (time .entry) ∷ now (currency .entry) ∷ now (modifier .entry) ∷ []) 47 ⌝ }
+    ensures { λ r. ⌜ drawnOf (now (line .exit)) r ≡ lineDrawn lines.groupHeader (fieldsOf lines.groupHeader)
+        (now (receiver .entry) ∷ now (originator .entry) ∷ now (status .entry) ∷ now (date .entry) ∷ now (time .entry) ∷ now (currency .entry) ∷ now (modifier .entry) ∷ []) 47 (now (line .entry)) ⌝ }
 {
     let d = write_line::begin(line, Code::GroupHeader, want::first_want(Code::GroupHeader));
     let d = write_line::add(line, d, receiver, b',');
@@ -72,10 +75,10 @@ pub fn account(
     currency: &[u8],
     type_code: &[u8],
     amount: MaybeAmount,
-    count: MaybeCount,
+    count: MaybeItems,
 ) -> Draft
-    ensures { λ r. ⌜ draftOf (now (line .exit)) r ≡ lineIn lines.accountHeader (fieldsOf lines.accountHeader)
-        (now (number .entry) ∷ now (currency .entry) ∷ now («type_code» .entry) ∷ amountBytes (amountGiven amount) ∷ countBytes (countGiven count) ∷ [] ∷ []) 47 ⌝ }
+    ensures { λ r. ⌜ drawnOf (now (line .exit)) r ≡ lineDrawn lines.accountHeader (fieldsOf lines.accountHeader)
+        (now (number .entry) ∷ now (currency .entry) ∷ now («type_code» .entry) ∷ amountBytes (amountGiven amount) ∷ itemCountBytes (itemsGiven count) ∷ [] ∷ []) 47 (now (line .entry)) ⌝ }
 {
     let d = write_line::begin(
         line,
@@ -95,10 +98,10 @@ pub fn item(
     line: &mut [u8; LINE_SPACE],
     type_code: &[u8],
     amount: MaybeAmount,
-    count: MaybeCount,
+    count: MaybeItems,
 ) -> Draft
-    ensures { λ r. ⌜ draftOf (now (line .exit)) r ≡ lineIn lines.continuation (furtherType ∷ [])
-        (now («type_code» .entry) ∷ amountBytes (amountGiven amount) ∷ countBytes (countGiven count) ∷ [] ∷ []) 47 ⌝ }
+    ensures { λ r. ⌜ drawnOf (now (line .exit)) r ≡ lineDrawn lines.continuation (furtherType ∷ [])
+        (now («type_code» .entry) ∷ amountBytes (amountGiven amount) ∷ itemCountBytes (itemsGiven count) ∷ [] ∷ []) 47 (now (line .entry)) ⌝ }
 {
     let d = write_line::begin(line, Code::Continuation, Want::FurtherType);
     let d = write_line::add(line, d, type_code, b',');
@@ -116,8 +119,8 @@ pub fn detail(
     customer_reference: &[u8],
     text: &[u8],
 ) -> Draft
-    ensures { λ r. ⌜ draftOf (now (line .exit)) r ≡ textAdded (now (text .entry)) (lineIn lines.detail (fieldsOf lines.detail)
-        (now («type_code» .entry) ∷ amountBytes (amountGiven amount) ∷ [] ∷ now («bank_reference» .entry) ∷ now («customer_reference» .entry) ∷ []) 44) ⌝ }
+    ensures { λ r. ⌜ drawnOf (now (line .exit)) r ≡ textDrawn (now (text .entry)) (lineDrawn lines.detail (fieldsOf lines.detail)
+        (now («type_code» .entry) ∷ amountBytes (amountGiven amount) ∷ [] ∷ now («bank_reference» .entry) ∷ now («customer_reference» .entry) ∷ []) 44 (now (line .entry))) ⌝ }
 {
     let d = write_line::begin(line, Code::Detail, want::first_want(Code::Detail));
     let d = write_line::add(line, d, type_code, b',');
@@ -129,8 +132,8 @@ pub fn detail(
 }
 
 // The line 49: total and records.
-pub fn account_end(line: &mut [u8; LINE_SPACE], total: Units, records: u64) -> Draft
-    ensures { λ r. ⌜ draftOf (now (line .exit)) r ≡ lineIn lines.accountTrailer (fieldsOf lines.accountTrailer) (totalBytes (sumMeant total) ∷ decimal records ∷ []) 47 ⌝ }
+pub fn account_end(line: &mut [u8; LINE_SPACE], total: Units, records: Records) -> Draft
+    ensures { λ r. ⌜ drawnOf (now (line .exit)) r ≡ lineDrawn lines.accountTrailer (fieldsOf lines.accountTrailer) (totalBytes (sumMeant total) ∷ decimal (records .0) ∷ []) 47 (now (line .entry)) ⌝ }
 {
     let d = write_line::begin(
         line,
@@ -138,7 +141,7 @@ pub fn account_end(line: &mut [u8; LINE_SPACE], total: Units, records: u64) -> D
         want::first_want(Code::AccountTrailer),
     );
     let d = write_line::add_total(line, d, total, b',');
-    write_line::add_count(line, d, records, b'/')
+    write_line::add_records(line, d, records, b'/')
 }
 
 // The line 98 or 99: total, accounts or groups, and records.
@@ -146,13 +149,13 @@ pub fn trailer(
     line: &mut [u8; LINE_SPACE],
     code: Code,
     total: Units,
-    count: u64,
-    records: u64,
+    count: Count,
+    records: Records,
 ) -> Draft
-    ensures { λ r. ⌜ draftOf (now (line .exit)) r ≡ lineIn (codeMeant code) (fieldsOf (codeMeant code)) (totalBytes (sumMeant total) ∷ decimal count ∷ decimal records ∷ []) 47 ⌝ }
+    ensures { λ r. ⌜ drawnOf (now (line .exit)) r ≡ lineDrawn (codeMeant code) (fieldsOf (codeMeant code)) (totalBytes (sumMeant total) ∷ decimal (count .0) ∷ decimal (records .0) ∷ []) 47 (now (line .entry)) ⌝ }
 {
     let d = write_line::begin(line, code, want::first_want(code));
     let d = write_line::add_total(line, d, total, b',');
     let d = write_line::add_count(line, d, count, b',');
-    write_line::add_count(line, d, records, b'/')
+    write_line::add_records(line, d, records, b'/')
 }

@@ -3,6 +3,7 @@
 use base_codes::Code;
 use base_limits::LONGEST_FILE;
 use base_limits::MOST;
+use base_quantities::Magnitude;
 use base_quantities::Place;
 use base_quantities::Units;
 use base_refusals::Refusal;
@@ -64,27 +65,32 @@ impl Writer {
 
 // ---- sound states
 
-// No count is larger than n.
-fn counts_within(s: Summary, n: u64) -> bool
-    ensures { λ r. ⌜ r ≡ counted n (summaryMeant s) ⌝ }
+// No count is larger than the bytes so far are many.
+fn counts_within(s: Summary, size: Place) -> bool
+    ensures { λ r. ⌜ r ≡ counted (size .0) (summaryMeant s) ⌝ }
 {
+    let n = size.0 as u64;
+    let groups = s.groups;
+    let accounts = s.accounts;
+    let details = s.details;
     let records = s.records;
-    if n < s.groups {
+    if n < groups.0 {
         return false;
     }
-    if n < s.accounts {
+    if n < accounts.0 {
         return false;
     }
-    if n < s.details {
+    if n < details.0 {
         return false;
     }
     records.0 <= n
 }
 
-// The magnitudes of a sum add up to at most n.
-fn sum_within(u: Units, n: u64) -> bool
-    ensures { λ r. ⌜ r ≡ leb (magnitudes (sumMeant u)) n ⌝ }
+// The magnitudes of a sum add up to at most this one.
+fn sum_within(u: Units, most: Magnitude) -> bool
+    ensures { λ r. ⌜ r ≡ leb (magnitudes (sumMeant u)) (most .0) ⌝ }
 {
+    let n = most.0;
     if n < u.0 {
         return false;
     }
@@ -102,25 +108,24 @@ pub fn is_sound(w: Writer) -> bool
     if LONGEST_FILE < size.0 {
         return false;
     }
-    if !sum_within(f.total, MOST) {
+    if !sum_within(f.total, Magnitude(MOST)) {
         return false;
     }
     let sum = f.total;
     let m = sum.0 + sum.1;
-    if !sum_within(g.total, m) {
+    if !sum_within(g.total, Magnitude(m)) {
         return false;
     }
-    if !sum_within(a.total, m) {
+    if !sum_within(a.total, Magnitude(m)) {
         return false;
     }
-    let n = size.0 as u64;
-    if !counts_within(f, n) {
+    if !counts_within(f, size) {
         return false;
     }
-    if !counts_within(g, n) {
+    if !counts_within(g, size) {
         return false;
     }
-    counts_within(a, n)
+    counts_within(a, size)
 }
 
 // ---- turns

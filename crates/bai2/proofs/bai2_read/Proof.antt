@@ -14,13 +14,14 @@ file-of c = c .before .before .args .file .now
 
 total-of-requires : tie.Need-total-of-requires
 total-of-requires c κs =
-    let r : Answered = c .before .before .before .before .before in
-    total-fits (file-of r) (r .read .result) (r .read .ensures) _ (c .before .before .before .s .given .1)
+    let r : Answered = c .before .before .before .before .before .before .before .before in
+    total-fits (file-of r) (r .read .result) (r .read .ensures) _ (c .before .before .before .before .before .before .s .given .1)
 
 returns : tie.Need-returns
 returns c =
-    let r : Answered = c .before .before .before .before .before .before in
-    accepted-figures (file-of r) (r .read .result) (r .read .ensures) _ (c .total-of .result) (c .before .before .before .before .s .given .1) (c .total-of .ensures)
+    let known = c .before .before .before .before .before .before .before in
+    let r : Answered = known .before .before in
+    accepted-figures (file-of r) (r .read .result) (r .read .ensures) _ (c .total-of .result) (known .s .given .1) (c .total-of .ensures)
 
 returns-2 : tie.Need-returns-2
 returns-2 c =

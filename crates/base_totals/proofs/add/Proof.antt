@@ -8,8 +8,8 @@ use Rattle.base_totals.proofs.add.Tie as tie
 returns : tie.Need-returns
 unfolding _⊞_
 returns c =
-    same-numbers _ _ (c .before .before .before .before .add .ensures) (c .before .before .before .wrapping-add-u64 .ensures)
-    (c .before .before .wrapping-add-u642 .ensures) (c .before .wrapping-add-u643 .ensures) (c .wrapping-add-u644 .ensures)
+    same-numbers _ _ (c .before .before .before .before .add .ensures) (c .before .before .before .both .ensures)
+    (c .before .before .both2 .ensures) (c .before .both3 .ensures) (c .wrapping-add-u64 .ensures)
 
 pub add-spec : {M : Type 1} → statement M
 add-spec =

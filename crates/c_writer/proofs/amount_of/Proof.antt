@@ -15,11 +15,11 @@ add-t5 c = one-more-fits (c .before .args .n) (c .before .fits .n) (c .if1 .take
 returns : tie.Need-returns
 returns c = minus-meant (c .before .args .n) (c .before .fits .n) (c .if1 .taken)
 
-cast-t6 : tie.Need-cast-t6
-cast-t6 c = plus-cast (c .before .args .n) (c .before .fits .n) (c .if1 .left)
+cast-t7 : tie.Need-cast-t7
+cast-t7 c = plus-cast (c .before .args .n) (c .before .fits .n) (c .if1 .left)
 
 returns-2 : tie.Need-returns-2
 returns-2 c = plus-meant (c .before .args .n) (c .before .fits .n) (c .if1 .left)
 
 pub amount-of-spec : {M : Type 1} → statement M
-amount-of-spec = tie.close (tie.spec sub-t3 cast-t4 add-t5 returns cast-t6 returns-2)
+amount-of-spec = tie.close (tie.spec sub-t3 cast-t4 add-t5 returns cast-t7 returns-2)

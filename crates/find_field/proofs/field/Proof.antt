@@ -7,8 +7,9 @@ use Rattle.find_field.proofs.field.Tie as tie
 
 returns : tie.Need-returns
 returns c =
-    let a = c .before .before .before .before .before .args in
-    lent-is (kindMeant (a .sought)) (a .rec .now) _ _ _ _ (c .before .before .before .first-want .ensures) (c .before .before .seek .ensures .answer)
+    let found = c .before .before .before in
+    let a = found .before .before .before .args in
+    lent-is (kindMeant (a .sought)) (a .rec .now) _ _ _ _ (found .before .first-want .ensures) (found .seek .ensures .answer)
 
 pub field-spec : {M : Type 1} → statement M
 field-spec =

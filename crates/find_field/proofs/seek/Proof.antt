@@ -122,19 +122,19 @@ part-seek-line-end c = ends (c .before)
 
 add-start : tie.Need-add-start Inv-loop μ-loop
 add-start c =
-    let s = c .before .before .before in
-    omega (arith, seen-in s _ (c .before .i .given .1), size s, ends (line s))
+    let s = c .before .before .before .before in
+    omega (arith, seen-in s _ (c .before .before .i .given .1), size s, ends (line s))
 
 returns-2 : tie.Need-returns-2 Inv-loop μ-loop
 returns-2 c =
-    let s = c .before .before .before in
+    let s = c .before .before .before .before in
     let l = line s in
-    let i = c .before .i in
+    let i = c .before .before .i in
     let seen-at = seen-in s _ (i .given .1) in
     record {
       answer = sym (so-far l
           ∙ line-seen (rec-of l) (start-of l) (end-of l) (next-of l) (some-byte l) (end-is l) (next-at l) (kind l) (wanted l) (long-enough s)
-          _ (s .seek-line .ensures .answer (start-of l + 3)) (i .given .0 .0) (i .given .0 .1 .0) (said s _ (i .given .1)) (omega (arith, seen-at, size s)));
+          _ (s .seek-line .ensures .answer (start-of l + 3)) (i .given .0 .0 .0) (i .given .0 .1 .0) (said s _ (i .given .1)) (omega (arith, seen-at, size s)));
       within = omega (arith, size s, ends l);
     }
 

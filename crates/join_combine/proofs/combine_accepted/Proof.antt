@@ -76,7 +76,7 @@ header-is c = c .record-end .ensures .0 ∙ zero-add _
 within-sum : (c : At) → Within (c .before .before .total .given .0 .0) ≡ unitsWithin (sums (sum-of c))
 within-sum c = told (sum-of c) _ (c .before .before .total .given .1)
 
-header-fits : (c : At) → header-of c ≤ second-of (sum-of c) .last
+header-fits : (c : At) → header-of c ≤ second-of (sum-of c) .last .0
 header-fits c = let s = sum-of c in header-first (b-of s) (second-of s) (begun s .pre .1) (header-of c) (header-is c)
 
 sub-within : tie.Need-sub-within

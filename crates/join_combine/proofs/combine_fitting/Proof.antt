@@ -10,8 +10,9 @@ use Rattle.rules.specs.Limits.{longestFile}
 use Rattle.base_quantities.specs.QuantityMeanings.{sumMeant}
 use Rattle.base_numerals.specs.PutBytes.{Put}
 use Rattle.base_numerals.proofs.PutLaws.{rest-is}
-use Rattle.join_trailer.specs.FreshTrailer.{lastLine}
+use Rattle.join_trailer.specs.FreshTrailer.{lastLine, trailerOf}
 use Rattle.join_combine.specs.CombineAnswers.{combinedResult, combinedFitting}
+use Rattle.join_trailer.proofs.TrailerLengths.{in-front}
 use Rattle.join_trailer.proofs.FitsLaws.{too-long, no-room, written, part-most, front-size}
 use Rattle.join_combine.proofs.CombineLaws.{short, last-inside, header-first, result-is, result-size}
 use borrow.Author.Needs.{needs}
@@ -32,10 +33,10 @@ abbrev out-of : At → Bytes
 out-of c = c .args .out .now
 
 abbrev x-of : At → ℕ
-x-of c = c .args .first .last
+x-of c = c .args .first .last .0
 
 abbrev y-of : At → ℕ
-y-of c = c .args .second .last
+y-of c = c .args .second .last .0
 
 abbrev h-of : At → ℕ
 h-of c = c .args .header
@@ -62,7 +63,7 @@ abbrev Measured : Type 0
 Measured = tie.After-fresh-trailer
 
 abbrev counted-of : Measured → tie.After-records-left
-counted-of c = c .before .before .before .before
+counted-of c = c .before .before .before
 
 abbrev begun : Measured → At
 begun c = counted-of c .before .before .before .before .before .before .before .before .before
@@ -71,10 +72,13 @@ abbrev records-of : Measured → ℕ
 records-of c = c .before .add .result .0
 
 abbrev last-of : Measured → Bytes
-last-of c = let s = begun c .args in lastLine (sumMeant (s .total)) (s .first .summary .groups + s .second .summary .groups) (records-of c)
+last-of c = let s = begun c .args in lastLine (sumMeant (s .total)) (s .first .summary .groups .0 + s .second .summary .groups .0) (records-of c)
 
 abbrev size-of : Measured → ℕ
 size-of c = c .fresh-trailer .result .length
+
+fresh : (c : Measured) → c .fresh-trailer .result ≡ trailerOf (last-of c)
+fresh c = c .fresh-trailer .ensures .0 ∙ ap (λ (n : ℕ). trailerOf (lastLine (sumMeant (begun c .args .total)) n (records-of c))) (c .before .before .both .ensures)
 
 -- the result, part by part, and its length
 result : (c : Measured) → let s = begun c in take (x-of s) (a-of s) ++ (take (y-of s - h-of s) (drop (h-of s) (b-of s)) ++ last-of c) ≡ combinedResult (a-of s) (b-of s)
@@ -92,7 +96,7 @@ size : (c : Measured) → let s = begun c in (x-of s + (y-of s - h-of s)) + size
 size c =
     let s = begun c in
     let last = c .fresh-trailer .ensures in
-    let long : length (last-of c) ≡ size-of c = front-size (last-of c) _ (size-of c) (last .0) (omega (arith, last .1, last .2)) in
+    let long : length (last-of c) ≡ size-of c = front-size (last-of c) _ (size-of c) (in-front (last-of c) _ (fresh c)) (omega (arith, last .1, last .2)) in
     omega (arith, ap length (result c), result-size (a-of s) (b-of s) (s .args .first) (s .args .second) (s .pre .0) (s .pre .1) (h-of s) (s .pre .2) (last-of c), long)
 
 -- the same, as the slices are lent
@@ -103,7 +107,7 @@ lent c =
     let s = begun c in
     let e : x-of s - 0 ≡ x-of s = omega arith in
     let f : size-of c - 0 ≡ size-of c = omega arith in
-    let trailer : take (size-of c - 0) (drop 0 (c .fresh-trailer .result .bytes)) ≡ last-of c = rw f (c .fresh-trailer .ensures .0) in
+    let trailer : take (size-of c - 0) (drop 0 (c .fresh-trailer .result .bytes)) ≡ last-of c = rw f (in-front (last-of c) _ (fresh c)) in
     ap (λ (k : ℕ). take k (a-of s) ++ (take (y-of s - h-of s) (drop (h-of s) (b-of s)) ++ take (size-of c - 0) (drop 0 (c .fresh-trailer .result .bytes)))) e
     ∙ ap (λ (bs : Bytes). take (x-of s) (a-of s) ++ (take (y-of s - h-of s) (drop (h-of s) (b-of s)) ++ bs)) trailer
     ∙ result c
@@ -142,8 +146,8 @@ records-left-requires c κs =
       part-most longestFile (length (b-of s) - y-of s) (y-of s) (b-of s) (i .b-short),
     )
 
-add-fresh-trailer : tie.Need-add-fresh-trailer
-add-fresh-trailer c = let s = counting (c .before .before .before .before .before .before) in omega (arith, s .pre .0 .groups, s .pre .1 .groups)
+both-requires : tie.Need-both-requires
+both-requires c κs = let s = counting (c .before .before .before .before) in (s .pre .0 .groups, s .pre .1 .groups)
 
 -- ---- 18, 15
 
@@ -227,7 +231,7 @@ combine-fitting-spec =
     part-records-left-start-3
     (λ c. search needs)
     records-left-requires
-    add-fresh-trailer
+    both-requires
     (λ c κs. search needs)
     (λ c κs. search needs)
     sub-length

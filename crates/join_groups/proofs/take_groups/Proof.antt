@@ -1,48 +1,30 @@
--- `take_groups` meets its contract: turn by turn, what is ahead of the file's groups is what is left to take. Assumes nothing.
+-- `take_groups` meets its contract: turn by turn, what is taken so far and what is ahead are all that there is to take. Assumes nothing.
 use Prim.Native.Nat.{ℕ, _+_, _-_, _≤_, min}
 use native.Mathlib.Omega.{arith}
 use mathlib.Core.Path.{_≡_, refl, ap, sym, subst, _∙_}
-use mathlib.Core.Bool.{Bool, true, false}
-use mathlib.Core.List.{List, [], _++_}
-use lib.ListN.{length, take, drop, length-drop}
+use mathlib.Core.Bool.{true}
+use mathlib.Core.List.{List}
+use lib.ListN.{length, take, drop}
 use Rattle.rules.specs.Bytes.{Bytes, sameBytes}
-use Rattle.rules.specs.Numbers.{Sum, _⊕_, magnitudes}
-use Rattle.rules.specs.Limits.{most}
-use Rattle.rules.specs.Lines.{groupHeader, groupTrailer, fileTrailer, codeBytes, linesOf, Record, recordSize, recordBytes}
-use Rattle.rules.specs.Records.{walkRecord}
-use Rattle.rules.specs.Parts.{groupsIn}
-use Rattle.rules.specs.Combine.{concat}
-use Rattle.base_quantities.specs.QuantityMeanings.{sumMeant, mostRecords}
-use Rattle.base_quantities.proofs.UnitsLaws.{sum-not-wrapped}
-use Rattle.find_lines.specs.LinesOfCode.{bytesBefore}
-use Rattle.base_numerals.specs.PutBytes.{Put}
-use Rattle.base_numerals.proofs.PutLaws.{put-count}
-use Rattle.base_slices.specs.WroteBytes.{Wrote}
-use Rattle.base_slices.proofs.WroteLaws.{wrote-none, wrote-part, within-rest}
-use Rattle.laws.proofs.CombineSplit.{fewer}
+use Rattle.rules.specs.Numbers.{Sum, _⊕_}
+use Rattle.rules.specs.Lines.{groupHeader, codeBytes, Record}
+use Rattle.base_quantities.specs.QuantityMeanings.{sumMeant, wrappedSum, mostRecords}
+use Rattle.base_slices.proofs.WroteLaws.{within-rest}
 use Rattle.join_groups.specs.StatedNumbers.{statedTotal, statedRecords}
-use Rattle.join_groups.specs.GroupsAhead.{Ahead, Tallied, matching}
-use Rattle.read_lines.specs.LineLengths.{firstRecord}
-use Rattle.read_lines.proofs.OneRecord.{first-part}
-use Rattle.join_receivers.proofs.NamedLaws.{Names, named-is}
-use Rattle.join_groups.proofs.GroupTallies.{Tallying, tally-start, tally-end}
-use Rattle.join_groups.proofs.GroupTurns.{spans, turn-after, turn-not, turn-bytes, turn-tally, few-lines, in-range, no-more, finished}
+use Rattle.join_groups.specs.GroupsTaken.{groupsTaken}
+use Rattle.join_groups.proofs.GroupTallies.{Taking, take-start, take-one, take-end, take-put}
+use Rattle.join_groups.proofs.GroupTurns.{spans, TurnIs, turn-is, no-more}
 use borrow.Author.Needs.{needs}
 use Rattle.join_groups.proofs.take_groups.Statement.{statement}
 use Rattle.join_groups.proofs.take_groups.Tie as tie
 
--- the bytes of the groups for a name
-abbrev bytesFor : Bytes → Bytes → Bytes
-bytesFor name xs = recordBytes (concat (matching name xs))
-
 abbrev Inv-loop : tie.InvT-loop
-Inv-loop name file from out₀ at₀ o₀ groups₀ bytes₀ total₀ records₀ out at o groups bytes total records =
-    (o ≤ length out₀) × (length out ≡ length out₀) × (groups + from ≤ at) × (bytes + from ≤ at) × (at ≤ length file + (from - length file))
-    × (Ahead (drop from file) → Ahead (drop at file) × Tallying (matching name (drop from file)) (matching name (drop at file)) groups bytes (sumMeant total) (records .0)
-    × (length (bytesFor name (drop from file)) ≤ length out₀ → Wrote (bytesFor name (drop from file)) out₀ o (bytesFor name (drop at file)) out))
+Inv-loop name file out₀ from o₀ groups₀ bytes₀ total₀ records₀ out at o groups bytes total records =
+    (o ≤ length out) × (length out ≡ length out₀) × (groups + from ≤ at) × (bytes + from ≤ at) × (at ≤ length file + (from - length file))
+    × Taking (groupsTaken name (drop from file)) (groupsTaken name (drop at file)) out₀ groups bytes (sumMeant total) (records .0) o out
 
 abbrev μ-loop : tie.MeasureT-loop
-μ-loop name file from out₀ at₀ o₀ groups₀ bytes₀ total₀ records₀ out at o groups bytes total records = length file - at
+μ-loop name file out₀ from o₀ groups₀ bytes₀ total₀ records₀ out at o groups bytes total records = length file - at
 
 -- ---- in a turn, once the group's end is known
 
@@ -70,41 +52,15 @@ last-of c = c .before .next-line-of .result
 abbrev end-of : Turn → ℕ
 end-of c = c .record-end .result
 
--- the bytes from the group on, from its end on, and its own
+-- the bytes from the group on
 abbrev here-of : Turn → Bytes
 here-of c = drop (at-of c) (file-of c)
-
-abbrev rest-of : Turn → Bytes
-rest-of c = drop (end-of c) (file-of c)
-
-abbrev group-of : Turn → Bytes
-group-of c = take (end-of c - at-of c) (here-of c)
-
--- the group's 98
-abbrev trailer-of : Turn → Bytes
-trailer-of c = take (end-of c - last-of c) (drop (last-of c) (file-of c))
-
--- all groups for the name
-abbrev all-of : Turn → List (List Record)
-all-of c = matching (name-of c) (drop (entry c .args .from) (file-of c))
 
 begun : (c : Turn) → sameBytes (codeBytes groupHeader) (take 3 (here-of c)) ≡ true
 begun c = sym (c .before .before .before .begins .ensures) ∙ c .before .before .if1 .taken
 
-last-is : (c : Turn) → last-of c ≡ at-of c + bytesBefore groupTrailer fileTrailer (linesOf (here-of c))
-last-is c = c .before .next-line-of .ensures .0
-
-end-is : (c : Turn) → end-of c ≡ last-of c + recordSize (firstRecord (linesOf (drop (last-of c) (file-of c))))
-end-is c = c .record-end .ensures .0
-
-places : (c : Turn) → (at-of c + 3 ≤ last-of c) × (last-of c ≤ end-of c) × (end-of c ≤ length (file-of c)) × (length (group-of c) ≡ end-of c - at-of c)
+places : (c : Turn) → (at-of c + 3 ≤ last-of c) × (last-of c ≤ end-of c) × (end-of c ≤ length (file-of c)) × (length (take (end-of c - at-of c) (here-of c)) ≡ end-of c - at-of c)
 places c = spans (file-of c) (at-of c) (last-of c) (end-of c) (begun c) (c .before .next-line-of .ensures) (c .record-end .ensures)
-
-count-room : (c : Turn) → (head c .loop .bytes ≤ at-of c) × (at-of c ≤ end-of c) × (end-of c ≤ mostRecords)
-count-room c = let h = places c in (omega (arith, head c .loop .inv .3), omega arith, omega arith)
-
-after : (c : Turn) → Ahead (here-of c) → Ahead (rest-of c)
-after c = turn-after (file-of c) (at-of c) (last-of c) (end-of c) (begun c) (last-is c) (end-is c)
 
 -- ---- once it is known whether the group is for the name
 
@@ -114,46 +70,19 @@ Asked = tie.After-is-for Inv-loop μ-loop
 abbrev turn-of : Asked → Turn
 turn-of c = c .before .before .before
 
-abbrev is-for : Asked → Bool
-is-for c = c .is-for .result
-
-names : (c : Asked) → Names (name-of (turn-of c)) (firstRecord (linesOf (here-of (turn-of c)))) (is-for c)
-names c = λ fs walked.
+passes : (c : Asked) → let t = turn-of c in TurnIs (name-of t) (file-of t) (at-of t) (last-of t) (end-of t) (c .is-for .result)
+passes c =
     let t = turn-of c in
-    let e = c .before .before .record-end2 in
-    let size : e .result - at-of t ≡ recordSize (firstRecord (linesOf (here-of t))) = omega (arith, e .ensures .0) in
-    let alone = first-part (here-of t) (e .result - at-of t) size (omega (arith, length-drop (at-of t) (file-of t), places t)) in
-    named-is (name-of t) (take (e .result - at-of t) (here-of t)) (is-for c) (c .is-for .ensures) fs (ap (walkRecord groupHeader) alone ∙ walked)
+    let header = c .before .before .record-end2 in
+    turn-is (file-of t) (at-of t) (last-of t) (end-of t) (begun t) (t .before .next-line-of .ensures .0) (t .record-end .ensures .0) (name-of t) (header .result) (c .is-for .result)
+    (header .ensures .0) (c .is-for .ensures)
 
-module _ (c : Asked) (a : Ahead (here-of (turn-of c))) where
-  abbrev t : Turn
-  t = turn-of c
-
-  left-out : is-for c ≡ false → matching (name-of t) (here-of t) ≡ matching (name-of t) (rest-of t)
-  left-out = turn-not (file-of t) (at-of t) (last-of t) (end-of t) (begun t) (last-is t) (end-is t) a (name-of t) (is-for c) (names c)
-
-  comes-next : is-for c ≡ true → bytesFor (name-of t) (here-of t) ≡ group-of t ++ bytesFor (name-of t) (rest-of t)
-  comes-next = turn-bytes (file-of t) (at-of t) (last-of t) (end-of t) (begun t) (last-is t) (end-is t) a (name-of t) (is-for c) (names c)
-
-  -- a group more
-  module _ (h : is-for c ≡ true) (groups bytes : ℕ) (sum : Sum) (lines : ℕ) (more : Sum) (m : ℕ)
-      (tally : Tallying (all-of t) (matching (name-of t) (here-of t)) groups bytes sum lines)
-      (said : more ≡ statedTotal (linesOf (trailer-of t)))
-      (counts : m ≡ statedRecords (linesOf (trailer-of t))) where
-    few : m ≤ end-of t - at-of t
-    few =
-        few-lines (file-of t) (at-of t) (last-of t) (end-of t) (begun t) (last-is t) (end-is t) a (name-of t) (is-for c) (names c)
-        h (all-of t) groups bytes sum lines more m tally said counts
-
-    small : magnitudes (sum ⊕ more) ≤ most
-    small =
-        in-range (file-of t) (at-of t) (last-of t) (end-of t) (begun t) (last-is t) (end-is t) a (name-of t) (is-for c) (names c)
-        h (all-of t) groups bytes sum lines more m tally said counts
-
-    one-more : Tallying (all-of t) (matching (name-of t) (rest-of t)) (groups + 1) (bytes + (end-of t - at-of t)) (sum ⊕ more) (lines + m)
-    one-more =
-        turn-tally (file-of t) (at-of t) (last-of t) (end-of t) (begun t) (last-is t) (end-is t) a (name-of t) (is-for c) (names c)
-        h (all-of t) groups bytes sum lines more m tally said counts
+-- what was taken so far, and these groups ahead
+abbrev So-far : Asked → List (List Record) → Type 0
+So-far c gs =
+    let t = turn-of c in
+    let l = head t .loop in
+    Taking (groupsTaken (name-of t) (drop (entry t .args .from .0) (file-of t))) gs (entry t .args .out .now) (l .groups) (l .bytes) (sumMeant (l .total)) (l .records .0) (l .o) (l .out)
 
 -- ---- at the end of a turn that took the group
 
@@ -163,50 +92,16 @@ Took = tie.After-add2 Inv-loop μ-loop
 abbrev asked-of : Took → Asked
 asked-of c = c .before .before .before .before .before .before .before .before .before .before
 
-is-taken : (c : Took) → asked-of c .is-for .result ≡ true
-is-taken c = c .before .before .before .before .before .before .before .before .before .if2 .taken
-
 abbrev put-of : Took → tie.After-put Inv-loop μ-loop
 put-of c = c .before .before .before .before .before .before
 
 abbrev read-of : Took → tie.After-read-trailer Inv-loop μ-loop
 read-of c = c .before .before
 
--- what its 98 states
-abbrev total-of : Took → Sum
-total-of c = sumMeant (read-of c .read-trailer .result .total)
-
-abbrev records-of : Took → ℕ
-records-of c = read-of c .read-trailer .result .records .0
-
-total-said : (c : Took) → total-of c ≡ statedTotal (linesOf (trailer-of (turn-of (asked-of c))))
-total-said c = read-of c .read-trailer .ensures .0
-
-records-said : (c : Took) → records-of c ≡ statedRecords (linesOf (trailer-of (turn-of (asked-of c))))
-records-said c = read-of c .read-trailer .ensures .1
-
-count-kept : (lines m bytes at e : ℕ) → lines ≤ bytes → m ≤ e - at → (bytes ≤ at) × (at ≤ e) × (e ≤ mostRecords) → min (lines + m) mostRecords ≡ lines + m
-count-kept lines m bytes at e few more room = omega (arith, room)
-
-same-tally : (all ahead : List (List Record)) (groups bytes : ℕ) (sum sum′ : Sum) (lines lines′ : ℕ) → sum ≡ sum′ → lines ≡ lines′
-    → Tallying all ahead groups bytes sum′ lines′ → Tallying all ahead groups bytes sum lines
-same-tally all ahead groups bytes sum sum′ lines lines′ e f tally = rw (e, f) tally
-
 loop-holds : tie.Need-loop-holds Inv-loop μ-loop
 loop-holds c =
     let a = c .before .before .before .args in
-    let xs = drop (a .from) (a .file .now) in (
-      omega arith,
-      refl,
-      omega arith,
-      omega arith,
-      omega arith,
-      λ h. (
-        h,
-        tally-start (matching (a .name .now) xs) (omega (arith, fewer 0 (a .name .now) (groupsIn xs) .no-more, h .bounded)),
-        λ room. wrote-none (bytesFor (a .name .now) xs) (a .out .now) room,
-      ),
-    )
+    (omega arith, refl, omega arith, omega arith, omega arith, take-start (groupsTaken (a .name .now) (drop (a .from .0) (a .file .now))) (a .out .now))
 
 part-is-for-end : tie.Need-part-is-for-end Inv-loop μ-loop
 part-is-for-end c = omega (arith, places (c .before), c .record-end2 .ensures .1)
@@ -232,31 +127,31 @@ add-bytes c = let t = turn-of (asked-of c) in omega (arith, places t, head t .lo
 loop-less : tie.Need-loop-less Inv-loop μ-loop
 loop-less c = omega (arith, places (turn-of (asked-of c)))
 
+-- the numbers after it, as the code adds them
+same-taking : (all ahead : List (List Record)) (before : Bytes) (groups bytes bytes′ : ℕ) (sum sum′ : Sum) (lines lines′ o : ℕ) (out : Bytes) → bytes ≡ bytes′ → sum ≡ sum′ → lines ≡ lines′
+    → Taking all ahead before groups bytes′ sum′ lines′ o out → Taking all ahead before groups bytes sum lines o out
+same-taking all ahead before groups bytes bytes′ sum sum′ lines lines′ o out d e f t = rw (d, e, f) t
+
 loop-again : tie.Need-loop-again Inv-loop μ-loop
 loop-again c =
     let asked = asked-of c in
     let t = turn-of asked in
     let l = head t .loop in
     let h = places t in
-    let put = put-of c .put .ensures in
-    let o : l .o ≤ length (l .out) = omega (arith, l .inv .0, l .inv .1) in (
-      omega (arith, within-rest (l .o) _ (l .out) _ _ o put, l .inv .1),
-      c .before .before .before .before .before .out .given .1 ∙ l .inv .1,
+    let turn = passes asked in
+    let is-taken = c .before .before .before .before .before .before .before .before .before .if2 .taken in
+    let read = read-of c .read-trailer .ensures in
+    let kept = c .before .before .before .before .before .out .given .1 in
+    let ahead = subst (So-far asked) (turn .next-taken is-taken) (l .inv .5) in
+    let sum = c .before .add .ensures ∙ ap (λ (a : Sum). wrappedSum (sumMeant (l .total) ⊕ a)) (read .0 ∙ ap (λ (r : Record). statedTotal r) (turn .trailer)) in
+    let lines = c .add2 .ensures ∙ ap (λ (n : ℕ). min (l .records .0 + n) mostRecords) (read .1 ∙ ap (λ (r : Record). statedRecords r) (turn .trailer)) in (
+      omega (arith, within-rest (l .o) _ (l .out) _ _ (l .inv .0) (put-of c .put .ensures), kept),
+      kept ∙ l .inv .1,
       omega (arith, l .inv .2),
       omega (arith, l .inv .3),
       omega arith,
-      λ ahead.
-          let (here, tally, wrote) = l .inv .5 ahead in
-          let range = small asked here (is-taken c) (l .groups) (l .bytes) (sumMeant (l .total)) (l .records .0) (total-of c) (records-of c) tally (total-said c) (records-said c) in
-          let lines = few asked here (is-taken c) (l .groups) (l .bytes) (sumMeant (l .total)) (l .records .0) (total-of c) (records-of c) tally (total-said c) (records-said c) in
-          let next = one-more asked here (is-taken c) (l .groups) (l .bytes) (sumMeant (l .total)) (l .records .0) (total-of c) (records-of c) tally (total-said c) (records-said c) in
-          let sum : sumMeant (c .before .add .result) ≡ sumMeant (l .total) ⊕ total-of c = c .before .add .ensures ∙ sum-not-wrapped (sumMeant (l .total)) (total-of c) (omega arith) (omega arith) in
-          let count : c .add2 .result .0 ≡ l .records .0 + records-of c =
-          c .add2 .ensures ∙ count-kept (l .records .0) (records-of c) (l .bytes) (at-of t) (end-of t) (tally .few) lines (count-room t) in (
-            after t here,
-            same-tally (all-of t) (matching (name-of t) (rest-of t)) (l .groups + 1) (l .bytes + (end-of t - at-of t)) _ _ _ _ sum count next,
-            λ room. wrote-part _ _ (l .o) (group-of t) (bytesFor (name-of t) (rest-of t)) (l .out) _ _ (rw (comes-next asked here (is-taken c)) at (wrote room)) put,
-          ),
+      same-taking _ _ _ _ _ _ _ _ _ _ _ _ (ap (λ (n : ℕ). l .bytes + n) (turn .size)) sum lines
+          (take-one _ (turn .group) _ _ _ _ _ _ _ _ _ _ ahead (rw (turn .part) at (put-of c .put .ensures))),
     )
 
 loop-less-2 : tie.Need-loop-less-2 Inv-loop μ-loop
@@ -272,54 +167,19 @@ loop-again-2 c =
       omega (arith, l .inv .2),
       omega (arith, l .inv .3),
       omega arith,
-      λ ahead.
-          let (here, tally, wrote) = l .inv .5 ahead in
-          let same = left-out (c .before) here (c .if2 .left) in (
-            after t here,
-            subst (λ (gs : List (List Record)). Tallying (all-of t) gs (l .groups) (l .bytes) (sumMeant (l .total)) (l .records .0)) same tally,
-            λ room. rw (← same) (wrote room),
-          ),
+      subst (So-far (c .before)) (passes (c .before) .left-out (c .if2 .left)) (l .inv .5),
     )
 
 -- ---- after the last group
 
-abbrev Done : Type 0
-Done = tie.Else1 Inv-loop μ-loop
-
-abbrev end-head : Done → tie.At-loop Inv-loop μ-loop
-end-head c = c .before .before
-
-abbrev end-entry : Done → tie.Start Inv-loop μ-loop
-end-entry c = end-head c .before .before .before .before
-
-abbrev first-bytes : Done → Bytes
-first-bytes c = drop (end-entry c .args .from) (end-entry c .args .file .now)
-
-abbrev last-bytes : Done → Bytes
-last-bytes c = drop (end-head c .loop .at) (end-entry c .args .file .now)
-
-over : (c : Done) → Ahead (last-bytes c) → matching (end-entry c .args .name .now) (last-bytes c) ≡ []
-over c here = no-more (end-entry c .args .name .now) (last-bytes c) here (sym (c .before .begins .ensures) ∙ c .if1 .left)
-
 returns : tie.Need-returns Inv-loop μ-loop
 returns c =
-    let name = end-entry c .args .name .now in
-    let out = end-entry c .args .out .now in
-    let l = end-head c .loop in
-    let xs = first-bytes c in
-    let all = matching name xs in
-    let tallied : Ahead xs → Tallied all (l .groups) (l .bytes) (sumMeant (l .total)) (l .records .0) = λ ahead.
-    let (here, tally, wrote) = l .inv .5 ahead in
-    tally-end all (l .groups) (l .bytes) (sumMeant (l .total)) (l .records .0)
-    (subst (λ (gs : List (List Record)). Tallying all gs (l .groups) (l .bytes) (sumMeant (l .total)) (l .records .0)) (over c here) tally) in
-    record {
-      tallied = tallied;
-      inside = omega (arith, l .inv .3, l .inv .4);
-      put = λ ahead room.
-          let (here, tally, wrote) = l .inv .5 ahead in
-          let put = finished name xs (last-bytes c) out (l .o) (l .out) (over c here) (wrote room) in
-          subst (λ (n : ℕ). Put (bytesFor name xs) out n (l .out)) (put-count put room ∙ sym (tallied ahead .size)) put;
-    }
+    let l = c .before .before .loop in
+    let a = c .before .before .before .before .before .before .args in
+    let all = groupsTaken (a .name .now) (drop (a .from .0) (a .file .now)) in
+    let over = no-more (a .name .now) (drop (l .at) (a .file .now)) (sym (c .before .begins .ensures) ∙ c .if1 .left) in
+    let took = subst (λ (gs : List (List Record)). Taking all gs (a .out .now) (l .groups) (l .bytes) (sumMeant (l .total)) (l .records .0) (l .o) (l .out)) over (l .inv .5) in
+    (take-end all (a .out .now) (l .groups) (l .bytes) (l .total) (l .records) (l .o) (l .out) took, take-put all (a .out .now) (l .groups) (l .bytes) (l .total) (l .records) (l .o) (l .out) took)
 
 pub take-groups-spec : {M : Type 1} → statement M
 take-groups-spec =

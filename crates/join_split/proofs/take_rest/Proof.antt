@@ -2,13 +2,15 @@
 use Prim.Native.Nat.{ℕ, _+_, _-_, _≤_}
 use native.Mathlib.Omega.{arith}
 use mathlib.Core.Path.{_≡_, ap, subst, _∙_}
-use lib.ListN.{length, take, drop}
+use lib.ListN.{length, take, drop, length-drop}
 use Rattle.rules.specs.Bytes.{Bytes}
 use Rattle.rules.specs.Lines.{linesOf}
 use Rattle.base_quantities.specs.QuantityMeanings.{sumMeant}
 use Rattle.base_numerals.specs.PutBytes.{Put}
-use Rattle.join_groups.specs.GroupsAhead.{matching, Tallied}
+use Rattle.join_groups.proofs.GroupsAhead.{matching, Takes}
+use Rattle.join_groups.proofs.TakenLaws.{takes}
 use Rattle.join_groups.proofs.GroupOpens.{Opened, opened}
+use Rattle.join_trailer.proofs.TrailerLengths.{in-front}
 use Rattle.join_trailer.proofs.FitsLaws.{part-most}
 use Rattle.join_split.proofs.SplitLaws.{last-is, groups-are}
 use borrow.Author.Needs.{needs}
@@ -25,14 +27,19 @@ name-of c = c .before .before .before .before .before .before .before .args .nam
 abbrev file-of : Took → Bytes
 file-of c = c .before .before .before .before .before .before .before .args .file .now
 
+abbrev out-of : Took → Bytes
+out-of c = c .before .before .before .before .before .before .before .args .out .now
+
 abbrev header-of : Took → ℕ
 header-of c = c .before .before .before .before .before .before .before .args .header
 
 known : (c : Took) → Opened (file-of c) (header-of c)
 known c = let p = c .before .before .before .before .before .before .before .pre in opened (file-of c) (p .0 .0) (header-of c) (p .0 .1) (p .1)
 
-tally : (c : Took) → let t = c .before .before .take-groups .result in Tallied (matching (name-of c) (drop (header-of c) (file-of c))) (t .groups) (t .bytes) (sumMeant (t .total)) (t .records .0)
-tally c = c .before .before .take-groups .ensures .tallied (known c .ahead)
+took : (c : Took) → let t = c .before .before .take-groups in let xs = drop (header-of c) (file-of c) in Takes (matching (name-of c) xs) (length xs) (out-of c) (t .result) (t .last .1 .1 .1 .0)
+took c =
+    let xs = drop (header-of c) (file-of c) in
+    takes (name-of c) xs (known c .ahead) (omega (arith, length-drop (header-of c) (file-of c), known c .not-too-long)) _ _ _ (c .before .before .take-groups .ensures)
 
 same-put : (bs cs before : Bytes) (n : ℕ) (after : Bytes) → bs ≡ cs → (length bs ≤ length before → Put bs before n after) → length cs ≤ length before → Put cs before n after
 same-put bs cs before n after e p = subst (λ (xs : Bytes). length xs ≤ length before → Put xs before n after) e p
@@ -44,6 +51,7 @@ returns : tie.Need-returns
 returns c =
     let m = c .before .before .before .before .before in
     let t = m .before .before .take-groups in
+    let taken = took m in
     let name = name-of m in
     let file = file-of m in
     let h = header-of m in
@@ -53,13 +61,13 @@ returns c =
     let lines : n ≡ length (linesOf (take h file)) = count .ensures .0 ∙ ap (λ (k : ℕ). length (linesOf (take k file))) e in
     let few : n ≤ length file = omega (arith, count .ensures .1, part-most (length file) (h - 0) 0 file (omega arith), known m .inside) in
     let all : c .before .add2 .result .0 ≡ (n + t .result .records .0) + 1 =
-    omega (arith, c .before .add2 .ensures, c .before .before .add .ensures, few, tally m .few, t .ensures .inside, known m .inside, known m .not-too-long) in
+    omega (arith, c .before .add2 .ensures, c .before .before .add .ensures, few, taken .tallied .few, taken .inside, length-drop h file, known m .inside, known m .not-too-long) in
     let groups = groups-are name file h (known m) in
     let last = c .fresh-trailer .ensures in
     record {
-      count = tally m .size ∙ ap length groups;
-      put = same-put _ _ _ _ _ groups (t .ensures .put (known m .ahead));
-      is-last = last .0 ∙ last-is name file h (known m) (t .result .groups) (t .result .bytes) (sumMeant (t .result .total)) (t .result .records .0) n _ (tally m) lines all;
+      count = taken .tallied .size ∙ ap length groups;
+      put = same-put _ _ _ _ _ groups (taken .put);
+      is-last = in-front _ _ (last .0) ∙ last-is name file h (known m) (t .result .groups .0) (t .result .bytes) (sumMeant (t .result .total)) (t .result .records .0) n _ (taken .tallied) lines all;
       last-most = (last .1, last .2);
     }
 

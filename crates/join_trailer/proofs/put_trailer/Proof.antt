@@ -14,13 +14,13 @@ use Rattle.join_trailer.proofs.put_trailer.Tie as tie
 abbrev code-put : tie.After-put-total → tie.After-put
 code-put c = c .before .before .before .before
 
-abbrev total-put : tie.After-put-number → tie.After-put-total
+abbrev total-put : tie.After-put-digits-after → tie.After-put-total
 total-put c = c .before .before .before .before
 
-abbrev groups-put : tie.After-put-number2 → tie.After-put-number
+abbrev groups-put : tie.After-put-digits-after2 → tie.After-put-digits-after
 groups-put c = c .before .before .before .before
 
-abbrev records-put : tie.After-put2 → tie.After-put-number2
+abbrev records-put : tie.After-put2 → tie.After-put-digits-after2
 records-put c = c .before .before .before .before .before
 
 returns : tie.Need-returns
@@ -34,13 +34,13 @@ returns c =
     let s = code-call .before .before .before .before in
     let a = s .args in
     let last : Bytes = slash ∷ LF ∷ [] in
-    let records : Bytes = comma ∷ decimal (a .records) in
-    let groups : Bytes = comma ∷ decimal (a .groups) in
+    let records : Bytes = comma ∷ decimal (a .records .0) in
+    let groups : Bytes = comma ∷ decimal (a .groups .0) in
     let total = totalBytes (sumMeant (a .total)) in
     let w₁ = wrote-first (57 ∷ 57 ∷ comma ∷ []) (total ++ (groups ++ (records ++ last))) (a .out .now) (code-call .put .result) (code-call .put .last .0) (s .pre) (code-call .put .ensures) in
     let w₂ = wrote-part _ _ _ total (groups ++ (records ++ last)) _ _ _ w₁ (total-call .put-total .ensures) in
-    let w₃ = wrote-part _ _ _ groups (records ++ last) _ _ _ w₂ (groups-call .put-number .ensures) in
-    let w₄ = wrote-part _ _ _ records last _ _ _ w₃ (records-call .put-number2 .ensures) in
+    let w₃ = wrote-part _ _ _ groups (records ++ last) _ _ _ w₂ (groups-call .put-digits-after .ensures) in
+    let w₄ = wrote-part _ _ _ records last _ _ _ w₃ (records-call .put-digits-after2 .ensures) in
     wrote-last _ _ _ last _ _ _ w₄ (end-call .put2 .ensures)
 
 pub put-trailer-spec : {M : Type 1} → statement M

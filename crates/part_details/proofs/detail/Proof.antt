@@ -16,21 +16,23 @@ returns c =
     (said .0, record { bytes = said .1; inside = zero-le }, λ z. refl)
 
 add-to : tie.Need-add-to
-add-to c = omega (arith, c .before .before .before .before .find-detail .ensures .1, c .before .before .before .before .before .before .good)
+add-to c = let f = c .before .before .before .before .before in omega (arith, f .find-detail .ensures .1, f .before .before .good)
 
 part-rec-end : tie.Need-part-rec-end
-part-rec-end c = c .before .before .before .before .find-detail .ensures .1
+part-rec-end c = c .before .before .before .before .before .find-detail .ensures .1
 
 text-in-requires : tie.Need-text-in-requires
-text-in-requires c κs = (omega arith, c .before .before .before .before .before .before .find-detail .ensures .1)
+text-in-requires c κs = (omega arith, c .before .before .before .before .before .before .before .find-detail .ensures .1)
 
 returns-2 : tie.Need-returns-2
 returns-2 c =
-    let a = c .before .before .before .before .before .before .before .before .before .before .args in
-    let f = c .before .before .before .before .before .before .before .before .find-detail in
-    let m = c .before .before .amount-of in
-    let t = c .before .text-in in
-    let said = detail-found (a .file .now) (partMeant (f .result)) _ _ _ _ _ (a .g) (a .a) (a .n) (f .ensures .0) (c .before .before .before .before .before .if1 .left)
+    let lent = c .before .before .before .before in
+    let here = lent .before .before .before .before in
+    let a = here .before .before .before .before .before .args in
+    let f = here .before .before .before .find-detail in
+    let m = lent .amount-of in
+    let t = c .before .before .before .text-in in
+    let said = detail-found (a .file .now) (partMeant (f .result)) _ _ _ _ _ (a .g) (a .a) (a .n) (f .ensures .0) (here .if1 .left)
     (record { type-is = c .type-of .ensures; given-is = m .ensures .0; amount-is = m .ensures .1; text-is = t .ensures .answer; inside = t .ensures .inside }) in
     (said .0, record { bytes = said .1; inside = t .ensures .inside }, zero-without _ _ _ (m .ensures .0) (m .ensures .1))
 

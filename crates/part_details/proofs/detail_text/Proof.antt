@@ -8,17 +8,18 @@ use Rattle.part_details.proofs.detail_text.Statement.{statement}
 use Rattle.part_details.proofs.detail_text.Tie as tie
 
 add-to : tie.Need-add-to
-add-to c = omega (arith, c .before .detail .ensures .1 .inside, c .before .before .before .good)
+add-to c = let found = c .before .before in omega (arith, found .detail .ensures .1 .inside, found .before .before .good)
 
 part-result-end : tie.Need-part-result-end
-part-result-end c = c .before .detail .ensures .1 .inside
+part-result-end c = c .before .before .detail .ensures .1 .inside
 
 returns : tie.Need-returns
 returns c =
-    let d = c .before .before .detail in
-    let start = d .result .«text_start» in
+    let found = c .before .before .before in
+    let d = found .detail in
+    let start = d .result .«text_start» .0 in
     let size : start + d .result .«text_length» - start ≡ d .result .«text_length» = omega arith in
-    ap (λ (n : ℕ). take n (drop start (c .before .before .before .before .args .file .now))) size ∙ d .ensures .1 .bytes
+    ap (λ (n : ℕ). take n (drop start (found .before .before .args .file .now))) size ∙ d .ensures .1 .bytes
 
 pub detail-text-spec : {M : Type 1} → statement M
 detail-text-spec =

@@ -34,22 +34,22 @@ abbrev file-of : Sought → Bytes
 file-of c = begun c .args .file .now
 
 abbrev from-of : Sought → ℕ
-from-of c = begun c .args .from
+from-of c = begun c .args .from .0
 
 abbrev to-of : Sought → ℕ
-to-of c = begun c .args .to
+to-of c = begun c .args .to .0
 
 abbrev rec-of : Sought → Bytes
 rec-of c = take (to-of c - from-of c) (drop (from-of c) (file-of c))
 
-fits : (c : Sought) → c .seek .result .start + c .seek .result .length ≤ to-of c - from-of c
+fits : (c : Sought) → c .seek .result .start .0 + c .seek .result .length ≤ to-of c - from-of c
 fits c = omega (arith, c .seek .ensures .within, length-take (to-of c - from-of c) (drop (from-of c) (file-of c)))
 
 add-end : tie.Need-add-end
-add-end c = omega (arith, fits (c .before), begun (c .before) .pre .1)
+add-end c = omega (arith, fits (c .before .before), begun (c .before .before) .pre .1, begun (c .before .before) .good)
 
 part-is-one-of-end : tie.Need-part-is-one-of-end
-part-is-one-of-end c = c .before .seek .ensures .within
+part-is-one-of-end c = c .before .before .seek .ensures .within
 
 -- ---- whether it is a lone slash
 
@@ -57,7 +57,7 @@ abbrev Tested : Type 0
 Tested = tie.After-is-one-of
 
 abbrev sought-of : Tested → Sought
-sought-of c = c .before .before .before
+sought-of c = c .before .before .before .before
 
 abbrev found-in : Tested → Found
 found-in c = inDetail text (rec-of (sought-of c))
@@ -73,7 +73,7 @@ returns c =
     record { answer = no-piece (from-of (sought-of t)) (found-in t) (sym (tested t) ∙ c .if1 .taken); inside = zero-le }
 
 add-in-file : tie.Need-add-in-file
-add-in-file c = let s = sought-of (c .before) in omega (arith, fits s, begun s .pre .0, begun s .pre .1)
+add-in-file c = let s = sought-of (c .before) in omega (arith, fits s, begun s .pre .0, begun s .pre .1, begun s .good)
 
 returns-2 : tie.Need-returns-2
 returns-2 c =

@@ -1,5 +1,5 @@
 -- `part_groups::account` meets its contract. Assumes nothing.
-use native.Mathlib.Omega.{arith}
+use mathlib.Core.Path.{_∙_}
 use Rattle.rules.specs.Parts.{accountAt}
 use Rattle.rules.specs.Answers.{accountPart}
 use Rattle.laws.proofs.FileTheorems.{account-is-slice}
@@ -9,20 +9,15 @@ use borrow.Author.Needs.{needs}
 use Rattle.part_groups.proofs.account.Statement.{statement}
 use Rattle.part_groups.proofs.account.Tie as tie
 
-add-to : tie.Need-add-to
-add-to c = omega (arith, c .before .find-account .ensures .1, c .before .before .before .good)
-
-part-result-end : tie.Need-part-result-end
-part-result-end c = c .before .find-account .ensures .1
+bytes-of-requires : tie.Need-bytes-of-requires
+bytes-of-requires c κs = c .find-account .ensures .1
 
 returns : tie.Need-returns
 unfolding accountPart
 returns c =
-    let a = c .before .before .before .before .args in
-    let f = c .before .before .find-account in
-    named-slice (a .file .now) (accountAt (a .file .now) (a .g) (a .n)) (partMeant (f .result)) (f .ensures .0) (account-is-slice (a .file .now) (a .g) (a .n))
+    let a = c .before .before .before .args in
+    let f = c .before .find-account in
+    c .bytes-of .ensures ∙ named-slice (a .file .now) (accountAt (a .file .now) (a .g) (a .n)) (partMeant (f .result)) (f .ensures .0) (account-is-slice (a .file .now) (a .g) (a .n))
 
 pub account-spec : {M : Type 1} → statement M
-account-spec =
-    tie.close
-    (tie.spec (λ c κs. search needs) add-to (λ c. search needs) (λ c. search needs) part-result-end returns)
+account-spec = tie.close (tie.spec (λ c κs. search needs) bytes-of-requires returns)

@@ -1,5 +1,5 @@
 -- `part_groups::group` meets its contract. Assumes nothing.
-use native.Mathlib.Omega.{arith}
+use mathlib.Core.Path.{_∙_}
 use Rattle.rules.specs.Parts.{groupAt}
 use Rattle.rules.specs.Answers.{groupPart}
 use Rattle.laws.proofs.FileTheorems.{group-is-slice}
@@ -9,20 +9,15 @@ use borrow.Author.Needs.{needs}
 use Rattle.part_groups.proofs.group.Statement.{statement}
 use Rattle.part_groups.proofs.group.Tie as tie
 
-add-to : tie.Need-add-to
-add-to c = omega (arith, c .before .find-group .ensures .1, c .before .before .before .good)
-
-part-result-end : tie.Need-part-result-end
-part-result-end c = c .before .find-group .ensures .1
+bytes-of-requires : tie.Need-bytes-of-requires
+bytes-of-requires c κs = c .find-group .ensures .1
 
 returns : tie.Need-returns
 unfolding groupPart
 returns c =
-    let a = c .before .before .before .before .args in
-    let f = c .before .before .find-group in
-    named-slice (a .file .now) (groupAt (a .file .now) (a .n)) (partMeant (f .result)) (f .ensures .0) (group-is-slice (a .file .now) (a .n))
+    let a = c .before .before .before .args in
+    let f = c .before .find-group in
+    c .bytes-of .ensures ∙ named-slice (a .file .now) (groupAt (a .file .now) (a .n)) (partMeant (f .result)) (f .ensures .0) (group-is-slice (a .file .now) (a .n))
 
 pub group-spec : {M : Type 1} → statement M
-group-spec =
-    tie.close
-    (tie.spec (λ c κs. search needs) add-to (λ c. search needs) (λ c. search needs) part-result-end returns)
+group-spec = tie.close (tie.spec (λ c κs. search needs) bytes-of-requires returns)

@@ -24,10 +24,10 @@ returns c =
     }
 
 add-to : tie.Need-add-to
-add-to c = omega (arith, c .before .before .before .before .before .pre)
+add-to c = omega (arith, c .before .before .before .before .before .before .pre)
 
 part-nth-part-end : tie.Need-part-nth-part-end
-part-nth-part-end c = omega (arith, c .before .before .before .before .before .pre)
+part-nth-part-end c = omega (arith, c .before .before .before .before .before .before .pre)
 
 -- ---- once the inner part was sought
 
@@ -35,7 +35,7 @@ abbrev Sought : Type 0
 Sought = tie.After-nth-part
 
 abbrev begun : Sought → tie.Start
-begun c = c .before .before .before .before .before .before .before
+begun c = c .before .before .before .before .before .before .before .before
 
 abbrev file-of : Sought → Bytes
 file-of c = begun c .args .file .now
@@ -53,24 +53,24 @@ abbrev inner-of : Sought → PartAnswer
 inner-of c = partMeant (c .nth-part .result)
 
 fits : (c : Sought) → outer-of c .start + (inner-of c .start + inner-of c .len) ≤ length (file-of c)
-fits c = inner-fits (opening-of c) (closing-of c) (file-of c) _ (outer-of c) (inner-of c) (c .before .before .before .if1 .left) (c .nth-part .ensures) (begun c .pre)
+fits c = inner-fits (opening-of c) (closing-of c) (file-of c) _ (outer-of c) (inner-of c) (c .before .before .before .before .if1 .left) (c .nth-part .ensures) (begun c .pre)
 
 returns-2 : tie.Need-returns-2
 returns-2 c =
     let s = c .before .before .before in
     record {
-      found = inner-refused (opening-of s) (closing-of s) (file-of s) _ (outer-of s) (inner-of s) (s .before .before .before .if1 .left) (s .nth-part .ensures) (c .if2 .taken);
+      found = inner-refused (opening-of s) (closing-of s) (file-of s) _ (outer-of s) (inner-of s) (s .before .before .before .before .if1 .left) (s .nth-part .ensures) (c .if2 .taken);
       inside = omega (arith, fits s);
     }
 
 add-start : tie.Need-add-start
-add-start c = let s = c .before .before .before .before in omega (arith, begun s .good, fits s)
+add-start c = let s = c .before .before .before .before .before in omega (arith, begun s .good, fits s)
 
 returns-3 : tie.Need-returns-3
 returns-3 c =
-    let s = c .before .before .before .before in
+    let s = c .before .before .before .before .before in
     record {
-      found = inner-found (opening-of s) (closing-of s) (file-of s) _ (outer-of s) (inner-of s) (s .before .before .before .if1 .left) (s .nth-part .ensures) (c .before .if2 .left);
+      found = inner-found (opening-of s) (closing-of s) (file-of s) _ (outer-of s) (inner-of s) (s .before .before .before .before .if1 .left) (s .nth-part .ensures) (c .before .before .if2 .left);
       inside = omega (arith, fits s);
     }
 

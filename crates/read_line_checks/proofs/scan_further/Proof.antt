@@ -15,15 +15,15 @@ use Rattle.read_line_checks.proofs.scan_further.Statement.{statement}
 use Rattle.read_line_checks.proofs.scan_further.Tie as tie
 
 abbrev Inv-loop : tie.InvT-loop
-Inv-loop s limit code next at₀ n₀ at n = (0 < at) × (at ≤ length s) × (n ≤ at) × (0 < n) × Same limit (firstRecord (linesOf s)) at n (further (linesOf (drop at s)))
+Inv-loop s limit code at₀ n₀ at n = (0 < at) × (at ≤ length s) × (n ≤ at) × (0 < n) × Same limit (firstRecord (linesOf s)) at n (further (linesOf (drop at s)))
 
 abbrev μ-loop : tie.MeasureT-loop
-μ-loop s limit code next at₀ n₀ at n = length s - at
+μ-loop s limit code at₀ n₀ at n = length s - at
 
 loop-holds : tie.Need-loop-holds Inv-loop μ-loop
 loop-holds c =
     let a = c .before .args in let p = c .before .pre in let m = line-some (a .s .now) (p .0) in let f = line-fits (a .s .now) in
-    (omega arith, omega arith, omega arith, omega arith, first-go (a .limit) (a .s .now) (p .0) (codeMeant (a .code)) (a .next) (p .1 .0) (omega arith))
+    (omega arith, omega arith, omega arith, omega arith, first-go (a .limit) (a .s .now) (p .0) (codeMeant (a .code)) (a .next .0) (p .1 .0) (omega arith))
 
 good-line-requires : tie.Need-good-line-requires Inv-loop μ-loop
 good-line-requires c κs = further-some (c .before .before .before .before .args .s .now) (c .before .before .loop .at) (sym (c .before .begins-with .ensures) ∙ c .if1 .taken)

@@ -28,29 +28,29 @@ use Rattle.read_walk.specs.declared.Walked.the-variants.{Refused}
 use Rattle.read_walk.specs.WalkAnswers.{Walks}
 use Rattle.read_walk.specs.WalkKept.{WalkK, point, takenK, walkCellsK, walkLinesK, walkFrom}
 use Rattle.read_walk.proofs.LineParts.{part-slice}
-use Rattle.read_walk.proofs.WalkBounds.{Fits, start-fits, taken-fits, end-bounds}
+use Rattle.read_walk.proofs.WalkBounds.{Fits, fits-same, start-fits, taken-fits, end-bounds}
 use Rattle.read_walk.proofs.WalkLaws.{took-bad, took-good, open-here, field-within, wrong-here, text-here, field-short, comma-here, blanks-here, byte-here, short-here, line-stop, line-go, lines-end, from-stop, from-end}
 use Rattle.read_walk.proofs.walk_lines.Statement.{statement}
 use Rattle.read_walk.proofs.walk_lines.Tie as tie
 
 abbrev Inv-loop : tie.InvT-loop
-Inv-loop rest rec before want₀ kept₀ slash₀ at e a₀ want kept slash a =
+Inv-loop rest rec want₀ kept₀ slash₀ at e a₀ want kept slash a =
     (a ≤ e)
     × (e ≤ length rec)
-    × Fits (length rec) before (point (wantedOf want) kept (slash .0))
+    × Fits (length rec) (kept₀ .before .0) (point (wantedOf want) kept (slash .0))
     × (walkCellsK (point (wantedOf want₀) kept₀ (slash₀ .0)) (cellsFrom a₀ (slice a₀ e rec)) ≡ walkCellsK (point (wantedOf want) kept (slash .0)) (cellsFrom a (slice a e rec)))
 
 abbrev μ-loop : tie.MeasureT-loop
-μ-loop rest rec before want₀ kept₀ slash₀ at e a₀ want kept slash a = e - a
+μ-loop rest rec want₀ kept₀ slash₀ at e a₀ want kept slash a = e - a
 
 abbrev Inv-walk : tie.InvT-walk
-Inv-walk rest rec before want₀ kept₀ slash₀ at₀ want kept slash at =
+Inv-walk rest rec want₀ kept₀ slash₀ at₀ want kept slash at =
     (at ≤ length rec)
-    × Fits (length rec) before (point (wantedOf want) kept (slash .0))
+    × Fits (length rec) (kept₀ .before .0) (point (wantedOf want) kept (slash .0))
     × (walkLinesK 0 (point (wantedOf want₀) kept₀ (slash₀ .0)) (linesOf rec) ≡ walkLinesK at (point (wantedOf want) kept (slash .0)) (linesOf (drop at rec)))
 
 abbrev μ-walk : tie.MeasureT-walk
-μ-walk rest rec before want₀ kept₀ slash₀ at₀ want kept slash at = length rec - at
+μ-walk rest rec want₀ kept₀ slash₀ at₀ want kept slash at = length rec - at
 
 -- ---- at a line: the record, the line's start and end, the next line, and the walk where the line starts
 
@@ -67,7 +67,7 @@ abbrev start-of : Line → ℕ
 start-of c = c .before .before .before .walk .at
 
 abbrev end-of : Line → ℕ
-end-of c = c .before .body-end-in .result
+end-of c = c .before .body-end-in .result .0
 
 abbrev next-of : Line → ℕ
 next-of c = end-of c + c .end-len .result
@@ -84,8 +84,18 @@ Made = tie.After-none Inv-loop μ-loop Inv-walk μ-walk
 abbrev first-of : Made → WalkK
 first-of c = point (wantedOf (c .before .before .before .args .first)) (c .none .result) 0
 
-first-is : (c : Made) → first-of c ≡ point (wantedOf (c .before .before .before .args .first)) (nothingKept (c .before .before .before .args .before)) 0
+first-is : (c : Made) → first-of c ≡ point (wantedOf (c .before .before .before .args .first)) (nothingKept (c .before .before .before .args .before .0)) 0
 first-is c = ap (λ (k : Kept). point (wantedOf (c .before .before .before .args .first)) k 0) (c .none .ensures)
+
+-- the magnitudes before, as they are kept where the record starts, and where a line does
+same-before : (c : Made) → c .none .result .before .0 ≡ c .before .before .before .args .before .0
+same-before c = ap (λ (k : Kept). k .before .0) (c .none .ensures)
+
+abbrev before-of : Line → ℕ
+before-of c = c .before .before .before .walk .kept .before .0
+
+kept-before : (c : Line) → before-of c ≡ c .before .before .before .before .none .result .before .0
+kept-before c = c .before .before .before .walk .inv .1 .kept .before
 
 some-byte : (c : Line) → start-of c < length (rec-of c)
 some-byte c = c .before .before .if1 .left
@@ -119,7 +129,7 @@ stopped-at rec first before number place r e answers within = rw e (record { ans
 
 -- the record is refused where this line is
 stop : (c : Line) (n q : ℕ) → walkCellsK (from-of c) (cellsFrom (start-of c + 3) (slice (start-of c + 3) (end-of c) (rec-of c))) ≡ refuse n q
-    → refuse n q ≡ walkFrom (wantedOf (entry c .args .first)) (nothingKept (entry c .args .before)) (linesOf (rec-of c))
+    → refuse n q ≡ walkFrom (wantedOf (entry c .args .first)) (nothingKept (entry c .args .before .0)) (linesOf (rec-of c))
 stop c n q r =
     from-stop _ _ (linesOf (rec-of c)) (first-of (c .before .before .before .before)) (first-is (c .before .before .before .before)) n q
     (c .before .before .before .walk .inv .2 ∙ line-stop (rec-of c) (start-of c) (end-of c) (next-of c) (some-byte c) (end-is c) (next-at c) (from-of c) n q r)
@@ -235,7 +245,7 @@ took c =
     took-good (at-of (head (field j))) (bytes (field j)) (here (head (field j))) _ _
     (sym (judged-is j) ∙ ap judgedOf (c .before .next .given .1)) (kept-is (noted j))
 
-fits : (c : Good) → Fits (length (rec-of (line (head (good-field c))))) (entry (line (head (good-field c))) .args .before) (then c)
+fits : (c : Good) → Fits (length (rec-of (line (head (good-field c))))) (before-of (line (head (good-field c)))) (then c)
 fits c =
     let h = head (good-field c) in
     taken-fits (length (rec-of (line h))) _ (at-of h) (bytes (good-field c)) (here h) (then c) (took c) (omega (arith, h .loop .inv .0, h .loop .inv .1)) (h .loop .inv .2)
@@ -286,7 +296,7 @@ blanks-in c =
     )
 
 walk-holds : tie.Need-walk-holds Inv-loop μ-loop Inv-walk μ-walk
-walk-holds c = (zero-le, start-fits _ _ (first-of c) (c .none .ensures) refl, refl)
+walk-holds c = (zero-le, fits-same _ _ _ (first-of c) (sym (same-before c)) (start-fits _ _ (first-of c) (c .none .ensures) refl), refl)
 
 add-a : tie.Need-add-a Inv-loop μ-loop Inv-walk μ-walk
 add-a c = omega (arith, c .before .if1 .left)
@@ -295,7 +305,7 @@ add-at : tie.Need-add-at Inv-loop μ-loop Inv-walk μ-walk
 add-at c = omega (arith, within c)
 
 loop-holds : tie.Need-loop-holds Inv-loop μ-loop Inv-walk μ-walk
-loop-holds c = (omega arith, ends (c .before), c .before .before .before .before .walk .inv .1, refl)
+loop-holds c = (omega arith, ends (c .before), fits-same _ _ _ (from-of (c .before)) (sym (kept-before (c .before))) (c .before .before .before .before .walk .inv .1), refl)
 
 add-f : tie.Need-add-f Inv-loop μ-loop Inv-walk μ-walk
 add-f c = omega (arith, inside c, ends (line (head c)))
@@ -314,7 +324,7 @@ walk-again c =
     let g = good-field (c .before) in
     let h = head g in (
       within (line h),
-      fits (c .before),
+      fits-same _ _ _ (then (c .before)) (kept-before (line h)) (fits (c .before)),
       go-on (line h) (then (c .before)) (h .loop .inv .3
           ∙ text-here (rec-of (line h)) (here h) (at-of h) (end-of (line h))
           (h .loop .inv .0) (h .loop .inv .1) (size g) (field-extent g) (then (c .before))
@@ -322,7 +332,7 @@ walk-again c =
     )
 
 add-a-2 : tie.Need-add-a-2 Inv-loop μ-loop Inv-walk μ-walk
-add-a-2 c = omega (arith, short c, ends (line (head (good-field (c .before)))))
+add-a-2 c = let l = line (head (good-field (c .before))) in omega (arith, short c, ends l, entry l .good)
 
 shared-slice-read-if5 : tie.Need-shared-slice-read-if5 Inv-loop μ-loop Inv-walk μ-walk
 shared-slice-read-if5 c = omega (arith, short (c .before), ends (line (head (good-field (c .before .before)))))
@@ -349,7 +359,7 @@ walk-again-2 c =
     let h = head g in
     let b = blanks-from (c .before) in (
       within (line h),
-      record { kept = fits good .kept; slash = omega (arith, short plain, ends (line h)) },
+      record { kept = fits-same _ _ _ (then good) (kept-before (line h)) (fits good) .kept; slash = omega (arith, short plain, ends (line h)) },
       go-on (line h) _ (h .loop .inv .3
           ∙ blanks-here (rec-of (line h)) (here h) (at-of h) (end-of (line h))
           (h .loop .inv .0) (h .loop .inv .1) (size g) (field-extent g)
@@ -382,7 +392,7 @@ returns c =
     record {
       answer = from-end _ _ (linesOf s) (first-of (w .before)) (first-is (w .before)) p _
           (w .walk .inv .2 ∙ lines-end s p (w .walk .at) (c .before .if1 .taken)) (c .finish .ensures);
-      bounds = end-bounds _ _ (c .finish .result) p (c .finish .ensures) (w .walk .inv .1);
+      bounds = end-bounds _ _ (c .finish .result) p (c .finish .ensures) (fits-same _ _ _ p (same-before (w .before)) (w .walk .inv .1));
     }
 
 returns-2 : tie.Need-returns-2 Inv-loop μ-loop Inv-walk μ-walk

@@ -16,7 +16,7 @@ walk-lines-requires c κs =
 returns : tie.Need-returns
 returns c =
     let a = c .before .before .before .args in
-    subst (λ (bs : Bytes). Walks bs (a .first) (a .before) (c .walk-lines .result)) (c .before .front .ensures) (c .walk-lines .ensures)
+    subst (λ (bs : Bytes). Walks bs (a .first) (a .before .0) (c .walk-lines .result)) (c .before .front .ensures) (c .walk-lines .ensures)
 
 pub walk-record-spec : {M : Type 1} → statement M
 walk-record-spec = tie.close (tie.spec (λ c κs. search needs) walk-lines-requires returns)

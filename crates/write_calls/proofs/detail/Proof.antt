@@ -18,7 +18,7 @@ returns c =
     let s = start drafted in
     done .commit .ensures
     ∙ detail-written (writerMeant (s .args .w)) (s .args .type-code .now) (amountGiven (s .args .amount)) (s .args .bank-reference .now) (s .args .customer-reference .now)
-    (s .args .text .now) (s .args .out .now) _ _ (added .sum-given .ensures) (drafted .detail .ensures)
+    (s .args .text .now) (s .args .out .now) _ _ _ (added .sum-given .ensures) (drafted .detail .ensures)
 
 pub detail-spec : {M : Type 1} → statement M
 detail-spec =

@@ -16,7 +16,7 @@ returns c =
     let counted = drafted .before .before in
     let s = counted .before .before in
     done .commit .ensures
-    ∙ end-answers (writerMeant (s .args .w)) (codeMeant (s .args .code)) (summaryMeant (s .args .summary)) (s .args .count) (counted .add .result .0) (s .args .out .now) _ _
+    ∙ end-answers (writerMeant (s .args .w)) (codeMeant (s .args .code)) (summaryMeant (s .args .summary)) (s .args .count .0) (counted .add .result .0) (s .args .out .now) _ _ _
     (added .none .ensures) (counted .add .ensures) (drafted .trailer .ensures)
 
 pub end-spec : {M : Type 1} → statement M

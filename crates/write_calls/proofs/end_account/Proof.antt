@@ -14,7 +14,7 @@ returns c =
     let counted = drafted .before .before in
     let s = counted .before .before .before in
     done .commit .ensures
-    ∙ account-end-written (writerMeant (s .args .w)) (s .args .out .now) _ _ (counted .add .result .0) (added .none .ensures) (counted .add .ensures) (drafted .account-end .ensures)
+    ∙ account-end-written (writerMeant (s .args .w)) (s .args .out .now) _ _ _ (counted .add .result .0) (added .none .ensures) (counted .add .ensures) (drafted .account-end .ensures)
 
 pub end-account-spec : {M : Type 1} → statement M
 end-account-spec =

@@ -16,7 +16,7 @@ returns c =
     let drafted = added .before .before in
     let s = start drafted in
     done .commit .ensures
-    ∙ group-written (writerMeant (s .args .w)) (s .args .out .now) _ _ (s .args .receiver .now) (s .args .originator .now) (s .args .status .now) (s .args .date .now)
+    ∙ group-written (writerMeant (s .args .w)) (s .args .out .now) _ _ _ (s .args .receiver .now) (s .args .originator .now) (s .args .status .now) (s .args .date .now)
     (s .args .time .now) (s .args .currency .now) (s .args .modifier .now) (added .none .ensures) (drafted .group .ensures)
 
 pub group-spec : {M : Type 1} → statement M

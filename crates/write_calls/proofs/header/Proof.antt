@@ -16,7 +16,7 @@ returns c =
     let drafted = added .before .before in
     let s = start drafted in
     done .commit .ensures
-    ∙ header-written (writerMeant (s .args .w)) (s .args .out .now) _ _ (s .args .sender .now) (s .args .receiver .now) (s .args .date .now) (s .args .time .now)
+    ∙ header-written (writerMeant (s .args .w)) (s .args .out .now) _ _ _ (s .args .sender .now) (s .args .receiver .now) (s .args .date .now) (s .args .time .now)
     (s .args .file-number .now) (added .none .ensures) (drafted .header .ensures)
 
 pub header-spec : {M : Type 1} → statement M

@@ -17,7 +17,7 @@ returns c =
     let drafted = added .before in
     let s = start drafted in
     done .commit .ensures
-    ∙ item-written (writerMeant (s .args .w)) (s .args .out .now) _ _ (itemMeant (s .args .type-code .now) (s .args .amount) (s .args .count)) (added .sum-given .ensures)
+    ∙ item-written (writerMeant (s .args .w)) (s .args .out .now) _ _ _ (itemMeant (s .args .type-code .now) (s .args .amount) (s .args .count)) (added .sum-given .ensures)
     (drafted .item .ensures)
 
 pub item-spec : {M : Type 1} → statement M

@@ -19,7 +19,7 @@ returns c =
     let s = start drafted in
     done .commit .ensures
     ∙ rw (kept .is-empty .ensures)
-    (account-written (writerMeant (s .args .w)) (s .args .out .now) _ _ (s .args .number .now) (s .args .currency .now)
+    (account-written (writerMeant (s .args .w)) (s .args .out .now) _ _ _ (s .args .number .now) (s .args .currency .now)
     (itemMeant (s .args .type-code .now) (s .args .amount) (s .args .count)) (added .sum-given .ensures) (drafted .account .ensures))
 
 pub open-account-spec : {M : Type 1} → statement M

@@ -5,7 +5,7 @@ use Rattle.write_line.proofs.add_items.Statement.{statement}
 use Rattle.write_line.proofs.add_items.Tie as tie
 
 returns : tie.Need-returns
-returns c = c .add-count .ensures ∙ rw (c .before .before .before .count .given .1)
+returns c = c .add-number .ensures ∙ rw (c .before .before .before .count .given .1)
 
 returns-2 : tie.Need-returns-2
 returns-2 c = c .add-empty .ensures ∙ rw (c .before .before .enum-told .given .1)

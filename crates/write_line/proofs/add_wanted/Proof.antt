@@ -17,17 +17,17 @@ short c = start (c .before)
 returns : tie.Need-returns
 returns c =
     let s = c .before .before .before in
-    field-no-room (s .args .line .now) (s .args .len) (s .pre) (s .args .want) (s .args .f .now) (s .args .mark) (omega arith)
+    field-no-room (s .args .line .now) (s .args .len) (s .args .want) (s .args .f .now) (s .args .mark) (omega arith)
 
 returns-2 : tie.Need-returns-2
 returns-2 c =
     let s = start (c .before) in
-    field-long (s .args .line .now) (s .args .len) (s .pre) (s .args .want) (s .args .f .now) (s .args .mark) (omega arith) (c .if2 .taken)
+    field-long (s .args .line .now) (s .args .len) (s .args .want) (s .args .f .now) (s .args .mark) (c .if2 .taken)
 
 returns-3 : tie.Need-returns-3
 returns-3 c =
     let s = short (c .before .before) in
-    field-unclean (s .args .line .now) (s .args .len) (s .pre) (s .args .want) (s .args .f .now) (s .args .mark) (omega arith)
+    field-unclean (s .args .line .now) (s .args .len) (s .args .want) (s .args .f .now) (s .args .mark)
     (sym (c .before .is-clean .ensures) ∙ not-true _ (c .if3 .taken))
 
 returns-4 : tie.Need-returns-4
@@ -36,7 +36,7 @@ returns-4 c =
     let is-clean = put .before .before in
     let is-short = is-clean .before .before in
     let s = short is-short in
-    field-put (s .args .line .now) (s .args .len) (s .pre) (s .args .want) (s .args .f .now) (s .args .mark) (c .take-field .result) _ _ (omega arith) (is-short .if2 .left)
+    field-put (s .args .line .now) (s .args .len) (s .args .want) (s .args .f .now) (s .args .mark) (c .take-field .result) _ _ (s .pre) (omega arith) (is-short .if2 .left)
     (sym (is-clean .before .is-clean .ensures) ∙ not-false _ (is-clean .if3 .left)) (c .take-field .ensures) (put .put-at .ensures) refl
 
 pub add-wanted-spec : {M : Type 1} → statement M

@@ -7,7 +7,7 @@ returns : tie.Need-returns
 returns c =
     let total = c .before .before in
     let code = total .before .before in
-    rw (c .add-count .ensures, total .add-total .ensures, code .begin .ensures, code .before .first-want .ensures)
+    rw (c .add-records .ensures, total .add-total .ensures, code .begin .ensures, code .before .first-want .ensures)
 
 pub account-end-spec : {M : Type 1} → statement M
 account-end-spec =

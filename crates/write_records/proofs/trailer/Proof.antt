@@ -8,7 +8,7 @@ returns c =
     let count = c .before .before in
     let total = count .before .before in
     let code = total .before .before in
-    rw (c .add-count2 .ensures, count .add-count .ensures, total .add-total .ensures, code .begin .ensures, code .before .first-want .ensures)
+    rw (c .add-records .ensures, count .add-count .ensures, total .add-total .ensures, code .begin .ensures, code .before .first-want .ensures)
 
 pub trailer-spec : {M : Type 1} → statement M
 trailer-spec =

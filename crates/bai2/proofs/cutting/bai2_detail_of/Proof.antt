@@ -8,7 +8,7 @@ use Rattle.bai2.proofs.cutting.bai2_detail_of.Tie as tie
 
 returns : tie.Need-returns
 returns c =
-    let d = c .before .before .before in
+    let d = c .before .before .before .before .before in
     detail-figures (d .detail .result) (c .flag-of .result) (c .flag-of .ensures) (d .detail .ensures .2) ∙ ap detailFigures (d .detail .ensures .0)
 
 pub bai2-detail-of-spec : {M : Type 1} → statement M

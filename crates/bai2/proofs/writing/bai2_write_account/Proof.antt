@@ -17,7 +17,7 @@ returns c =
     let s = c .before .before .before .before .before .before .before .before .before .before .before .before in
     let w = c .before .before .before .before .before .before .before .state-of in
     let r = c .before .before .before .account in
-    let n = c .before .before .before .before .before .count-asked in
+    let n = c .before .before .before .before .before .items-asked in
     let a = c .before .before .before .before .before .before .amount-asked in
     replies (s .args .writer) (w .result) (r .result) (c .answered .result) (rules.writeAccount (s .args .account .now) (s .args .currency .now) (itemAsked (s .args .item-given) (itemOf (s .args .type-code .now) (s .args .amount-given) (s .args .amount) (s .args .count-given) (s .args .count)))) (s .args .out .now) (r .last .1 .1 .1 .1 .1 .1 .1 .0) (w .ensures)
     (written-as (writerMeant (w .result)) (s .args .out .now) (rules.writeAccount (s .args .account .now) (s .args .currency .now) (itemGiven (not (eqb (s .args .item-given) 0)) (s .args .type-code .now) (a .result) (n .result)))

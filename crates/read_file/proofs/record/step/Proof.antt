@@ -133,15 +133,15 @@ good c = good-of (in-order c)
 abbrev magnitudes-of : Walking → ℕ
 magnitudes-of c = magnitudes (before-of (start-of (good c)) .file .sum)
 
-walks : (c : Walking) → Walks (bytes-of (good c)) (c .before .before .first-want .result) (magnitudes-of c) (c .walk-record .result)
+walks : (c : Walking) → Walks (bytes-of (good c)) (c .before .first-want .result) (magnitudes-of c) (c .walk-record .result)
 walks c =
-    subst (λ (bs : Bytes). Walks bs (c .before .before .first-want .result) (magnitudes-of c) (c .walk-record .result))
+    subst (λ (bs : Bytes). Walks bs (c .before .first-want .result) (magnitudes-of c) (c .walk-record .result))
     (sym (bytes-are (good c))) (c .walk-record .ensures)
 
 walked : (c : Walking) → walkFrom (fieldsOf (code-of (good c))) (nothingKept (magnitudes-of c)) (record-of (start-of (good c))) ≡ walkedOf (c .walk-record .result)
 walked c =
-    ap (λ (ks : List Kind). walkFrom ks (nothingKept (magnitudes-of c)) (record-of (start-of (good c)))) (sym (c .before .before .first-want .ensures))
-    ∙ ap (λ (ls : Record). walkFrom (wantedOf (c .before .before .first-want .result)) (nothingKept (magnitudes-of c)) ls) (sym (lines-are (good c)))
+    ap (λ (ks : List Kind). walkFrom ks (nothingKept (magnitudes-of c)) (record-of (start-of (good c)))) (sym (c .before .first-want .ensures))
+    ∙ ap (λ (ls : Record). walkFrom (wantedOf (c .before .first-want .result)) (nothingKept (magnitudes-of c)) ls) (sym (lines-are (good c)))
     ∙ sym (walks c .answer)
 
 -- the same bounds of the answer that a branch knows
@@ -237,8 +237,8 @@ step-spec =
     (λ c. search needs)
     (λ c. search needs)
     part-rec-end
-    (λ c κs. search needs)
     (λ c. search needs)
+    (λ c κs. search needs)
     (λ c κs. search needs)
     (λ c. search needs)
     returns-4

@@ -23,9 +23,9 @@ kept-of d = d .before .before .before .before .before .args .self
 abbrev number-of : After → Signed
 number-of d = amountMeant (d .before .before .amount-in .result)
 
-fits : (d : After) → kept-of d .before + (kept-of d .sum .0 + kept-of d .sum .1) + number-of d .magnitude ≤ most
+fits : (d : After) → kept-of d .before .0 + (kept-of d .sum .0 + kept-of d .sum .1) + number-of d .magnitude ≤ most
 fits d =
-    ltb-false most (kept-of d .before + (kept-of d .sum .0 + kept-of d .sum .1) + number-of d .magnitude) (sym (d .before .passes .ensures) ∙ d .if2 .left)
+    ltb-false most (kept-of d .before .0 + (kept-of d .sum .0 + kept-of d .sum .1) + number-of d .magnitude) (sym (d .before .passes .ensures) ∙ d .if2 .left)
 
 returns : tie.Need-returns
 returns c = let k = c .before .before .args .self in ap (withAmounts k) (add-over _ (amountsOf k) _ _ (c .if1 .taken))

@@ -16,19 +16,19 @@ returns-2 c = rw (sym (c .before .before .before .kept-for .ensures) ∙ ap keep
 
 returns-3 : tie.Need-returns-3
 unfolding keepRead keepWith
-returns-3 c = rw (sym (c .before .before .before .before .kept-for .ensures) ∙ ap keepMeant (c .before .before .enum-told3 .given .1), c .or-first .ensures)
+returns-3 c = rw (sym (c .before .before .before .kept-for .ensures) ∙ ap keepMeant (c .before .enum-told3 .given .1), c .keep-total .ensures)
 
 returns-4 : tie.Need-returns-4
 unfolding keepRead keepWith
-returns-4 c = rw (sym (c .before .before .before .before .kept-for .ensures) ∙ ap keepMeant (c .before .before .enum-told4 .given .1), c .or-first2 .ensures)
+returns-4 c = rw (sym (c .before .before .before .kept-for .ensures) ∙ ap keepMeant (c .before .enum-told4 .given .1), c .keep-count .ensures)
 
 returns-5 : tie.Need-returns-5
 unfolding keepRead keepWith
-returns-5 c = rw (sym (c .before .before .before .before .kept-for .ensures) ∙ ap keepMeant (c .before .before .enum-told5 .given .1), c .or-first3 .ensures)
+returns-5 c = rw (sym (c .before .before .before .kept-for .ensures) ∙ ap keepMeant (c .before .enum-told5 .given .1), c .keep-records .ensures)
 
 returns-6 : tie.Need-returns-6
 unfolding keepRead keepWith
-returns-6 c = rw (sym (c .before .before .before .before .kept-for .ensures) ∙ ap keepMeant (c .before .before .enum-told6 .given .1), c .or-first4 .ensures)
+returns-6 c = rw (sym (c .before .before .before .kept-for .ensures) ∙ ap keepMeant (c .before .enum-told6 .given .1), c .keep-length .ensures)
 
 pub keep-spec : {M : Type 1} → statement M
 keep-spec =
@@ -36,19 +36,19 @@ keep-spec =
     (tie.spec
     (λ c κs. search needs)
     (λ c. search needs)
+    (λ c. search needs)
+    (λ c κs. search needs)
+    (λ c. search needs)
+    (λ c κs. search needs)
+    (λ c. search needs)
+    (λ c κs. search needs)
+    (λ c. search needs)
+    (λ c κs. search needs)
+    (λ c. search needs)
+    (λ c κs. search needs)
     returns
-    (λ c. search needs)
-    (λ c κs. search needs)
     returns-2
-    (λ c. search needs)
-    (λ c κs. search needs)
     returns-3
-    (λ c. search needs)
-    (λ c κs. search needs)
     returns-4
-    (λ c. search needs)
-    (λ c κs. search needs)
     returns-5
-    (λ c. search needs)
-    (λ c κs. search needs)
     returns-6)

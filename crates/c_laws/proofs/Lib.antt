@@ -1,0 +1,2 @@
+-- C's read-back.
+pub mod CTheorems

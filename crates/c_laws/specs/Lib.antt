@@ -1,0 +1,2 @@
+-- The words in which C's read-back is said.
+pub mod CWords

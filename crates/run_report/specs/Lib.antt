@@ -1,0 +1,2 @@
+-- A line put at the front of a slice.
+pub mod PutLines

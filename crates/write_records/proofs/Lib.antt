@@ -1,0 +1,2 @@
+-- Facts that the crate above hands over.
+pub mod LinesSaid
