@@ -116,8 +116,8 @@ pub fn seek(rec: &[u8], first: Want, sought: Sought) -> Spot
     let mut want = first;
     let mut at: usize = 0;
     while at < rec.len() {
-        let e = read_lines::body_end(rec, at);
-        let next = e + read_lines::end_len(rec, e);
+        let e = read_lines::body_end(rec, Place(at)).0;
+        let next = e + read_lines::end_len(rec, Place(e));
         let a = at + 3;
         if e < a {
             return Spot {

@@ -123,7 +123,7 @@ fn field_of_next_line(rest: &[u8], size: usize, walk: Cursor) -> Next
     if end.0 < at.0 {
         return stop(LINE_BADLY_ENDED, at);
     }
-    let line = Place(end.0 + read_lines::end_len(rec, end.0));
+    let line = Place(end.0 + read_lines::end_len(rec, end));
     field_here(
         rec,
         Cursor {

@@ -39,8 +39,8 @@ fn good_line(s: &[u8], start: Place, limit: usize) -> GoodLine
     ensures { λ r. ⌜ LineIs r (start .0) limit (drop (start .0) (now (s .entry))) ⌝ }
 {
     let at = start.0;
-    let i = read_lines::scan::plain_end(s, at, b'~');
-    let e = read_lines::body_end(s, i);
+    let i = read_lines::scan::plain_end(s, start, b'~').0;
+    let e = read_lines::body_end(s, Place(i)).0;
     if limit < e - at {
         return GoodLine::Refused(Refusal {
             number: LINE_TOO_LONG,
@@ -53,12 +53,12 @@ fn good_line(s: &[u8], start: Place, limit: usize) -> GoodLine
             place: Place(i),
         });
     }
-    match read_lines::code_at(s, at) {
+    match read_lines::code_at(s, start) {
         Coded::None => GoodLine::Refused(Refusal {
             number: NO_RECORD_CODE,
             place: Place(at),
         }),
-        Coded::With(code) => GoodLine::Good(code, Place(e + read_lines::end_len(s, e))),
+        Coded::With(code) => GoodLine::Good(code, Place(e + read_lines::end_len(s, Place(e)))),
     }
 }
 
@@ -69,7 +69,7 @@ fn scan_further(s: &[u8], limit: usize, code: Code, next: Place) -> Scanned
 {
     let mut at = next.0;
     let mut n: u64 = 1;
-    while read_lines::begins_with(s, at, b'8', b'8') {
+    while read_lines::begins_with(s, Place(at), b'8', b'8') {
         match good_line(s, Place(at), limit) {
             GoodLine::Refused(why) => return Scanned::Refused(why),
             GoodLine::Good(_, after) => at = after.0,
@@ -98,14 +98,14 @@ pub fn none_longer(s: &[u8], limit: usize) -> Checked
 {
     let mut start: usize = 0;
     while start < s.len() {
-        let e = read_lines::body_end(s, start);
+        let e = read_lines::body_end(s, Place(start)).0;
         if limit < e - start {
             return Checked::Refused(Refusal {
                 number: LINE_TOO_LONG,
                 place: Place(start + limit),
             });
         }
-        start = e + read_lines::end_len(s, e);
+        start = e + read_lines::end_len(s, Place(e));
     }
     Checked::Fine
 }

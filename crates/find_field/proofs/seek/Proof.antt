@@ -46,7 +46,7 @@ abbrev start-of : Line → ℕ
 start-of c = c .before .before .before .loop .at
 
 abbrev end-of : Line → ℕ
-end-of c = c .before .body-end .result
+end-of c = c .before .body-end .result .0
 
 abbrev next-of : Line → ℕ
 next-of c = end-of c + c .end-len .result

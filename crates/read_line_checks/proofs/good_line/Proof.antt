@@ -13,14 +13,14 @@ use Rattle.read_line_checks.proofs.LineCheckLaws.{line-long, line-byte,
 use Rattle.read_line_checks.proofs.good_line.Statement.{statement}
 use Rattle.read_line_checks.proofs.good_line.Tie as tie
 
-the-end : (c : tie.After-body-end) → c .body-end .result ≡ c .before .before .before .args .start .0 + bodyLen (drop (c .before .before .before .args .start .0) (c .before .before .before .args .s .now))
-the-end c = c .body-end .ensures .0 ∙ sym (body-from (c .before .before .before .args .s .now) (c .before .before .before .args .start .0) (c .before .plain-end .result) 126 (c .before .plain-end .ensures .0))
+the-end : (c : tie.After-body-end) → c .body-end .result .0 ≡ c .before .before .before .args .start .0 + bodyLen (drop (c .before .before .before .args .start .0) (c .before .before .before .args .s .now))
+the-end c = c .body-end .ensures .0 ∙ sym (body-from (c .before .before .before .args .s .now) (c .before .before .before .args .start .0) (c .before .plain-end .result .0) 126 (c .before .plain-end .ensures .0))
 
 sub-if1 : tie.Need-sub-if1
 sub-if1 c = omega (arith, the-end c)
 
-add-t10 : tie.Need-add-t10
-add-t10 c = omega (arith, the-end (c .before))
+add-t12 : tie.Need-add-t12
+add-t12 c = omega (arith, the-end (c .before))
 
 returns : tie.Need-returns
 returns c =
@@ -34,11 +34,11 @@ returns-2 c =
       omega (arith, the-end (c .before .before)),
     )
 
-add-t20 : tie.Need-add-t20
-add-t20 c =
+add-t23 : tie.Need-add-t23
+add-t23 c =
     let ended = c .before .before .before .before .before .before .before in
     let a = ended .before .before .before .args in
-    let e = ended .body-end .result in
+    let e = ended .body-end .result .0 in
     let h = next-within (a .s .now) (a .start .0) e (e + c .end-len .result) (the-end ended) (rw (c .end-len .ensures)) in
     omega arith
 
@@ -54,7 +54,7 @@ returns-4 c =
     let ended = c .before .before .before .before .before .before .before in
     let a = ended .before .before .before .args in
     let xs = drop (a .start .0) (a .s .now) in
-    let e = ended .body-end .result in (
+    let e = ended .body-end .result .0 in (
       line-fine xs (a .start .0) (a .limit) (omega (arith, the-end ended)) (omega (arith, the-end ended)) (codeMeant (c .before .before .code .given .0 .0)) (ap codeFound (sym (c .before .before .code .given .1)) ∙ c .before .before .before .before .code-at .ensures),
       next-is (a .s .now) (a .start .0) e (e + c .end-len .result) (the-end ended) (rw (c .end-len .ensures)),
     )
@@ -66,13 +66,13 @@ good-line-spec =
     (λ c κs. search needs)
     (λ c κs. search needs)
     sub-if1
-    add-t10
+    add-t12
     returns
     returns-2
     (λ c κs. search needs)
     (λ c. search needs)
     (λ c. search needs)
     (λ c κs. search needs)
-    add-t20
+    add-t23
     returns-3
     returns-4)
