@@ -119,17 +119,17 @@ module _ (rec : Bytes) (c : Cursor) (xs : Bytes) (is : xs ≡ slice (c .at .0) (
             onward = λ h i. (
               omega (arith, size-left .1, in-short nt, i .in-line, i .in-record),
               record { in-line = i .in-line; in-record = i .in-record; slashed = i .slashed },
-              rw (left-in rec (a + (n + 1)) (c .end .0) (c .line .0) ahead, left-in rec a (c .end .0) (c .line .0) h) (omega (arith, i .in-line, i .in-record))
+              rw (left-in rec (a + (n + 1)) (c .end .0) (c .line .0) ahead, left-in rec a (c .end .0) (c .line .0) h) (omega (arith, i .in-line, i .in-record)),
             );
           }
 
       -- the line is over
       over-onward : (s : Place) → (c .at .0 ≤ c .end .0 → Inside rec c → s .0 ≤ length rec) → a ≤ c .end .0 → Onward rec c (next.Field (c .at) n (overAt w (c .line) s))
       over-onward s in-rec h i = (
-          omega (arith, size-left .0, in-left, i .in-line, i .in-record),
-          record { in-line = omega arith; in-record = i .in-record; slashed = in-rec h i },
-          rw (left-past rec 1 0 (c .line .0) (omega arith), left-in rec a (c .end .0) (c .line .0) h) (omega (arith, i .in-line, i .in-record))
-        )
+        omega (arith, size-left .0, in-left, i .in-line, i .in-record),
+        record { in-line = omega arith; in-record = i .in-record; slashed = in-rec h i },
+        rw (left-past rec 1 0 (c .line .0) (omega arith), left-in rec a (c .end .0) (c .line .0) h) (omega (arith, i .in-line, i .in-record)),
+      )
 
       pub text-takes : (d : Cursor) → d ≡ overAt w (c .line) (c .slash) → isText (nextKind (ks rec c)) ≡ true → Takes rec c (next.Field (c .at) n d)
       text-takes d q t =
@@ -182,8 +182,8 @@ module _ (rec : Bytes) (c : Cursor) where
         record {
           answer = line-first rec (c .line .0) e n h he hn (wantedOf (c .want)) (c .slash .0) ∙ t .answer;
           onward = λ past i.
-            let o = t .onward low (record { in-line = en; in-record = nl; slashed = i .slashed }) in
-            (o .0, o .1, rw (left-past rec (c .at .0) (c .end .0) (c .line .0) past) (omega (arith, o .2, left-in rec (c .line .0 + 3) e n low, h)));
+              let o = t .onward low (record { in-line = en; in-record = nl; slashed = i .slashed }) in
+              (o .0, o .1, rw (left-past rec (c .at .0) (c .end .0) (c .line .0) past) (omega (arith, o .2, left-in rec (c .line .0 + 3) e n low, h)));
         }
 
   -- ---- from either

@@ -64,7 +64,7 @@ module _ (file : Bytes) (x : Placed) (s : DetailStands file x) where
 
   found : (k : Kind) → inDetail k rec ≡ record { place = the k (s .fields) .place; bytes = the k (s .fields) .bytes }
   unfolding inDetail
-  found k = ap (λ (r : Record). seekLines k 0 (fieldsOf detail) r) (s .lines) ∙ sym (found-is k detail (s .record-of) (s .fields) (s .walked))
+  found k = ap (λ (r : Record). seekLines k (fieldsOf detail) r) (s .lines) ∙ sym (found-is k detail (s .record-of) (s .fields) (s .walked))
 
   found-bytes : (k : Kind) → inDetail k rec .bytes ≡ the k (s .fields) .bytes
   found-bytes k = ap (λ (y : Found). y .bytes) (found k)
