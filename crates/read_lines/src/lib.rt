@@ -1,6 +1,7 @@
 // Lines and records of a file: where they end, and a line's code. `scan` finds the first byte outside a range, block by block.
 use base_codes::Code;
 use base_quantities::Place;
+use base_quantities::Records;
 ghost use mathlib.Core.Path.{_≡_};
 ghost use mathlib.Core.List.{[], _∷_};
 ghost use Prim.Native.Nat.{_+_, _-_, _≤_};
@@ -9,7 +10,7 @@ ghost use Rattle.rules.specs.Bytes.{comma, sameBytes};
 ghost use Rattle.rules.specs.Lines.{linesOf, codeBytes, codeOf, recordSize};
 ghost use Rattle.base_codes.specs.CodeMeaning.{codeMeant};
 ghost use Rattle.read_lines.specs.LineLengths.{bodyLen, endLen, lineLen, firstLine, firstRecord};
-ghost use Rattle.read_lines.specs.LineAnswers.{codeFound};
+ghost use Rattle.read_lines.specs.LineAnswers.{codeFound, LinesAre};
 
 pub mod scan;
 
@@ -17,6 +18,12 @@ pub mod scan;
 pub enum Coded {
     None,
     With(Code),
+}
+
+// Some lines: how many, and where they end.
+pub struct Lines {
+    pub count: Records,
+    pub end: Place,
 }
 
 // How many bytes of a line's end stand there: LF, or CR and LF, or none.
@@ -134,13 +141,25 @@ pub fn code_at(s: &[u8], start: Place) -> Coded
     Coded::None
 }
 
+// The 88 lines from a place on.
+pub fn further_lines(s: &[u8], start: Place) -> Lines
+    ensures { λ r. ⌜ LinesAre r (start .0) (now (s .entry)) ⌝ }
+{
+    let mut end = start;
+    let mut n: u64 = 0;
+    while begins(s, end, Code::Continuation) {
+        end = next_line(s, end);
+        n += 1;
+    }
+    Lines {
+        count: Records(n),
+        end,
+    }
+}
+
 // Where the record that starts there ends: after its first line and all 88 lines after it.
 pub fn record_end(s: &[u8], start: Place) -> Place
     ensures { λ r. ⌜ (r .0 ≡ start .0 + recordSize (firstRecord (linesOf (drop (start .0) (now (s .entry)))))) × (r .0 ≤ length (now (s .entry)) + (start .0 - length (now (s .entry)))) ⌝ }
 {
-    let mut e = next_line(s, start);
-    while begins(s, e, Code::Continuation) {
-        e = next_line(s, e);
-    }
-    e
+    further_lines(s, next_line(s, start)).end
 }
