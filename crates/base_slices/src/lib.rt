@@ -70,3 +70,18 @@ pub fn put(out: &mut [u8], src: &[u8]) -> usize
     }
     i
 }
+
+// The same for numbers.
+pub fn put_numbers(out: &mut [u64], src: &[u64]) -> usize
+    ensures { λ r. ⌜ Put (now (src .entry)) (now (out .entry)) r (now (out .exit)) ⌝ }
+{
+    if out.len() < src.len() {
+        return 0;
+    }
+    let mut i: usize = 0;
+    while i < src.len() {
+        out[i] = src[i];
+        i += 1;
+    }
+    i
+}

@@ -55,7 +55,7 @@ fieldsOut file start room = do
 
 -- "/" where a text may stand means no text: a text of length 0
 unfoldable pub handedLength : Field → ℕ
-handedLength f = cond (sameKind (f .kind) text && just slash (f .bytes)) 0 (length (f .bytes))
+handedLength f = cond (sameKind text (f .kind) && just slash (f .bytes)) 0 (length (f .bytes))
 
 -- for each field its kind, the place of its first byte in the file, and its length
 unfoldable pub handed : ℕ → List Field → List ℕ

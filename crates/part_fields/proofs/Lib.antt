@@ -1,0 +1,2 @@
+-- What a walk hands out, in numbers.
+pub mod NumberLaws
