@@ -2,10 +2,11 @@
 use Prim.Native.Nat.{ℕ, zero, suc, _+_, _-_, _*_, _≤_, _<_}
 use native.Mathlib.Omega.{arith}
 use mathlib.Core.Path.{_≡_, refl, sym, ap, subst, _∙_}
-use mathlib.Core.Bool.{true, false, cond, _&&_}
+use mathlib.Core.Bool.{Bool, true, false, cond, _&&_}
+use borrow.Author.Tests.{ne-eqb}
 use mathlib.Core.List.{List, [], _∷_, _++_, append-assoc, append-nil}
 use lib.Dec.{eqb}
-use lib.ListN.{length, take, drop, take-append-drop, length-append, length-drop}
+use lib.ListN.{length, set, take, drop, take-append-drop, length-append, length-drop}
 use lib.Seq.{take-at, drop-at, drop-drop, length-take-le}
 use Rattle.rules.specs.Bytes.{Bytes, slash, just}
 use Rattle.rules.specs.Outcome.{Outcome, refused, fine, _>>=_, moved}
@@ -13,8 +14,8 @@ use Rattle.rules.specs.Grammar.{Kind, kindNumber, nextKind}
 use Rattle.rules.specs.Records.{Field}
 use Rattle.rules.specs.HandedOut.{handedLength, handed}
 use Rattle.rules.proofs.Binds.{refused-fine, from-bind, fine-same}
-use Rattle.find_next.specs.FieldTrace.{Trace, stops, ends, yields, collected}
-use Rattle.part_fields.specs.FieldNumbers.{tally, numbersOf}
+use Rattle.find_next.specs.FieldTrace.{Trace, stops, ends, yields, fieldAt, collected}
+use Rattle.part_fields.specs.FieldNumbers.{tally, numbersOf, withField}
 
 -- ---- the rules' numbers
 
@@ -44,7 +45,7 @@ handed-size start (f ∷ fs) = let z = handed-size start fs in omega arith
 
 -- ---- a slice in which the numbers of n fields stand already, and those of what is left of the walk come after them
 
-abbrev onto : ℕ → ℕ → Trace → List ℕ → List ℕ
+abbrev pub onto : ℕ → ℕ → Trace → List ℕ → List ℕ
 onto start n t out = take (3 * n) out ++ (numbersOf start t ++ drop (3 * n + length (numbersOf start t)) out)
 
 -- from the first field on
@@ -89,5 +90,38 @@ module _ (start n : ℕ) (f : Field) (t : Trace) (out : List ℕ) (k p l : ℕ) 
   onto-next =
       rw (taken, dropped (length (numbersOf start t)), ← hk, ← hp, ← hl) (sym (append-assoc front (k ∷ p ∷ l ∷ []) (numbersOf start t ++ drop (3 * n + suc (suc (suc (length (numbersOf start t))))) out)))
 
-  pub put-size : length put ≡ length out
-  put-size = length-append front (k ∷ p ∷ l ∷ back) ∙ (let z = length-take-le (3 * n) out (omega arith) in let y = length-drop (3 * n + 3) out in omega arith)
+-- the slice is as long as before
+pub with-size : (start n : ℕ) (f : Field) (out : List ℕ) → 3 * n + 3 ≤ length out → length (withField start n f out) ≡ length out
+with-size start n f out room =
+    length-append (take (3 * n) out) _ ∙ (let z = length-take-le (3 * n) out (omega arith) in let y = length-drop (3 * n + 3) out in omega arith)
+
+-- ---- three numbers one after the other
+
+pub three-set : (out : List ℕ) (at k p l : ℕ) → at + 3 ≤ length out → set (set (set out at k) (at + 1) p) (at + 2) l ≡ take at out ++ (k ∷ p ∷ l ∷ drop (at + 3) out)
+three-set [] at k p l h = absurd (omega arith)
+three-set (a ∷ []) zero k p l h = absurd (omega arith)
+three-set (a ∷ b ∷ []) zero k p l h = absurd (omega arith)
+three-set (a ∷ b ∷ c ∷ out) zero k p l h = refl
+three-set (a ∷ out) (suc at) k p l h =
+    let one : suc at + 1 ≡ suc (at + 1) = omega arith in
+    let two : suc at + 2 ≡ suc (at + 2) = omega arith in
+    let three : suc at + 3 ≡ suc (at + 3) = omega arith in
+    rw (one, two, three) (ap (λ (ns : List ℕ). a ∷ ns) (three-set out at k p l (omega arith)))
+
+-- ---- the length that is handed out
+
+pub plain-length : (kind : ℕ) (f : Bytes) → (kind ≡ 21 → ⊥) → length f ≡ cond (eqb 21 kind && just slash f) 0 (length f)
+plain-length kind f h = rw (ne-eqb 21 kind (λ q. h (sym q)))
+
+pub text-length : (kind : ℕ) (f : Bytes) (t : Bool) → kind ≡ 21 → just slash f ≡ t → cond t 0 (length f) ≡ cond (eqb 21 kind && just slash f) 0 (length f)
+text-length kind f t q e = rw (q, e)
+
+pub shown-is : (ks : List Kind) (p : ℕ) (bs : Bytes) (kind shown : ℕ) → kind ≡ kindNumber (nextKind ks) → shown ≡ cond (eqb 21 kind && just slash bs) 0 (length bs)
+    → shown ≡ handedLength (fieldAt ks p bs)
+unfolding handedLength
+shown-is ks p bs kind shown q e = e ∙ rw q
+
+-- three numbers as a field's
+pub puts-three : (start n : ℕ) (f : Field) (out after : List ℕ) (k p l : ℕ) → after ≡ take (3 * n) out ++ (k ∷ p ∷ l ∷ drop (3 * n + 3) out)
+    → k ≡ kindNumber (f .kind) → p ≡ start + f .place → l ≡ handedLength f → after ≡ withField start n f out
+puts-three start n f out after k p l e hk hp hl = e ∙ rw (hk, hp, hl)
