@@ -1,22 +1,27 @@
--- The theorems on what is handed out of an accepted file at the places of its records. Assumes nothing.
-use Prim.Native.Nat.{ℕ, _+_}
+-- The theorems on what is handed out of an accepted file: each of its records, and of each its fields. Assumes nothing.
+use Prim.Native.Nat.{ℕ, _+_, _*_, _≤_, _<_}
 use mathlib.Core.Path.{_≡_, sym, ap, subst, _∙_}
 use mathlib.Core.List.{List, [], _∷_, _++_}
 use lib.Dec.{T}
 use lib.ListN.{length, drop}
+use borrow.Author.Tests.{le-leb, lt-leb}
 use lib.Seq.{drop-length}
 use Rattle.rules.specs.Bytes.{Bytes}
-use Rattle.rules.specs.Outcome.{fine, refuse}
+use Rattle.rules.specs.Outcome.{fine, refuse, moved}
 use Rattle.rules.specs.Lines.{Code, linesOf, Record, recordsOf, recordSize, fileRecords}
+use Rattle.rules.specs.Records.{Field, walkRecord}
 use Rattle.rules.specs.Totals.{Summary}
-use Rattle.rules.specs.Verdict.{judge, coded}
-use Rattle.rules.specs.Parts.{heads, sizeOfAll}
-use Rattle.rules.specs.HandedOut.{firstCoded, recordAt}
+use Rattle.rules.specs.Verdict.{start, run, judge, coded}
+use Rattle.rules.specs.Parts.{heads, sizeOfAll, fieldsIn}
+use Rattle.rules.specs.HandedOut.{firstCoded, recordAt, fieldsAt, fieldsOut}
+use Rattle.rules.proofs.Accepted.{accepted}
 use Rattle.laws.specs.LawWords.{All, Of}
 use Rattle.laws.proofs.Lists.{all-right}
 use Rattle.laws.proofs.Codes.{code-of}
 use Rattle.laws.proofs.Shape.{is-file, file-codes}
-use Rattle.laws_handing.specs.HandingWords.{RecordMet}
+use Rattle.laws.proofs.RecordsTaken.{taken}
+use Rattle.laws.proofs.RunsOfRecords.{run-two, run-cons}
+use Rattle.laws_handing.specs.HandingWords.{RecordMet, FieldsMet}
 use Rattle.laws_handing.proofs.RecordPlaces.{size-next, size-file, cut-from}
 
 first-met : (p : ℕ) (c : Code) (r : Record) (qs : List Record) → T (heads c r) → firstCoded p (r ∷ qs) ≡ fine (record { code = c; lines = r })
@@ -47,3 +52,46 @@ next-place before r = size-next before r
 pub records-end : (file : Bytes) → (sizeOfAll (fileRecords file) ≡ length file) × (recordAt file (length file) ≡ refuse 17 0)
 unfolding recordAt firstCoded fileRecords linesOf recordsOf
 records-end file = (size-file file, rw (drop-length file))
+
+-- ---- fields
+
+-- the reader took each record of an accepted file
+walked-in : (file : Bytes) (s : Summary) → judge file ≡ fine s → (before : List Record) (r : Record) (after : List Record)
+    → fileRecords file ≡ before ++ (r ∷ after) → (c : Code) → T (heads c r) → walkRecord c r ≡ fine (fieldsIn c r)
+walked-in file s h before r after e c is-c =
+    let a = accepted file s h in
+    let (t, first, rest) = run-two 0 start (a .last) before (r ∷ after) (subst (λ (rs : List Record). run 0 start rs ≡ fine (a .last)) e (a .runs)) in
+    let (u, steps, others) = run-cons 0 t (a .last) r after rest in
+    taken c t r u is-c steps .walked
+
+fields-of : (file : Bytes) (p : ℕ) (c : Code) (r : Record) (fs : List Field) → recordAt file p ≡ fine (record { code = c; lines = r }) → walkRecord c r ≡ fine fs
+    → fieldsAt file p ≡ fine fs
+unfolding fieldsAt moved
+fields-of file p c r fs m w = rw m (rw w)
+
+module _ (file : Bytes) (p : ℕ) (fs : List Field) (m : fieldsAt file p ≡ fine fs) (room : ℕ) where
+  out-fits : 3 * length fs ≤ room → fieldsOut file p room ≡ fine fs
+  unfolding fieldsOut
+  out-fits h = rw m (rw (le-leb (3 * length fs) room h))
+
+  out-refused : room < 3 * length fs → fieldsOut file p room ≡ refuse 15 0
+  unfolding fieldsOut
+  out-refused h = rw m (rw (lt-leb (3 * length fs) room h))
+
+-- of each record of an accepted file the fields handed out are those that the reader took, and none is refused, but by 15 where the slice is too short
+pub fields-met : (file : Bytes) (s : Summary) → judge file ≡ fine s → (before : List Record) (r : Record) (after : List Record)
+    → fileRecords file ≡ before ++ (r ∷ after) → FieldsMet file (sizeOfAll before) r
+fields-met file s h before r after e =
+    let x = records-met file s h before r after e in
+    let fs = fieldsIn (x .code) r in
+    let w = walked-in file s h before r after e (x .code) (x .is-code) in
+    let m = fields-of file (sizeOfAll before) (x .code) r fs (x .met) w in
+    record {
+      code = x .code;
+      is-code = x .is-code;
+      fields = fs;
+      taken = w;
+      met = m;
+      with-room = out-fits file (sizeOfAll before) fs m;
+      without-room = out-refused file (sizeOfAll before) fs m;
+    }
