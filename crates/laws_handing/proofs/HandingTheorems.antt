@@ -1,27 +1,30 @@
 -- The theorems on what is handed out of an accepted file: each of its records, and of each its fields. Assumes nothing.
 use Prim.Native.Nat.{ℕ, _+_, _*_, _≤_, _<_}
 use mathlib.Core.Path.{_≡_, sym, ap, subst, _∙_}
-use mathlib.Core.List.{List, [], _∷_, _++_}
+use mathlib.Core.List.{List, [], _∷_, _++_, append-assoc}
 use lib.Dec.{T}
 use lib.ListN.{length, drop}
 use borrow.Author.Tests.{le-leb, lt-leb}
 use lib.Seq.{drop-length}
 use Rattle.rules.specs.Bytes.{Bytes}
-use Rattle.rules.specs.Outcome.{fine, refuse, moved}
-use Rattle.rules.specs.Lines.{Code, linesOf, Record, recordsOf, recordSize, fileRecords}
-use Rattle.rules.specs.Records.{Field, walkRecord}
+use Rattle.rules.specs.Outcome.{Outcome, fine, refuse, orElse, moved}
+use Rattle.rules.specs.Lines.{Code, groupHeader, linesOf, Record, recordsOf, recordSize, fileRecords}
+use Rattle.rules.specs.Grammar.{ultimateReceiver}
+use Rattle.rules.specs.Records.{Field, the, walkRecord}
 use Rattle.rules.specs.Totals.{Summary}
 use Rattle.rules.specs.Verdict.{start, run, judge, coded}
-use Rattle.rules.specs.Parts.{heads, sizeOfAll, fieldsIn}
+use Rattle.rules.specs.Parts.{heads, headerIn, groupsIn, sizeOfAll, fieldsIn, firstFields, receiverOf}
+use Rattle.rules.specs.Combine.{concat}
 use Rattle.rules.specs.HandedOut.{firstCoded, recordAt, fieldsAt, fieldsOut}
 use Rattle.rules.proofs.Accepted.{accepted}
-use Rattle.laws.specs.LawWords.{All, Of}
-use Rattle.laws.proofs.Lists.{all-right}
-use Rattle.laws.proofs.Codes.{code-of}
+use Rattle.laws.specs.LawWords.{All, IsGroup, Of}
+use Rattle.laws.proofs.Lists.{all-right, concat-append}
+use Rattle.laws.proofs.Codes.{code-of, one-code}
 use Rattle.laws.proofs.Shape.{is-file, file-codes}
 use Rattle.laws.proofs.RecordsTaken.{taken}
 use Rattle.laws.proofs.RunsOfRecords.{run-two, run-cons}
-use Rattle.laws_handing.specs.HandingWords.{RecordMet, FieldsMet}
+use Rattle.laws.proofs.Groups.{decomposed}
+use Rattle.laws_handing.specs.HandingWords.{RecordMet, FieldsMet, ReceiverMet}
 use Rattle.laws_handing.proofs.RecordPlaces.{size-next, size-file, cut-from}
 
 first-met : (p : ℕ) (c : Code) (r : Record) (qs : List Record) → T (heads c r) → firstCoded p (r ∷ qs) ≡ fine (record { code = c; lines = r })
@@ -95,3 +98,34 @@ fields-met file s h before r after e =
       with-room = out-fits file (sizeOfAll before) fs m;
       without-room = out-refused file (sizeOfAll before) fs m;
     }
+
+-- ---- a group's receiver
+
+receiver-of : (h : Record) (rs : List Record) (c : Code) (fs : List Field) → c ≡ groupHeader → walkRecord c h ≡ fine fs
+    → the ultimateReceiver fs .bytes ≡ receiverOf (h ∷ rs)
+unfolding receiverOf firstFields fieldsIn
+receiver-of h rs c fs is-02 w =
+    ap (λ (o : Outcome (List Field)). the ultimateReceiver (orElse o []) .bytes) (sym w ∙ ap (λ (d : Code). walkRecord d h) is-02)
+
+-- where a group's first record stands
+group-starts : (file : Bytes) (s : Summary) → judge file ≡ fine s → (gs : List (List Record)) (h : Record) (rs : List Record) (hs : List (List Record))
+    → groupsIn file ≡ gs ++ ((h ∷ rs) ∷ hs) → (after : List Record) × (fileRecords file ≡ (headerIn file ++ concat gs) ++ (h ∷ after))
+unfolding concat
+group-starts file s j gs h rs hs e =
+    let d = decomposed file s j in
+    (rs ++ (concat hs ++ (d .trailer ∷ [])), d .records ∙ rw (e, concat-append gs ((h ∷ rs) ∷ hs)) (simp append-assoc))
+
+receiver-met : (file : Bytes) (s : Summary) → judge file ≡ fine s → (gs : List (List Record)) (h : Record) (rs : List Record) (hs : List (List Record))
+    → groupsIn file ≡ gs ++ ((h ∷ rs) ∷ hs) → T (heads groupHeader h) → ReceiverMet file (sizeOfAll (headerIn file ++ concat gs)) (h ∷ rs)
+receiver-met file s j gs h rs hs e is-02 =
+    let (after, starts) = group-starts file s j gs h rs hs e in
+    let x = fields-met file s j (headerIn file ++ concat gs) h after starts in
+    record { fields = x .fields; met = x .met; same = receiver-of h rs (x .code) (x .fields) (one-code (x .code) groupHeader h (x .is-code) is-02) (x .taken) }
+
+-- the receiver that is handed out at a group's place, after the header and the groups before it, is the one that split compares
+pub receiver-handed : (file : Bytes) (s : Summary) → judge file ≡ fine s → (before : List (List Record)) (g : List Record) (after : List (List Record))
+    → groupsIn file ≡ before ++ (g ∷ after) → ReceiverMet file (sizeOfAll (headerIn file ++ concat before)) g
+receiver-handed file s j before g after e =
+    let i = all-right IsGroup before (g ∷ after) (subst (All IsGroup) e (is-file file s j .groups)) .0 .enclosed in
+    subst (ReceiverMet file (sizeOfAll (headerIn file ++ concat before))) (sym (i .whole))
+    (receiver-met file s j before (i .header) _ after (e ∙ ap (λ (x : List Record). before ++ (x ∷ after)) (i .whole)) (i .is-header))

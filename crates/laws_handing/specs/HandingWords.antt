@@ -7,8 +7,9 @@ use lib.ListN.{length}
 use Rattle.rules.specs.Bytes.{Bytes}
 use Rattle.rules.specs.Outcome.{fine, refuse}
 use Rattle.rules.specs.Lines.{Code, Record}
-use Rattle.rules.specs.Records.{Field, walkRecord}
-use Rattle.rules.specs.Parts.{heads}
+use Rattle.rules.specs.Grammar.{ultimateReceiver}
+use Rattle.rules.specs.Records.{Field, the, walkRecord}
+use Rattle.rules.specs.Parts.{heads, receiverOf}
 use Rattle.rules.specs.HandedOut.{recordAt, fieldsAt, fieldsOut}
 
 -- at place p the record r is met, with the code that its first line begins with
@@ -26,3 +27,9 @@ pub record FieldsMet (file : Bytes) (p : ℕ) (r : Record) : Type 0 where
   pub met : fieldsAt file p ≡ fine fields
   pub with-room : (room : ℕ) → 3 * length fields ≤ room → fieldsOut file p room ≡ fine fields
   pub without-room : (room : ℕ) → room < 3 * length fields → fieldsOut file p room ≡ refuse 15 0
+
+-- at place p the fields of a group's 02 are met, and the receiver among them is the one that split compares
+pub record ReceiverMet (file : Bytes) (p : ℕ) (g : List Record) : Type 0 where
+  pub fields : List Field
+  pub met : fieldsAt file p ≡ fine fields
+  pub same : the ultimateReceiver fields .bytes ≡ receiverOf g
