@@ -1,6 +1,6 @@
 -- The theorems on what is handed out of an accepted file: each of its records, and of each its fields. Assumes nothing.
-use Prim.Native.Nat.{ℕ, _+_, _*_, _≤_, _<_}
-use mathlib.Core.Path.{_≡_, sym, ap, subst, _∙_}
+use Prim.Native.Nat.{ℕ, suc, _+_, _*_, _≤_, _<_}
+use mathlib.Core.Path.{_≡_, refl, sym, ap, subst, _∙_}
 use mathlib.Core.List.{List, [], _∷_, _++_, append-assoc}
 use lib.Dec.{T}
 use lib.ListN.{length, drop}
@@ -11,11 +11,12 @@ use Rattle.rules.specs.Outcome.{Outcome, fine, refuse, orElse, moved}
 use Rattle.rules.specs.Lines.{Code, groupHeader, linesOf, Record, recordsOf, recordSize, fileRecords}
 use Rattle.rules.specs.Grammar.{ultimateReceiver}
 use Rattle.rules.specs.Records.{Field, the, walkRecord}
-use Rattle.rules.specs.Totals.{Summary}
+use Rattle.rules.specs.Totals.{Summary, _⊞_, amountOf, sumOf, adding, ofRecord}
+use Rattle.rules.specs.Numbers.{Sum, _⊕_}
 use Rattle.rules.specs.Verdict.{start, run, judge, coded}
 use Rattle.rules.specs.Parts.{heads, headerIn, groupsIn, sizeOfAll, fieldsIn, firstFields, receiverOf}
-use Rattle.rules.specs.Combine.{concat}
-use Rattle.rules.specs.HandedOut.{firstCoded, recordAt, fieldsAt, fieldsOut}
+use Rattle.rules.specs.Combine.{summaryOf, summaryOfAll, concat}
+use Rattle.rules.specs.HandedOut.{firstCoded, recordAt, recordAnswer, fieldsAt, fieldsOut}
 use Rattle.rules.proofs.Accepted.{accepted}
 use Rattle.laws.specs.LawWords.{All, IsGroup, Of}
 use Rattle.laws.proofs.Lists.{all-right, concat-append}
@@ -23,8 +24,9 @@ use Rattle.laws.proofs.Codes.{code-of, one-code}
 use Rattle.laws.proofs.Shape.{is-file, file-codes}
 use Rattle.laws.proofs.RecordsTaken.{taken}
 use Rattle.laws.proofs.RunsOfRecords.{run-two, run-cons}
-use Rattle.laws.proofs.Groups.{decomposed}
-use Rattle.laws_handing.specs.HandingWords.{RecordMet, FieldsMet, ReceiverMet}
+use Rattle.laws.proofs.Groups.{decomposed, summary-is}
+use Rattle.laws.proofs.SummarySums.{summary-as}
+use Rattle.laws_handing.specs.HandingWords.{RecordMet, FieldsMet, ReceiverMet, amountHanded, amountsHanded, amountsFrom}
 use Rattle.laws_handing.proofs.RecordPlaces.{size-next, size-file, cut-from}
 
 first-met : (p : ℕ) (c : Code) (r : Record) (qs : List Record) → T (heads c r) → firstCoded p (r ∷ qs) ≡ fine (record { code = c; lines = r })
@@ -129,3 +131,37 @@ receiver-handed file s j before g after e =
     let i = all-right IsGroup before (g ∷ after) (subst (All IsGroup) e (is-file file s j .groups)) .0 .enclosed in
     subst (ReceiverMet file (sizeOfAll (headerIn file ++ concat before))) (sym (i .whole))
     (receiver-met file s j before (i .header) _ after (e ∙ ap (λ (x : List Record). before ++ (x ∷ after)) (i .whole)) (i .is-header))
+
+-- ---- amounts
+
+-- of fields the amounts are those that the reader adds
+same-amounts : (fs : List Field) → amountsHanded fs ≡ sumOf fs
+unfolding amountsHanded amountHanded sumOf amountOf
+same-amounts [] = refl
+same-amounts (f ∷ fs) = ap (λ (a : Sum). amountOf f ⊕ a) (same-amounts fs)
+
+record-amounts : (c : Code) (r : Record) (fs : List Field) → T (heads c r) → walkRecord c r ≡ fine fs → amountsHanded fs ≡ summaryOf r .sum
+unfolding ofRecord adding fieldsIn
+record-amounts c r fs h w =
+    same-amounts fs
+    ∙ ap (λ (o : Outcome (List Field)). sumOf (orElse o [])) (sym w)
+    ∙ ap (λ (x : Summary). x .sum) (sym (summary-as c r h))
+
+amounts-step : (file : Bytes) (p n : ℕ) (r : Record) (q : ℕ) (rest : Sum) → FieldsMet file p r → RecordMet file p r → p + recordSize r ≡ q
+    → amountsFrom file q n ≡ rest → amountsFrom file p (suc n) ≡ summaryOf r .sum ⊕ rest
+unfolding amountsFrom recordAnswer
+amounts-step file p n r q rest x y e ih = rw (x .met, y .met, e, ih, record-amounts (x .code) r (x .fields) (x .is-code) (x .taken))
+
+amounts-of : (file : Bytes) (s : Summary) → judge file ≡ fine s → (before rs : List Record) → fileRecords file ≡ before ++ rs
+    → amountsFrom file (sizeOfAll before) (length rs) ≡ summaryOfAll rs .sum
+unfolding amountsFrom summaryOfAll _⊞_
+amounts-of file s h before [] e = refl
+amounts-of file s h before (r ∷ rs) e =
+    amounts-step file (sizeOfAll before) (length rs) r (sizeOfAll (before ++ (r ∷ []))) (summaryOfAll rs .sum) (fields-met file s h before r rs e)
+    (records-met file s h before r rs e) (sym (size-next before r))
+    (amounts-of file s h (before ++ (r ∷ [])) rs (e ∙ sym (append-assoc before (r ∷ []) rs)))
+
+-- the amounts handed out, record by record from place 0 on, add up to the file's total
+pub amounts-add-up : (file : Bytes) (s : Summary) → judge file ≡ fine s → amountsFrom file 0 (length (fileRecords file)) ≡ s .sum
+unfolding sizeOfAll
+amounts-add-up file s h = amounts-of file s h [] (fileRecords file) refl ∙ ap (λ (x : Summary). x .sum) (sym (summary-is file s h))

@@ -1,16 +1,20 @@
--- What is met at the places of a file: a record with its code, and the fields that the reader took. Assumes nothing.
-use Prim.Native.Nat.{ℕ, _*_, _≤_, _<_}
+-- What is met at the places of a file: a record with its code, the fields that the reader took, and the amounts among them. Assumes nothing.
+use Prim.Native.Nat.{ℕ, zero, suc, _+_, _*_, _≤_, _<_}
 use mathlib.Core.Path.{_≡_}
-use mathlib.Core.List.{List}
-use lib.Dec.{T}
+use mathlib.Core.Bool.{cond, _||_}
+use mathlib.Core.List.{List, [], _∷_}
+use lib.Dec.{T, eqb}
 use lib.ListN.{length}
 use Rattle.rules.specs.Bytes.{Bytes}
-use Rattle.rules.specs.Outcome.{fine, refuse}
+use Rattle.rules.specs.Numbers.{Sum, zeroSum, _⊕_, asSum, signed}
+use Rattle.rules.specs.Outcome.{fine, refuse, orElse}
 use Rattle.rules.specs.Lines.{Code, Record}
-use Rattle.rules.specs.Grammar.{ultimateReceiver}
+use Rattle.rules.specs.Grammar.{ultimateReceiver, kindNumber}
 use Rattle.rules.specs.Records.{Field, the, walkRecord}
 use Rattle.rules.specs.Parts.{heads, receiverOf}
-use Rattle.rules.specs.HandedOut.{recordAt, fieldsAt, fieldsOut}
+use Rattle.rules.specs.HandedOut.{recordAt, recordAnswer, fieldsAt, fieldsOut}
+
+-- ---- records and fields
 
 -- at place p the record r is met, with the code that its first line begins with
 pub record RecordMet (file : Bytes) (p : ℕ) (r : Record) : Type 0 where
@@ -33,3 +37,18 @@ pub record ReceiverMet (file : Bytes) (p : ℕ) (g : List Record) : Type 0 where
   pub fields : List Field
   pub met : fieldsAt file p ≡ fine fields
   pub same : the ultimateReceiver fields .bytes ≡ receiverOf g
+
+-- ---- amounts
+
+-- a field's amount, with its sign, by the number of its kind: 16 is a status amount, 17 an amount; others, funds amounts too, have none
+unfoldable pub amountHanded : Field → Sum
+amountHanded f = cond (eqb (kindNumber (f .kind)) 17 || eqb (kindNumber (f .kind)) 16) (asSum (signed (f .bytes))) zeroSum
+
+unfoldable pub amountsHanded : List Field → Sum
+amountsHanded [] = zeroSum
+amountsHanded (f ∷ fs) = amountHanded f ⊕ amountsHanded fs
+
+-- the amounts of so many records, the first of which begins at place p, and each next one the length further that is answered
+unfoldable pub amountsFrom : Bytes → ℕ → ℕ → Sum
+amountsFrom file p zero = zeroSum
+amountsFrom file p (suc n) = amountsHanded (orElse (fieldsAt file p) []) ⊕ amountsFrom file (p + recordAnswer (recordAt file p) .len) n
