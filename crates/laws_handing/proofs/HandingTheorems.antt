@@ -29,12 +29,12 @@ use Rattle.laws.proofs.SummarySums.{summary-as}
 use Rattle.laws_handing.specs.HandingWords.{RecordMet, FieldsMet, ReceiverMet, amountHanded, amountsHanded, amountsFrom}
 use Rattle.laws_handing.proofs.RecordPlaces.{size-next, size-file, cut-from}
 
+-- ---- records
+
 first-met : (p : ℕ) (c : Code) (r : Record) (qs : List Record) → T (heads c r) → firstCoded p (r ∷ qs) ≡ fine (record { code = c; lines = r })
 unfolding firstCoded coded
 first-met p c [] qs h = absurd h
 first-met p c (l ∷ ls) qs h = rw (code-of c l h)
-
--- ---- records
 
 -- in an accepted file each record is met at its place, none refused: the place is the sum of the lengths of the records before it
 pub records-met : (file : Bytes) (s : Summary) → judge file ≡ fine s → (before : List Record) (r : Record) (after : List Record)
