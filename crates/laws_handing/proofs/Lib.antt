@@ -1,0 +1,3 @@
+-- From the places of records to the theorems, in this order.
+pub mod RecordPlaces
+pub mod HandingTheorems
