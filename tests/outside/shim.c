@@ -68,6 +68,19 @@ STAND_IN bai2_detail bai2_detail_of(const uint8_t *file, size_t file_length,
     return d;
 }
 
+/* As the oracle. */
+STAND_IN bai2_record bai2_record_at(const uint8_t *file, size_t file_length, uint64_t start)
+{
+    return oracle_record_at(file, file_length, start);
+}
+
+/* As the oracle. */
+STAND_IN bai2_fields bai2_fields_at(const uint8_t *file, size_t file_length, uint64_t start,
+                           uint64_t *out, size_t out_length)
+{
+    return oracle_fields_at(file, file_length, start, out, out_length);
+}
+
 /* As the oracle, with a bug where one is planted. */
 STAND_IN bai2_answer bai2_split(const uint8_t *name, size_t name_length,
                        const uint8_t *file, size_t file_length,
