@@ -1,8 +1,10 @@
 /* The commands that look into one file: show and screen. */
 #include "commands.h"
+#include "export.h"
 #include "input.h"
 #include "message.h"
 #include "outline.h"
+#include "output.h"
 #include "pager.h"
 #include "refusal.h"
 #include "screen.h"
@@ -19,7 +21,18 @@ static bool outline_of(outline *o, const input *in, bai2_summary s)
     return false;
 }
 
-/* bai2 show FILE: the report, or the refusal in words. */
+/* Writes an accepted file's lines for programs; how the command ends. */
+static int export_file(const input *in, output_format format, bai2_summary s)
+{
+    bool whole = put_export(stdout, format == AS_JSON ? JSON_LINES : CSV, in->file, s);
+    bool written = flush_standard_output();
+    if (!whole)
+        complain("%s: the library hands out other records than it has counted, so the output is not "
+                 "whole; this is a fault of the program, please report it with the file", in->name);
+    return whole && written ? GOOD : TROUBLE;
+}
+
+/* bai2 show FILE: the report or its lines for programs, or the refusal in words. */
 int show_command(const arguments *a)
 {
     input in;
@@ -31,6 +44,8 @@ int show_command(const arguments *a)
     if (s.number != 0) {
         tell_refusal(stderr, in.name, in.file, s.number, s.place);
         status = REFUSED;
+    } else if (a->format != REPORT) {
+        status = export_file(&in, a->format, s);
     } else if (outline_of(&o, &in, s)) {
         status = put_report_paged(&o) ? GOOD : TROUBLE;
         drop_outline(&o);

@@ -5,6 +5,7 @@
 #include <string.h>
 
 #include "bai2.h"
+#include "export.h"
 #include "mend.h"
 #include "outline.h"
 #include "record.h"
@@ -88,13 +89,14 @@ static void try_combine(slice file, bai2_summary s)
     free(out);
 }
 
-/* An accepted file: its outline is the library's, it can be shown, split and combined. */
+/* An accepted file: its outline is the library's, it can be shown, exported, split and combined. */
 static void try_accepted(slice file, bai2_summary s, FILE *to)
 {
     outline o;
     tree_screen screen;
     must_hold(make_outline(&o, file, s, UINT64_MAX));
     put_report(to, &o);
+    must_hold(put_export(to, JSON_LINES, file, s) && put_export(to, CSV, file, s));
     view v = open_tree_view(&screen, "file", &o);
     press_and_draw(&v, to, file.length);
     close_tree_view(&screen);
