@@ -4,6 +4,7 @@
 #include <stdlib.h>
 #include <string.h>
 
+#include "agree.h"
 #include "bai2.h"
 #include "mend.h"
 #include "outline.h"
@@ -88,19 +89,31 @@ static void try_combine(slice file, bai2_summary s)
     free(out);
 }
 
-/* An accepted file: its outline is the library's, it can be shown, split and combined. */
+/* Splits the file for the receiver of each of its groups. */
+static void try_splits(const outline *o)
+{
+    fields f = {.file = o->file};
+    for (size_t i = 0; i < o->count; i++) {
+        if (o->records[i].code != GROUP_HEADER)
+            continue;
+        read_fields(&f, o->records[i].start);
+        try_split(o->file, group_header_of(&f).receiver, o->summary.groups);
+    }
+    drop_fields(&f);
+}
+
+/* An accepted file: all calls agree on it, it can be shown, split and combined. */
 static void try_accepted(slice file, bai2_summary s, FILE *to)
 {
     outline o;
     tree_screen screen;
-    must_hold(make_outline(&o, file, s, UINT64_MAX));
+    make_outline(&o, file, s);
+    must_hold(calls_agree(&o));
     put_report(to, &o);
     view v = open_tree_view(&screen, "file", &o);
     press_and_draw(&v, to, file.length);
     close_tree_view(&screen);
-    for (size_t i = 0; i < o.count; i++)
-        if (o.records[i].code == GROUP_HEADER)
-            try_split(file, read_group_header(bytes_of(&o, i)).receiver, s.groups);
+    try_splits(&o);
     try_combine(file, s);
     drop_outline(&o);
 }
@@ -118,6 +131,7 @@ static FILE *nowhere(void)
 /* Tries everything on one file. */
 static void try_file(slice file)
 {
+    must_hold(records_hold(file));
     bai2_summary s = bai2_read(file.bytes, file.length);
     if (s.number != 0)
         try_refused(file, s, nowhere());
