@@ -15,6 +15,9 @@ enum {
     CARET_CELLS = 4  /* of the refused byte where it is escaped */
 };
 
+/* A format: goes to the row, from 1, and wipes it first, since after its last cell that would wipe the cell. */
+#define EMPTY_ROW GO_TO_ROW PLAIN_LOOK WIPE_REST_OF_ROW
+
 /* How many rows are left for the file's lines. */
 static size_t body_rows(const canvas *c)
 {
@@ -89,7 +92,6 @@ static void draw_line_bytes(const refusal_screen *s, const canvas *c, line l)
         put_byte(c->to, s->file.bytes[i]);
         fputs(refused ? PLAIN_LOOK : "", c->to);
     }
-    fputs(WIPE_REST_OF_ROW, c->to);
 }
 
 /* Draws the caret under the refused byte, where the byte is on the canvas. */
@@ -99,8 +101,7 @@ static void draw_caret(const refusal_screen *s, const canvas *c, size_t row, lin
     for (size_t i = from; i < s->place && i < l.end; i++)
         cells += cells_of(s->file.bytes[i]);
     bool seen = s->place >= from && cells < body_columns(c);
-    fprintf(c->to, GO_TO_ROW PLAIN_LOOK "%7s | %*s%s" WIPE_REST_OF_ROW, row + 1, "",
-            seen ? (int)cells : 0, "", seen ? "^" : "");
+    fprintf(c->to, EMPTY_ROW "%7s | %*s%s", row + 1, "", seen ? (int)cells : 0, "", seen ? "^" : "");
 }
 
 /* Draws the file's lines from the first one on the canvas on. */
@@ -110,11 +111,9 @@ static void draw_lines(const refusal_screen *s, const canvas *c)
     bool awaited = stands_in_file(s->number); /* whether the refused line is still to come */
     size_t refused = line_of(s->file, s->place).start;
     for (size_t row = 1; row <= body_rows(c); row++) {
-        fprintf(c->to, GO_TO_ROW PLAIN_LOOK, row + 1);
-        if (at == s->file.length && !(awaited && at == refused)) {
-            fputs(WIPE_REST_OF_ROW, c->to);
+        fprintf(c->to, EMPTY_ROW, row + 1);
+        if (at == s->file.length && !(awaited && at == refused))
             continue;
-        }
         line l = line_at(s->file, at);
         fprintf(c->to, "%7zu | ", number++);
         draw_line_bytes(s, c, l);
