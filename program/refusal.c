@@ -128,6 +128,13 @@ void tell_refusal_without_place(FILE *to, const char *name, uint64_t number)
     put_meaning(to, number);
 }
 
+/* Writes which byte of the file is refused, and what stands there where that is known. */
+static void put_place(FILE *to, slice file, uint64_t number, size_t place)
+{
+    const char *what = place == file.length ? "the file ends here" : refused_field(file, number, place);
+    fprintf(to, "\n  Byte %zu of the file, counted from 0%s%s.\n", place, *what == '\0' ? "" : ": ", what);
+}
+
 /* Tells a refusal in full: number, line and column, the line with its caret, and the meaning. */
 void tell_refusal(FILE *to, const char *name, slice file, uint64_t number, uint64_t place)
 {
@@ -142,7 +149,6 @@ void tell_refusal(FILE *to, const char *name, slice file, uint64_t number, uint6
     fputc('\n', to);
     put_context(to, file, number, at);
     put_line_and_caret(to, file, at);
-    fprintf(to, "\n  Byte %zu of the file, counted from 0%s.\n", at,
-            at == file.length ? ": the file ends here" : "");
+    put_place(to, file, number, at);
     put_meaning(to, number);
 }

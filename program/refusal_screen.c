@@ -5,6 +5,7 @@
 
 #include "escapes.h"
 #include "refusal.h"
+#include "refused_record.h"
 #include "screen.h"
 
 enum {
@@ -12,10 +13,12 @@ enum {
     SIDE_STEP = 16,  /* how far left and right move */
     MEANING_ROWS = 7,
     LEAST_ROWS = 14, /* a lower canvas shows no meaning */
-    CARET_CELLS = 4  /* of the refused byte where it is escaped */
+    CARET_CELLS = 4, /* of the refused byte where it is escaped */
+    WORDS_ROOM = 64
 };
 
-/* A format: goes to the row, from 1, and wipes it first, since after its last cell that would wipe the cell. */
+/* A format: goes to the row, from 1, and wipes it. Not after it is drawn: a cursor that has passed the
+   last cell still stands on it. */
 #define EMPTY_ROW GO_TO_ROW PLAIN_LOOK WIPE_REST_OF_ROW
 
 /* How many rows are left for the file's lines. */
@@ -94,14 +97,18 @@ static void draw_line_bytes(const refusal_screen *s, const canvas *c, line l)
     }
 }
 
-/* Draws the caret under the refused byte, where the byte is on the canvas. */
+/* Draws the caret under the refused byte, where the byte is on the canvas, and the field in words as
+   far as the row reaches. */
 static void draw_caret(const refusal_screen *s, const canvas *c, size_t row, line l)
 {
     size_t cells = 0, from = l.start + s->left;
     for (size_t i = from; i < s->place && i < l.end; i++)
         cells += cells_of(s->file.bytes[i]);
     bool seen = s->place >= from && cells < body_columns(c);
-    fprintf(c->to, EMPTY_ROW "%7s | %*s%s", row + 1, "", seen ? (int)cells : 0, "", seen ? "^" : "");
+    char words[WORDS_ROOM];
+    snprintf(words, sizeof words, "^%s%s", *s->field == '\0' ? "" : " ", s->field);
+    fprintf(c->to, EMPTY_ROW "%7s | %*s%.*s", row + 1, "",
+            seen ? (int)cells : 0, "", seen ? (int)(body_columns(c) - cells) : 0, words);
 }
 
 /* Draws the file's lines from the first one on the canvas on. */
@@ -215,7 +222,8 @@ static bool find_in_lines(void *state, slice needle)
 /* The view of a refused file. */
 view open_refusal_view(refusal_screen *s, const char *name, slice file, uint64_t number, uint64_t place)
 {
-    *s = (refusal_screen){.name = name, .file = file, .number = number, .place = (size_t)place};
+    *s = (refusal_screen){.name = name, .file = file, .number = number, .place = (size_t)place,
+                          .field = refused_field(file, number, (size_t)place)};
     return (view){s, "Arrows, j k: move  Enter: to the byte  /: search  n: next  g G: ends  q: leave",
                   draw_refusal, press_refusal, find_in_lines};
 }

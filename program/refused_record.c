@@ -1,8 +1,8 @@
-/* The record that a refusal stands in, as the library hands it out. */
+/* What a refusal's place is in the file: its record and its field, as the library hands them out. */
 #include "refused_record.h"
 
-#include "bai2.h"
 #include "codes.h"
+#include "fields.h"
 
 /* A record on the way from the file's start: its code, where it starts, and where the last account
    and the last group up to it start. */
@@ -38,4 +38,55 @@ size_t opening_of(slice file, size_t place)
     if (!find_record(file, place, &p))
         return place;
     return p.code == ACCOUNT_TRAILER ? p.account : p.code == GROUP_TRAILER ? p.group : place;
+}
+
+/* The words for a field of this kind in a record of this code; none where sums and counts don't
+   depend on it. */
+static const char *words_for(record_code code, uint64_t kind)
+{
+    static const struct {
+        record_code code;
+        uint64_t kind;
+        const char *words;
+    } known[] = {
+        {ACCOUNT_HEADER, BAI2_FIELD_STATUS_AMOUNT, "the amount of a status"},
+        {ACCOUNT_HEADER, BAI2_FIELD_AMOUNT, "the amount of a summary"},
+        {DETAIL, BAI2_FIELD_AMOUNT, "the detail's amount"},
+        {ACCOUNT_TRAILER, BAI2_FIELD_TOTAL, "the account's control total"},
+        {ACCOUNT_TRAILER, BAI2_FIELD_RECORDS, "the account's number of records"},
+        {GROUP_TRAILER, BAI2_FIELD_TOTAL, "the group's control total"},
+        {GROUP_TRAILER, BAI2_FIELD_COUNT, "the group's number of accounts"},
+        {GROUP_TRAILER, BAI2_FIELD_RECORDS, "the group's number of records"},
+        {FILE_TRAILER, BAI2_FIELD_TOTAL, "the file's control total"},
+        {FILE_TRAILER, BAI2_FIELD_COUNT, "the file's number of groups"},
+        {FILE_TRAILER, BAI2_FIELD_RECORDS, "the file's number of records"},
+    };
+    for (size_t i = 0; i < sizeof known / sizeof known[0]; i++)
+        if (known[i].code == code && known[i].kind == kind)
+            return known[i].words;
+    return "";
+}
+
+/* The kind of the field that starts at this byte, in the record that starts there; 0 where there is
+   none. */
+static uint64_t kind_of(slice file, size_t record, size_t place)
+{
+    fields f = {.file = file};
+    size_t i = 0;
+    read_fields(&f, record);
+    while (i < f.count && place_at(&f, i) != place)
+        i++;
+    uint64_t kind = kind_at(&f, i);
+    drop_fields(&f);
+    return kind;
+}
+
+/* The field in words that a refusal of this number and place blames: an amount, a total or a count.
+   Nothing for other refusals, whose place is no such field. */
+const char *refused_field(slice file, uint64_t number, size_t place)
+{
+    passed_record p;
+    if (number < BAI2_AMOUNTS_TOO_LARGE || number > BAI2_SUM_TOO_LARGE || !find_record(file, place, &p))
+        return "";
+    return words_for(p.code, kind_of(file, p.start, place));
 }

@@ -10,6 +10,7 @@
 #include "outline.h"
 #include "record.h"
 #include "refusal.h"
+#include "refused_record.h"
 #include "screen.h"
 #include "show.h"
 #include "write.h"
@@ -42,7 +43,8 @@ static void press_and_draw(const view *v, FILE *to, size_t which)
     v->draw(v->state, &c);
 }
 
-/* A refused file: every call says so alike, and the refusal can be told and shown. */
+/* A refused file: every call says so alike, and the refusal can be told and shown, with its field where
+   it is one of sums and counts. */
 static void try_refused(slice file, bai2_summary s, FILE *to)
 {
     must_hold(s.place <= file.length && s.total == 0 && s.records == 0);
@@ -50,6 +52,8 @@ static void try_refused(slice file, bai2_summary s, FILE *to)
     must_hold(part.number == s.number && part.place == s.place && part.length == 0);
     bai2_detail d = bai2_detail_of(file.bytes, file.length, 0, 0, 0);
     must_hold(d.number == s.number && d.place == s.place && d.text_length == 0);
+    bool of_sums = s.number >= BAI2_AMOUNTS_TOO_LARGE && s.number <= BAI2_SUM_TOO_LARGE;
+    must_hold(of_sums == (*refused_field(file, s.number, (size_t)s.place) != '\0'));
     tell_refusal(to, "file", file, s.number, s.place);
     refusal_screen screen;
     view v = open_refusal_view(&screen, "file", file, s.number, s.place);
