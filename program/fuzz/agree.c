@@ -4,24 +4,28 @@
 
 #include "record.h"
 
-/* Whether the fields want the room of three numbers each. */
-static bool want_their_room(const fields *f)
+/* Whether the fields are refused where they have less room than three numbers each; or, where there are
+   none, at a place of their record. */
+static bool refusal_holds(const fields *f, bai2_record r)
 {
-    return f->count == 0
-        || bai2_fields_at(f->file.bytes, f->file.length, f->start, f->numbers, 3 * f->count - 1).number
-            == BAI2_NO_ROOM;
+    size_t room = f->count > 0 ? 3 * f->count - 1 : 0;
+    bai2_fields answer = bai2_fields_at(f->file.bytes, f->file.length, f->start, f->numbers, room);
+    if (f->count > 0)
+        return answer.number == BAI2_NO_ROOM && answer.place == 0;
+    return answer.number >= BAI2_LINE_BADLY_ENDED && answer.number <= BAI2_WRONG_VERSION
+        && answer.place >= f->start && answer.place <= f->start + r.length;
 }
 
-/* Whether the fields stand in the record that was read, one after the other. */
+/* Whether the fields stand in the record that was read, one after the other; a refusal has left them. */
 static bool fields_hold(const fields *f, bai2_record r)
 {
     size_t at = f->start;
-    for (size_t i = 0; i < f->count; i++) {
-        if (kind_at(f, i) < BAI2_FIELD_NAME || kind_at(f, i) > BAI2_FIELD_NOTHING || place_at(f, i) <= at)
-            return false;
+    bool good = refusal_holds(f, r);
+    for (size_t i = 0; good && i < f->count; i++) {
+        good = kind_at(f, i) >= BAI2_FIELD_NAME && kind_at(f, i) <= BAI2_FIELD_NOTHING && place_at(f, i) > at;
         at = place_at(f, i) + field_at(f, i).length;
     }
-    return at <= f->start + r.length && want_their_room(f);
+    return good && at <= f->start + r.length;
 }
 
 /* Whether the record handed out here stays in the file, and has its fields; or there is none. */
