@@ -6,9 +6,9 @@
 #include "export.h"
 
 #include <inttypes.h>
-#include <stdlib.h>
 
 #include "codes.h"
+#include "fields.h"
 
 /* A record's code (98 and 99 are those of no other when divided by 64), or a field's kind, as a bit. */
 #define CODE(code) (UINT64_C(1) << (code) % 64)
@@ -71,22 +71,11 @@ static const column columns[] = {
 };
 enum { COLUMNS = sizeof columns / sizeof columns[0] };
 
-enum { A_FIELD = 3 }; /* numbers of each field that the library hands out */
-
-/* A field of the record that the walk stands at. */
-typedef struct {
-    uint64_t kind, place;
-    slice value;
-} field;
-
-/* The walk: where it stands, the record there with its fields, and what was met so far. */
+/* The walk: the fields of the record where it stands, and what was met so far. */
 typedef struct {
     sheet sheet;
-    slice file;
-    uint64_t place;
-    bai2_record record;
-    uint64_t *numbers; /* of the record's fields */
-    size_t room, count;
+    fields fields;
+    uint64_t code; /* of the record */
     uint64_t met[ACCOUNT_NUMBER]; /* groups of the file, accounts of the group, items and details of the account */
     slice account_number;
 } walk;
@@ -100,7 +89,7 @@ static const char *name_of(size_t c)
 /* Whether the record has this column. */
 static bool has(const walk *w, size_t c)
 {
-    return (columns[c].codes & CODE(w->record.code)) != 0;
+    return (columns[c].codes & CODE(w->code)) != 0;
 }
 
 /* Whether the column takes fields of this kind. */
@@ -118,22 +107,15 @@ static size_t column_for(const walk *w, uint64_t kind)
     return c;
 }
 
-/* The record's field of this index. */
-static field field_of(const walk *w, size_t i)
-{
-    const uint64_t *numbers = w->numbers + A_FIELD * i;
-    return (field){numbers[0], numbers[1], part_of(w->file, (size_t)numbers[1], (size_t)numbers[2])};
-}
-
 /* Writes the fields from this index on that the column takes, as a list; answers the index after them. A
    text that is empty is none. */
 static size_t put_list(walk *w, size_t c, size_t i, size_t end)
 {
     begin_list(&w->sheet, c);
-    for (; i < end && takes(c, field_of(w, i).kind); i++) {
-        field f = field_of(w, i);
-        if (f.kind != BAI2_FIELD_TEXT || f.value.length > 0)
-            put_entry(&w->sheet, f.value);
+    for (; i < end && takes(c, kind_at(&w->fields, i)); i++) {
+        slice value = field_at(&w->fields, i);
+        if (kind_at(&w->fields, i) != BAI2_FIELD_TEXT || value.length > 0)
+            put_entry(&w->sheet, value);
     }
     end_list(&w->sheet);
     return i;
@@ -144,8 +126,8 @@ static size_t put_pairs(walk *w, size_t c, size_t i, size_t end)
 {
     static const char *const names[] = {"days", "amount"};
     begin_list(&w->sheet, c);
-    for (; i + 1 < end && field_of(w, i).kind == BAI2_FIELD_DAYS; i += 2)
-        put_pair(&w->sheet, names, (slice[]){field_of(w, i).value, field_of(w, i + 1).value});
+    for (; i + 1 < end && kind_at(&w->fields, i) == BAI2_FIELD_DAYS; i += 2)
+        put_pair(&w->sheet, names, (slice[]){field_at(&w->fields, i), field_at(&w->fields, i + 1)});
     end_list(&w->sheet);
     return i;
 }
@@ -154,14 +136,14 @@ static size_t put_pairs(walk *w, size_t c, size_t i, size_t end)
    them, or this one where no column takes the field. */
 static size_t put_field(walk *w, size_t i, size_t end)
 {
-    field f = field_of(w, i);
-    size_t c = column_for(w, f.kind);
+    uint64_t kind = kind_at(&w->fields, i);
+    size_t c = column_for(w, kind);
     if (c == COLUMNS)
         return i;
-    switch (f.kind) {
+    switch (kind) {
     case BAI2_FIELD_SPLIT_AMOUNT: case BAI2_FIELD_TEXT: return put_list(w, c, i, end);
     case BAI2_FIELD_DAYS: return put_pairs(w, c, i, end);
-    default: put_text(&w->sheet, c, f.value); return i + 1;
+    default: put_text(&w->sheet, c, field_at(&w->fields, i)); return i + 1;
     }
 }
 
@@ -169,7 +151,7 @@ static size_t put_field(walk *w, size_t i, size_t end)
 static void put_head(walk *w, uint64_t place)
 {
     char code[3];
-    snprintf(code, sizeof code, "%02" PRIu64, w->record.code % 100);
+    snprintf(code, sizeof code, "%02" PRIu64, w->code % 100);
     put_text(&w->sheet, RECORD, (slice){(const uint8_t *)code, sizeof code - 1});
     put_number(&w->sheet, PLACE, place);
     for (size_t c = GROUP; c < ACCOUNT_NUMBER; c++)
@@ -202,7 +184,7 @@ static bool begins_item(uint64_t kind)
 /* The index of the first item's beginning from this index on; the number of fields where there is none. */
 static size_t next_item_at(const walk *w, size_t i)
 {
-    while (i < w->count && !begins_item(field_of(w, i).kind))
+    while (i < w->fields.count && !begins_item(kind_at(&w->fields, i)))
         i++;
     return i;
 }
@@ -211,13 +193,12 @@ static size_t next_item_at(const walk *w, size_t i)
 static bool put_account(walk *w)
 {
     size_t from = next_item_at(w, 0);
-    bool good = put_line(w, w->place, 1, from); /* after the account number, which each line has */
-    while (good && from < w->count) {
+    bool good = put_line(w, w->fields.start, 1, from); /* after the account number, which each line has */
+    while (good && from < w->fields.count) {
         size_t end = next_item_at(w, from + 1);
-        field type = field_of(w, from);
-        if (type.value.length > 0) {
+        if (field_at(&w->fields, from).length > 0) {
             w->met[ITEM]++;
-            good = put_line(w, type.place, from, end);
+            good = put_line(w, place_at(&w->fields, from), from, end);
         }
         from = end;
     }
@@ -227,7 +208,7 @@ static bool put_account(walk *w)
 /* Counts the record, and notes the account's number. */
 static void meet_record(walk *w)
 {
-    switch (w->record.code) {
+    switch (w->code) {
     case GROUP_HEADER:
         w->met[GROUP]++;
         w->met[ACCOUNT] = 0;
@@ -235,53 +216,40 @@ static void meet_record(walk *w)
     case ACCOUNT_HEADER:
         w->met[ACCOUNT]++;
         w->met[ITEM] = w->met[DETAIL_NUMBER] = 0;
-        w->account_number = field_of(w, 0).value;
+        w->account_number = field_at(&w->fields, 0);
         break;
     case DETAIL: w->met[DETAIL_NUMBER]++; break;
     default: break;
     }
 }
 
-/* Has room for all fields of a record of this length: each has a byte of its own, its comma, its slash, or
-   one of its text. */
-static void make_room(walk *w, size_t length)
+/* Writes the record's lines; false where the library hands out no fields of it, or one that no column
+   takes. */
+static bool put_record(walk *w)
 {
-    size_t needed = A_FIELD * length;
-    if (needed <= w->room)
-        return;
-    free(w->numbers);
-    w->room = needed > 2 * w->room ? needed : 2 * w->room;
-    w->numbers = room_for(w->room, sizeof *w->numbers);
-}
-
-/* Takes the record where the walk stands, with its fields; false where the library refuses it. */
-static bool take_record(walk *w)
-{
-    w->record = bai2_record_at(w->file.bytes, w->file.length, w->place);
-    make_room(w, (size_t)w->record.length);
-    bai2_fields f = bai2_fields_at(w->file.bytes, w->file.length, w->place, w->numbers, w->room);
-    w->count = (size_t)f.count;
-    return w->record.number == 0 && f.number == 0;
+    meet_record(w);
+    if (w->code == ACCOUNT_HEADER)
+        return put_account(w);
+    return w->fields.count > 0 && put_line(w, w->fields.start, 0, w->fields.count);
 }
 
 /* Writes an accepted file's lines, and before them the columns' names where the format has them. False
    where the library hands out other records than it has counted, or a field that no column takes. */
 bool put_export(FILE *to, sheet_format format, slice file, bai2_summary summary)
 {
-    walk w = {.file = file};
+    walk w = {.fields = {.file = file}};
     uint64_t lines = 0;
+    size_t at = 0;
     bool good = true;
     w.sheet = (sheet){.to = to, .format = format, .name_of = name_of, .columns = COLUMNS};
     begin_sheet(&w.sheet);
-    while (good && w.place < file.length && !ferror(to)) {
-        good = take_record(&w);
-        if (!good)
-            break;
-        meet_record(&w);
-        good = w.record.code == ACCOUNT_HEADER ? put_account(&w) : put_line(&w, w.place, 0, w.count);
-        lines += w.record.lines;
-        w.place += w.record.length;
+    for (bai2_record r; good && !ferror(to)
+         && (r = bai2_record_at(file.bytes, file.length, at)).number == 0; at += r.length) {
+        w.code = r.code;
+        read_fields(&w.fields, at);
+        good = put_record(&w);
+        lines += r.lines;
     }
-    free(w.numbers);
+    drop_fields(&w.fields);
     return ferror(to) || (good && lines == summary.records && w.met[GROUP] == summary.groups);
 }

@@ -147,7 +147,7 @@ void begin_list(sheet *s, size_t column)
 }
 
 /* Goes to the list's next entry: past a comma in JSON; in CSV past a line feed, the first past the quote. */
-static void next_entry(sheet *s)
+static void go_to_entry(sheet *s)
 {
     if (s->format == CSV)
         fputc(s->entries == 0 ? '"' : '\n', s->to);
@@ -159,7 +159,7 @@ static void next_entry(sheet *s)
 /* Writes an entry of the list that is a text. */
 void put_entry(sheet *s, slice entry)
 {
-    next_entry(s);
+    go_to_entry(s);
     if (s->format == JSON_LINES)
         put_json_string(s->to, entry);
     else
@@ -169,7 +169,7 @@ void put_entry(sheet *s, slice entry)
 /* Writes an entry of the list that is two texts: an object in JSON, both with a blank between in CSV. */
 void put_pair(sheet *s, const char *const names[2], const slice values[2])
 {
-    next_entry(s);
+    go_to_entry(s);
     for (size_t i = 0; i < 2; i++) {
         if (s->format == JSON_LINES) {
             put_name_of(s->to, i == 0 ? "{\"" : ",\"", names[i]);
