@@ -1,4 +1,4 @@
-/* Document 01, "Lines and records": what a line begins with. Inline, for the reader's loop. */
+/* Document 01, "Lines and records": what a line begins with. */
 #ifndef ORACLE_LINES_H
 #define ORACLE_LINES_H
 
@@ -7,7 +7,7 @@
 #include "oracle_inner.h"
 
 /* The code that a line begins with, or 0. */
-static inline unsigned code_at(const uint8_t *file, line l)
+static unsigned code_at(const uint8_t *file, line l)
 {
     if (l.end - l.start < 3 || file[l.start + 2] != ',')
         return 0;
@@ -24,7 +24,7 @@ static inline unsigned code_at(const uint8_t *file, line l)
 }
 
 /* Whether a continuation line starts here. */
-static inline bool continues(const uint8_t *file, size_t length, size_t at)
+static bool continues(const uint8_t *file, size_t length, size_t at)
 {
     return length - at >= 3 && memcmp(file + at, "88,", 3) == 0;
 }

@@ -6,5 +6,12 @@ refusal oracle_walk_fields(const uint8_t *file, uint64_t magnitudes, record *rec
 {
     walk w = {.file = file, .rec = rec, .wanted = first_field(rec->code),
               .magnitudes = magnitudes};
-    return walk_fields(&w, NULL);
+    for (size_t at = rec->start; at < rec->end;) {
+        line l = oracle_line_at(file, rec->end, at);
+        refusal fault = walk_line(&w, l, NULL);
+        if (fault.number != 0)
+            return fault;
+        at = l.next;
+    }
+    return check_end(&w);
 }

@@ -365,7 +365,7 @@ static inline size_t field_end(const uint8_t *file, size_t place, size_t end)
     return place;
 }
 
-/* Judges the fields of one line. */
+/* Judges the fields of one line; the good ones go to `to`, where it is not NULL, up to the first fault. */
 static refusal walk_line(walk *w, line l, hand *to)
 {
     size_t place = l.start + 3;
@@ -387,17 +387,9 @@ static refusal walk_line(walk *w, line l, hand *to)
     return take_text(w, place, l.end, to);
 }
 
-/* Judges all fields of the record at whose start the walk stands: the first 7, 8 or 9. The good fields
-   go to `to`, where it is not NULL, up to the first fault. */
-static refusal walk_fields(walk *w, hand *to)
+/* Judges what is missing at a record's end. */
+static refusal check_end(const walk *w)
 {
-    for (size_t at = w->rec->start; at < w->rec->end;) {
-        line l = oracle_line_at(w->file, w->rec->end, at);
-        refusal fault = walk_line(w, l, to);
-        if (fault.number != 0)
-            return fault;
-        at = l.next;
-    }
     if (w->wanted == NOTHING || w->wanted == NEXT_TYPE || w->wanted == MORE_TEXT)
         return none;
     return (refusal){8, w->last_slash};
