@@ -89,7 +89,7 @@ pub fn seek(rec: &[u8], first: Want, sought: Sought) -> Spot
     let mut walk = find_next::before_record(first);
     loop {
         let want = walk.want;
-        match find_next::next_field(rec, rec.len(), walk) {
+        match find_next::next_field(rec, walk) {
             Next::Refused(_) => return nowhere(),
             Next::Over => return nowhere(),
             Next::Field(start, length, after) => {

@@ -8,7 +8,6 @@ use read_wanted::Taken;
 use read_wanted::want;
 use read_wanted::want::Want;
 ghost use mathlib.Core.Path.{_≡_};
-ghost use lib.ListN.{take};
 ghost use Rattle.rules.specs.Lines.{linesOf};
 ghost use Rattle.read_wanted.specs.Wants.{wantedOf};
 ghost use Rattle.rules.specs.Bytes.{Bytes};
@@ -105,20 +104,19 @@ fn field_here(rec: &[u8], walk: Cursor) -> Next
 }
 
 // The next field where the line is over: the first of the next line; or what is missing.
-fn field_of_next_line(rest: &[u8], size: usize, walk: Cursor) -> Next
-    ensures { λ r. ⌜ Continues (take size (now (rest .entry))) walk r ⌝ }
+fn field_of_next_line(rec: &[u8], walk: Cursor) -> Next
+    ensures { λ r. ⌜ Continues (now (rec .entry)) walk r ⌝ }
 {
     let want = walk.want;
     let start = walk.line;
     let slash = walk.slash;
-    let rec = base_slices::front(rest, size);
     if rec.len() <= start.0 {
         if want::may_lack(want) {
             return Next::Over;
         }
         return stop(WRONG_FIELD, slash);
     }
-    let end = read_lines::body_end_in(rest, size, start);
+    let end = read_lines::body_end(rec, start);
     let at = Place(start.0 + 3);
     if end.0 < at.0 {
         return stop(LINE_BADLY_ENDED, at);
@@ -136,14 +134,14 @@ fn field_of_next_line(rest: &[u8], size: usize, walk: Cursor) -> Next
     )
 }
 
-// The next field of the record, the first `size` bytes of rest, where the walk over it stands so.
-pub fn next_field(rest: &[u8], size: usize, walk: Cursor) -> Next
-    ensures { λ r. ⌜ Steps (take size (now (rest .entry))) walk r ⌝ }
+// The next field of the record, where the walk over it stands so.
+pub fn next_field(rec: &[u8], walk: Cursor) -> Next
+    ensures { λ r. ⌜ Steps (now (rec .entry)) walk r ⌝ }
 {
     let at = walk.at;
     let end = walk.end;
     if at.0 <= end.0 {
-        return field_here(base_slices::front(rest, size), walk);
+        return field_here(rec, walk);
     }
-    field_of_next_line(rest, size, walk)
+    field_of_next_line(rec, walk)
 }

@@ -110,7 +110,7 @@ fn hand_out(
     let mut n: usize = 0;
     loop {
         let want = walk.want;
-        match find_next::next_field(rest, size, walk) {
+        match find_next::next_field(rec, walk) {
             Next::Refused(why) => return refused_there(start, why),
             Next::Over => return Fields::Given(FieldCount(n as u64)),
             Next::Field(place, length, after) => {

@@ -1,14 +1,15 @@
 -- What `record_at` answers at each place that the code reaches. Assumes nothing.
-use Prim.Native.Nat.{ℕ, suc, _+_, _-_, _≤_, _<_}
+use Prim.Native.Nat.{ℕ, zero, suc, _+_, _-_, _≤_, _<_}
 use native.Mathlib.Omega.{arith}
 use mathlib.Core.Path.{_≡_, refl, sym, ap, subst, _∙_}
 use mathlib.Core.List.{List, [], _∷_}
 use mathlib.Core.Option.{Option, none, some}
-use lib.ListN.{length, take, drop, length-take, length-drop, drop-of-length-le}
+use mathlib.Core.Bool.{true, false}
+use lib.ListN.{length, take, drop, getD, length-take, length-drop, drop-of-length-le}
 use lib.Seq.{drop-drop, length-take-le}
-use Rattle.rules.specs.Bytes.{Bytes}
+use Rattle.rules.specs.Bytes.{Bytes, sameBytes}
 use Rattle.rules.specs.Outcome.{Outcome, refuse, fine, _>>=_, orRefused}
-use Rattle.rules.specs.Lines.{Line, Code, linesOf, codeOf, Record, recordsOf, recordSize, fileRecords}
+use Rattle.rules.specs.Lines.{Line, Code, linesOf, codeBytes, codeIn, codeOf, Record, recordsOf, recordSize, fileRecords}
 use Rattle.rules.specs.Verdict.{coded}
 use Rattle.rules.specs.HandedOut.{CodedRecord, firstCoded, recordAt, RecordAnswer, recordAnswer}
 use Rattle.base_quantities.specs.declared.Records.{Records}
@@ -16,6 +17,7 @@ use Rattle.base_codes.specs.declared.Code as code
 use Rattle.base_codes.specs.CodeMeaning.{codeMeant}
 use Rattle.read_lines.specs.LineLengths.{lineLen, firstLine, further, firstRecord}
 use Rattle.read_lines.proofs.LineLengthLaws.{first-of}
+use Rattle.read_lines.proofs.Fronts.{begins-front}
 use Rattle.read_lines.proofs.LineLaws.{record-start}
 use Rattle.read_lines.proofs.OneRecord.{first-part, one-record, lines-size}
 use Rattle.part_records.specs.declared.Found.{Found}
@@ -79,3 +81,38 @@ module _ (file : Bytes) (start : ℕ) where
       coded-finds low =
           let length-is : recordSize (linesOf (take size there)) ≡ size = lines-size (take size there) ∙ length-take-le size there (omega (arith, length-drop start file)) in
           record { answer = sym (ap recordAnswer outcome-is ∙ rw (length-is, ← count-is)); outcome = outcome-is; inside = omega arith }
+
+-- ---- the code of a line, sought one after the other
+
+unfoldable pub meant : List code.Code → List Code
+meant [] = []
+meant (c ∷ cs) = codeMeant c ∷ meant cs
+
+from-here : (cs : List code.Code) (i : ℕ) (d : code.Code) → i < length cs → drop i (meant cs) ≡ codeMeant (getD cs i d) ∷ drop (i + 1) (meant cs)
+unfolding meant
+from-here [] i d h = absurd (omega arith)
+from-here (c ∷ cs) zero d h = refl
+from-here (c ∷ cs) (suc i) d h = let z : suc i + 1 ≡ suc (i + 1) = omega arith in rw z (from-here cs i d (omega arith))
+
+module _ (xs : Bytes) (cs : List code.Code) (i : ℕ) (d : code.Code) (h : i < length cs) where
+  abbrev this : Code
+  this = codeMeant (getD cs i d)
+
+  pub code-found : sameBytes (codeBytes this) (take 3 xs) ≡ true → codeIn (drop i (meant cs)) (firstLine xs) ≡ some this
+  unfolding codeIn
+  code-found t = rw (from-here cs i d h, begins-front this xs, t)
+
+  pub code-passed : sameBytes (codeBytes this) (take 3 xs) ≡ false → codeIn (drop i (meant cs)) (firstLine xs) ≡ codeIn (drop (i + 1) (meant cs)) (firstLine xs)
+  unfolding codeIn
+  code-passed t = rw (from-here cs i d h, begins-front this xs, t)
+
+-- none is left
+pub none-left : (xs : Bytes) (cs : List code.Code) (i : ℕ) → length cs ≤ i → codeIn (drop i (meant cs)) (firstLine xs) ≡ none
+unfolding codeIn meant
+none-left xs [] i h = nothing i
+  where
+    nothing : (n : ℕ) → codeIn (drop n []) (firstLine xs) ≡ none
+    nothing zero = refl
+    nothing (suc n) = refl
+none-left xs (c ∷ cs) zero h = absurd (omega arith)
+none-left xs (c ∷ cs) (suc i) h = none-left xs cs i (omega arith)

@@ -7,6 +7,10 @@ use base_refusals::NO_SUCH_PART;
 use base_refusals::Refusal;
 use read_lines::Coded;
 ghost use mathlib.Core.Path.{_≡_};
+ghost use lib.ListN.{drop};
+ghost use Rattle.rules.specs.Lines.{codeOf};
+ghost use Rattle.read_lines.specs.LineLengths.{firstLine};
+ghost use Rattle.read_lines.specs.LineAnswers.{codeFound};
 ghost use Rattle.part_records.specs.declared.Found.the-variants.{Refused};
 ghost use Rattle.part_records.specs.RecordsFound.{Finds};
 
@@ -23,6 +27,32 @@ fn refuse(number: u64, place: Place) -> Found
     Found::Refused(Refusal { number, place })
 }
 
+// The code of the line that starts there, sought one after the other. (`read_lines::code_at` answers the same, and is the reader's alone: with a second caller
+// the compiler no longer draws it into the reader.)
+fn code_there(file: &[u8], start: Place) -> Coded
+    ensures { λ r. ⌜ codeFound r ≡ codeOf (firstLine (drop (start .0) (now (file .entry)))) ⌝ }
+{
+    let codes = [
+        Code::FileHeader,
+        Code::GroupHeader,
+        Code::AccountHeader,
+        Code::Detail,
+        Code::AccountTrailer,
+        Code::GroupTrailer,
+        Code::FileTrailer,
+        Code::Continuation,
+    ];
+    let mut i: usize = 0;
+    while i < 8 {
+        let code = codes[i];
+        if read_lines::begins(file, start, code) {
+            return Coded::With(code);
+        }
+        i += 1;
+    }
+    Coded::None
+}
+
 // The record that begins there, with all 88 lines after its first.
 pub fn record_at(file: &[u8], start: Place) -> Found
     ensures { λ r. ⌜ Finds (now (file .entry)) (start .0) r ⌝ }
@@ -30,7 +60,7 @@ pub fn record_at(file: &[u8], start: Place) -> Found
     if file.len() <= start.0 {
         return refuse(NO_SUCH_PART, Place(0));
     }
-    match read_lines::code_at(file, start) {
+    match code_there(file, start) {
         Coded::None => refuse(NO_RECORD_CODE, start),
         Coded::With(code) => {
             let further = read_lines::further_lines(file, read_lines::next_line(file, start));

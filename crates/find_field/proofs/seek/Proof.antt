@@ -3,7 +3,6 @@ use Prim.Native.Nat.{ℕ, _+_, _≤_}
 use native.Mathlib.Omega.{arith}
 use mathlib.Core.Path.{_≡_, refl, sym, ap, subst, _∙_}
 use lib.ListN.{length, take, drop}
-use lib.Seq.{take-all}
 use Rattle.rules.specs.Bytes.{Bytes}
 use Rattle.rules.specs.Lines.{linesOf}
 use Rattle.rules.specs.Grammar.{Kind, sameKind, nextKind}
@@ -42,7 +41,7 @@ abbrev walk-of : Asked → Cursor
 walk-of c = c .before .loop .walk
 
 steps : (c : Asked) → Steps (rec-of c) (walk-of c) (c .next-field .result)
-steps c = subst (λ (l : Bytes). Steps l (walk-of c) (c .next-field .result)) (take-all (length (rec-of c)) (rec-of c) (omega arith)) (c .next-field .ensures)
+steps c = c .next-field .ensures
 
 -- the search from here on gives what the whole search gives
 so-far : (c : Asked) → seekLines (kind c) (wantedOf (entry c .args .first)) (linesOf (rec-of c)) ≡ soughtIn (kind c) (traceOf (rec-of c) (walk-of c))

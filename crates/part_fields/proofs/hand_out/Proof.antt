@@ -47,7 +47,7 @@ rec-is : (c : Asked) → rec-of c ≡ take (entry c .args .size) (entry c .args 
 rec-is c = began c .before .front .ensures
 
 steps : (c : Asked) → Steps (rec-of c) (walk-of c) (c .next-field .result)
-steps c = subst (λ (l : Bytes). Steps l (walk-of c) (c .next-field .result)) (sym (rec-is c)) (c .next-field .ensures)
+steps c = c .next-field .ensures
 
 all-is : (c : Asked) → all c ≡ traceOfRecord (rec-of c) (wantedOf (entry c .args .first))
 all-is c = began c .before-record .ensures .1 (rec-of c) .0

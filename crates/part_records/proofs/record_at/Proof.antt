@@ -15,7 +15,7 @@ use Rattle.part_records.proofs.record_at.Tie as tie
 abbrev Ended : Type 0
 Ended = tie.After-further-lines
 
-abbrev coded : Ended → tie.After-code-at
+abbrev coded : Ended → tie.After-code-there
 coded c = c .before .before .before .before .before
 
 abbrev entry : Ended → tie.Start
@@ -48,13 +48,13 @@ returns-2 : tie.Need-returns-2
 returns-2 c =
     let found = c .before .before .before in
     let a = found .before .before .before .before .args in
-    uncoded-finds (a .file .now) (a .start .0) (found .before .if1 .left) _ (c .refuse2 .ensures) (sym (ap codeFound (c .before .enum-told .given .1)) ∙ found .code-at .ensures)
+    uncoded-finds (a .file .now) (a .start .0) (found .before .if1 .left) _ (c .refuse2 .ensures) (sym (ap codeFound (c .before .enum-told .given .1)) ∙ found .code-there .ensures)
 
 returns-3 : tie.Need-returns-3
 returns-3 c =
     let e = c .before .before .before .before .before in
     let found = coded e in
-    coded-finds (file-of e) (start-of e) (found .before .if1 .left) _ (sym (ap codeFound (e .before .before .before .code .given .1)) ∙ found .code-at .ensures)
+    coded-finds (file-of e) (start-of e) (found .before .if1 .left) _ (sym (ap codeFound (e .before .before .before .code .given .1)) ∙ found .code-there .ensures)
     (e .before .next-line .result .0) (e .further-lines .result .count .0) (e .further-lines .result .end .0)
     (e .before .next-line .ensures .0) (e .further-lines .ensures .count) (e .further-lines .ensures .ends) (ends e) (omega (arith, starts e))
 
