@@ -15,7 +15,8 @@
    was refused (enum bai2_refusal), `place` is the byte in the file that shows it (counted from 0),
    and all other figures are 0, except for two: a combination's `file` says which file was refused,
    and `writer` is the writer that the call was given. A refused call leaves `out` as it was. An
-   accepted one fills the first `length` bytes of `out`; the bytes after them stay as they were. */
+   accepted one fills the first `length` bytes of `out`, or three numbers a field; what comes after
+   them stays as it was. */
 #ifndef BAI2_H
 #define BAI2_H
 
@@ -88,7 +89,8 @@ enum bai2_refusal {
        that is not a printable ASCII character. */
     BAI2_NOT_A_NAME = 16,
 
-    /* The file has no group, account or detail of that number (numbers count from 0). */
+    /* The file has no group, account or detail of that number (numbers count from 0), or a record is
+       asked for at its end or after it. */
     BAI2_NO_SUCH_PART = 17,
 
     /* The result would be longer than 16,777,216 bytes, or a line of the second file's groups is
@@ -194,7 +196,8 @@ typedef struct {
    bai2_kind), the place of its first byte in the file, and its length, three numbers a field, into
    `out`, which has room for `out_length` numbers. Refused as bai2_record_at, then as the reader refuses
    the fields of a record (BAI2_LINE_BADLY_ENDED, BAI2_WRONG_FIELD, BAI2_WRONG_VERSION, the place in the
-   file), then by BAI2_NO_ROOM (place 0) where `out` has less than three numbers a field. */
+   file), then by BAI2_NO_ROOM (place 0) where `out` has less than three numbers a field. Three numbers
+   for each byte of the record are always room enough. */
 bai2_fields bai2_fields_at(const uint8_t *file, size_t file_length, uint64_t start,
                            uint64_t *out, size_t out_length);
 

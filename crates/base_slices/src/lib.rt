@@ -72,15 +72,15 @@ pub fn put(out: &mut [u8], src: &[u8]) -> usize
 }
 
 // The same for numbers.
-pub fn put_numbers(out: &mut [u64], src: &[u64]) -> usize
-    ensures { λ r. ⌜ Put (now (src .entry)) (now (out .entry)) r (now (out .exit)) ⌝ }
+pub fn put_numbers(out: &mut [u64], numbers: &[u64]) -> usize
+    ensures { λ r. ⌜ Put (now (numbers .entry)) (now (out .entry)) r (now (out .exit)) ⌝ }
 {
-    if out.len() < src.len() {
+    if out.len() < numbers.len() {
         return 0;
     }
     let mut i: usize = 0;
-    while i < src.len() {
-        out[i] = src[i];
+    while i < numbers.len() {
+        out[i] = numbers[i];
         i += 1;
     }
     i
