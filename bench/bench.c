@@ -1,11 +1,13 @@
 /* Times the library beside plain C, in one run, on files of several shapes.
      bench          16 MiB of each shape, then one shape from 1 to 16 MiB: the library's reader and the plain C reader;
-                    then split and combine, each beside the library's own reading of the same files and a plain copy
-                    of as many bytes as the result has
+                    split and combine, each beside the library's own reading of the same files and a plain copy
+                    of as many bytes as the result has; handing out all records and fields, beside the library's reading
      bench once N   1 MiB of the Nth shape, from 0 on, read once by each reader, for a tool that counts instructions; the
                     line printed has the shape's number of lines and its name. Past the last shape: nothing, and status 1
-   Each figure is the processor time of the best of several runs, both sides in turn; both read the same bytes in the
-   same memory, which was read before. A ratio under 1 means that the library's call is the faster one. */
+     bench file N   16 MiB of the Nth shape, as a file on standard output
+   Each time is the processor time of the best of several runs, both sides in turn; both read the same bytes in the
+   same memory, which was read before. A line is printed for each pair of times, its cells parted by tabs, from which
+   bench/tables draws the tables: which table, its row, bytes read, bytes written or fields, seconds of both sides. */
 #define _POSIX_C_SOURCE 200809L
 #include <inttypes.h>
 #include <pthread.h>
@@ -127,7 +129,7 @@ typedef struct {
     const file *a, *b;               /* b: only for combine */
     const char *name;                /* only for split */
     uint8_t *out;
-    size_t result; /* how many bytes the last call wrote */
+    size_t result; /* how many bytes, or fields, the last call gave */
 } task;
 
 /* A file's bytes and their number, as two arguments of a call. */
@@ -174,6 +176,21 @@ static uint64_t read_and_copy(task *t)
     return number;
 }
 
+/* Handing out: all the library's records and fields, one after the other. */
+static uint64_t hand_out(task *t)
+{
+    bai2_record r = {0};
+    t->result = 0;
+    for (uint64_t at = 0; at < t->a->length; at += r.length) {
+        r = bai2_record_at(BYTES(t->a), at);
+        bai2_fields f = bai2_fields_at(BYTES(t->a), at, (uint64_t *)(void *)t->out, ROOM / sizeof(uint64_t));
+        t->result += (size_t)f.count;
+        if (r.number + f.number != 0)
+            return r.number + f.number;
+    }
+    return 0;
+}
+
 typedef uint64_t call(task *t);
 
 /* The processor time of one run, in seconds; ends the program where the call is refused. */
@@ -184,7 +201,7 @@ static double time_of(task *t, call *run)
     uint64_t number = run(t);
     clock_gettime(CLOCK_THREAD_CPUTIME_ID, &to);
     if (number != 0) {
-        printf("refused %" PRIu64 "\n", number);
+        fprintf(stderr, "refused %" PRIu64 "\n", number);
         exit(1);
     }
     return (double)(to.tv_sec - from.tv_sec) + 1e-9 * (double)(to.tv_nsec - from.tv_nsec);
@@ -201,23 +218,23 @@ static void best_times(task *t, call *first, call *second, double best[2])
     }
 }
 
-/* One row: bytes, both readers' times and speeds, and their ratio. */
-static void measure_readers(const char *name, const file *f)
-{
-    double best[2], megabytes = (double)f->length / 1e6;
-    best_times(&(task){.a = f}, plain_read, library_read, best);
-    printf("| %s | %.1f | %.2f | %.2f | %.0f | %.0f | %.2f |\n", name, megabytes, best[0] * 1e3, best[1] * 1e3,
-           megabytes / best[0], megabytes / best[1], best[1] / best[0]);
-}
-
-/* One row: bytes in and out, the time of reading and copying, the time of the call, and their ratio. */
-static void measure_call(const char *name, const shape *s, task *t, call *run)
+/* One line: the best times of two calls, and how much they read and gave. */
+static void measure(const char *table, const char *row, task *t, call *first, call *second)
 {
     double best[2];
     size_t in = t->a->length + (t->b == NULL ? 0 : t->b->length);
-    best_times(t, run, read_and_copy, best);
-    printf("| %s, %s | %.1f | %.1f | %.2f | %.2f | %.2f |\n", name, s->name, (double)in / 1e6,
-           (double)t->result / 1e6, best[1] * 1e3, best[0] * 1e3, best[0] / best[1]);
+    best_times(t, first, second, best);
+    printf("%s\t%s\t%zu\t%zu\t%.9f\t%.9f\n", table, row, in, t->result, best[0], best[1]);
+    fflush(stdout);
+}
+
+/* Split or combine of this shape, beside reading and copying; it is run once before, so that its length is known. */
+static void measure_call(const char *name, const shape *s, task *t, call *run)
+{
+    char row[100];
+    snprintf(row, sizeof row, "%s, %s", name, s->name);
+    time_of(t, run);
+    measure("joins", row, t, read_and_copy, run);
 }
 
 /* Split and combine on files of this shape. */
@@ -246,40 +263,40 @@ static void small_stack(file *f)
     pthread_attr_t attributes;
     pthread_attr_init(&attributes);
     if (pthread_attr_setstacksize(&attributes, SMALL_STACK) != 0 || pthread_create(&thread, &attributes, read_it, f) != 0) {
-        printf("no thread with a stack of 64 KiB can be had here\n");
+        fprintf(stderr, "no thread with a stack of 64 KiB can be had here\n");
         return;
     }
     pthread_join(thread, NULL);
-    printf("\nA 16 MiB file was read on a thread with a stack of 64 KiB.\n");
+    printf("stack\n");
 }
 
-/* The head of a table: its title, and what stands in its columns. */
-static void put_table(const char *title, const char *columns)
+/* Both readers, and the library's reader beside handing out, on 16 MiB of each shape. */
+static void measure_shapes(const shape *shapes, size_t count, file *f, uint8_t *out)
 {
-    printf("\n### %s\n\n%s\n|", title, columns);
-    for (const char *bar = strchr(columns + 1, '|'); bar != NULL; bar = strchr(bar + 1, '|'))
-        printf("---|");
-    printf("\n");
-}
-
-/* All three tables, over two files and a slice for results. */
-static void put_tables(const shape *shapes, size_t count, file *a, file *b, uint8_t *out)
-{
-    static const char readers[] = "| file | MB | plain C, ms | library, ms | plain C, MB/s | library, MB/s | ratio |";
-    put_table("16 MiB of each shape", readers);
     for (size_t i = 0; i < count; i++) {
-        make_file(a, &shapes[i], LARGEST, EACH);
-        measure_readers(shapes[i].name, a);
+        make_file(f, &shapes[i], LARGEST, EACH);
+        measure("shapes", shapes[i].name, &(task){.a = f}, plain_read, library_read);
+        measure("hands", shapes[i].name, &(task){.a = f, .out = out}, library_read, hand_out);
     }
-    small_stack(a);
-    put_table("Usual lines, by size", readers);
+}
+
+/* Both readers on one shape from 1 to 16 MiB. */
+static void measure_sizes(const shape *s, file *f)
+{
     for (int size = 1; size <= 16; size *= 2) {
-        char name[20];
-        snprintf(name, sizeof name, "%d MiB", size);
-        make_file(a, &shapes[1], (size_t)size * MIB, EACH);
-        measure_readers(name, a);
+        char row[20];
+        snprintf(row, sizeof row, "%d MiB", size);
+        make_file(f, s, (size_t)size * MIB, EACH);
+        measure("sizes", row, &(task){.a = f}, plain_read, library_read);
     }
-    put_table("Split and combine", "| call | MB in | MB out | read and copy, ms | call, ms | ratio |");
+}
+
+/* All times, over two files and a slice for results. */
+static void measure_all(const shape *shapes, size_t count, file *a, file *b, uint8_t *out)
+{
+    measure_shapes(shapes, count, a, out);
+    small_stack(a);
+    measure_sizes(&shapes[1], a);
     for (size_t i = 0; i < 3; i++)
         measure_calls(&shapes[i], a, b, out);
 }
@@ -293,7 +310,14 @@ static int read_once(const shape *s, file *f)
     return plain_read(&t) != 0 || library_read(&t) != 0;
 }
 
-/* Makes the shapes and prints the tables, or reads one shape once. */
+/* Writes a file of 16 MiB of this shape to standard output. */
+static int write_shape(const shape *s, file *f)
+{
+    make_file(f, s, LARGEST, EACH);
+    return fwrite(f->bytes, 1, f->length, stdout) == f->length ? 0 : 1;
+}
+
+/* Makes the shapes and prints the times, or does something with one shape. */
 int main(int argc, char **argv)
 {
     static char text[4001];
@@ -312,12 +336,11 @@ int main(int argc, char **argv)
     if (a.bytes == NULL || b.bytes == NULL || out == NULL)
         return 1;
     int status = 0;
-    if (argc == 3 && strcmp(argv[1], "once") == 0) {
-        unsigned long which = strtoul(argv[2], NULL, 10);
-        status = which < count ? read_once(&shapes[which], &a) : 1;
-    } else {
-        put_tables(shapes, count, &a, &b, out);
-    }
+    unsigned long which = argc == 3 ? strtoul(argv[2], NULL, 10) : 0;
+    if (argc == 3)
+        status = which >= count ? 1 : (strcmp(argv[1], "once") == 0 ? read_once : write_shape)(&shapes[which], &a);
+    else
+        measure_all(shapes, count, &a, &b, out);
     free(a.bytes);
     free(b.bytes);
     free(out);

@@ -15,7 +15,8 @@
    was refused (enum bai2_refusal), `place` is the byte in the file that shows it (counted from 0),
    and all other figures are 0, except for two: a combination's `file` says which file was refused,
    and `writer` is the writer that the call was given. A refused call leaves `out` as it was. An
-   accepted one fills the first `length` bytes of `out`; the bytes after them stay as they were. */
+   accepted one fills the first `length` bytes of `out`, or three numbers a field; what comes after
+   them stays as it was. */
 #ifndef BAI2_H
 #define BAI2_H
 
@@ -88,7 +89,8 @@ enum bai2_refusal {
        that is not a printable ASCII character. */
     BAI2_NOT_A_NAME = 16,
 
-    /* The file has no group, account or detail of that number (numbers count from 0). */
+    /* The file has no group, account or detail of that number (numbers count from 0), or a record is
+       asked for at its end or after it. */
     BAI2_NO_SUCH_PART = 17,
 
     /* The result would be longer than 16,777,216 bytes, or a line of the second file's groups is
@@ -134,6 +136,70 @@ typedef struct {
 /* The detail of that number in that account of that group. */
 bai2_detail bai2_detail_of(const uint8_t *file, size_t file_length,
                            uint64_t group, uint64_t account, uint64_t detail);
+
+/* ---- Handing out ----
+   Everything that stands in a file, record by record and field by field, without a parser of your own.
+   These two calls take any bytes and any start, and do not judge the file (bai2_read does): each costs
+   no more than the record that it looks at. In an accepted file, from place 0 on and each time a
+   record's `length` further, they meet all its records, and refuse none (but for want of room). */
+
+/* The record that begins at byte `start`: its code (1, 2, 3, 16, 49, 98 or 99; 88 where it begins with
+   one), its lines, its continuation lines (88) among them, and its length with all line ends. Refused
+   by BAI2_NO_SUCH_PART (place 0) where `start` is at or past the file's end, then by
+   BAI2_NO_RECORD_CODE (place `start`) where no code stands there. */
+typedef struct {
+    uint64_t number, place, code, lines, length;
+} bai2_record;
+
+bai2_record bai2_record_at(const uint8_t *file, size_t file_length, uint64_t start);
+
+/* What a field is. */
+enum bai2_kind {
+    BAI2_FIELD_NAME = 1,      /* 01: sender, receiver; 02: originator; 03: account number */
+    BAI2_FIELD_REFERENCE = 2, /* 16: bank reference, customer reference */
+    BAI2_FIELD_ULTIMATE_RECEIVER = 3,
+    BAI2_FIELD_DATE = 4,
+    BAI2_FIELD_TIME = 5,
+    BAI2_FIELD_TIME_OR_NONE = 6, /* may be empty: in a 02, and in funds V */
+    BAI2_FIELD_FILE_NUMBER = 7,
+    BAI2_FIELD_PHYSICAL_LENGTH = 8,
+    BAI2_FIELD_BLOCK_SIZE = 9,
+    BAI2_FIELD_VERSION = 10,
+    BAI2_FIELD_GROUP_STATUS = 11,
+    BAI2_FIELD_CURRENCY = 12,
+    BAI2_FIELD_MODIFIER = 13,
+    BAI2_FIELD_TYPE = 14,          /* 03: of the first item; may be empty */
+    BAI2_FIELD_FURTHER_TYPE = 15,  /* 03: of each further item */
+    BAI2_FIELD_STATUS_AMOUNT = 16, /* 03: of a status; may have a minus */
+    BAI2_FIELD_AMOUNT = 17,        /* 03: of a summary; 16 */
+    BAI2_FIELD_ITEM_COUNT = 18,
+    BAI2_FIELD_FUNDS = 19, /* S: three split amounts follow; V: a date, a time; D: a pair count, pairs */
+    BAI2_FIELD_DETAIL_TYPE = 20,
+    BAI2_FIELD_TEXT = 21,         /* the first piece of a text; length 0: no text */
+    BAI2_FIELD_FURTHER_TEXT = 22, /* a further piece, from the next line */
+    BAI2_FIELD_SPLIT_AMOUNT = 23,
+    BAI2_FIELD_PAIR_COUNT = 24,
+    BAI2_FIELD_DAYS = 25,
+    BAI2_FIELD_DAY_AMOUNT = 26,
+    BAI2_FIELD_TOTAL = 27,
+    BAI2_FIELD_COUNT = 28,   /* 98: of accounts; 99: of groups */
+    BAI2_FIELD_RECORDS = 29, /* 49, 98, 99: of lines */
+    BAI2_FIELD_NOTHING = 30  /* a field that must be empty, as the item count of a status */
+};
+
+/* How many fields there are. */
+typedef struct {
+    uint64_t number, place, count;
+} bai2_fields;
+
+/* The fields of the record that begins at byte `start`, in their order: for each its kind (enum
+   bai2_kind), the place of its first byte in the file, and its length, three numbers a field, into
+   `out`, which has room for `out_length` numbers. Refused as bai2_record_at, then as the reader refuses
+   the fields of a record (BAI2_LINE_BADLY_ENDED, BAI2_WRONG_FIELD, BAI2_WRONG_VERSION, the place in the
+   file), then by BAI2_NO_ROOM (place 0) where `out` has less than three numbers a field. Three numbers
+   for each byte of the record are always room enough. */
+bai2_fields bai2_fields_at(const uint8_t *file, size_t file_length, uint64_t start,
+                           uint64_t *out, size_t out_length);
 
 /* ---- Splitting and combining ---- */
 

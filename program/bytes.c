@@ -6,7 +6,11 @@
 
 #include "message.h"
 
-enum { ESCAPED = 4 }; /* cells of a byte shown as \x09 */
+enum {
+    ESCAPED = 4, /* cells of a byte shown as \x09 */
+    FIRST_ROOM = 256,
+    GROWTH = 4
+};
 
 /* The part of a slice that has `length` bytes from `start` on, as far as the slice reaches. */
 slice part_of(slice whole, size_t start, size_t length)
@@ -15,14 +19,6 @@ slice part_of(slice whole, size_t start, size_t length)
         return (slice){whole.bytes, 0};
     size_t left = whole.length - start;
     return (slice){whole.bytes + start, length < left ? length : left};
-}
-
-/* The slice without its trailing blanks. */
-slice trimmed(slice s)
-{
-    while (s.length > 0 && s.bytes[s.length - 1] == ' ')
-        s.length--;
-    return s;
 }
 
 /* Whether the slice is exactly that text. */
@@ -127,4 +123,15 @@ void *room_for(size_t count, size_t size)
     if (room == NULL)
         out_of_memory();
     return room;
+}
+
+/* The memory with what it holds, but room for several times as many of that size; ends the program
+   where there is none. */
+void *larger(void *memory, size_t *room, size_t size)
+{
+    *room = *room == 0 ? FIRST_ROOM : *room * GROWTH;
+    void *grown = realloc(memory, *room * size);
+    if (grown == NULL)
+        out_of_memory();
+    return grown;
 }

@@ -21,7 +21,6 @@ typedef struct {
 } line;
 
 slice part_of(slice whole, size_t start, size_t length);
-slice trimmed(slice s);
 bool same_text(slice s, const char *text);
 bool contains(slice hay, slice needle);
 
@@ -35,5 +34,6 @@ void put_byte(FILE *to, uint8_t byte);
 void put_bytes(FILE *to, slice s);
 
 void *room_for(size_t count, size_t size);
+void *larger(void *memory, size_t *room, size_t size);
 
 #endif

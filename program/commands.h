@@ -6,11 +6,16 @@
 
 #include "status.h"
 
-/* A command's arguments: its operands in order, and the file of -o, NULL where there is none. */
+/* How show prints a file. */
+typedef enum { REPORT, AS_JSON, AS_CSV } output_format;
+
+/* A command's arguments: its operands in order, the file of -o, NULL where there is none, and the format
+   asked for. */
 typedef struct {
     char **operands;
     size_t count;
     const char *out;
+    output_format format;
 } arguments;
 
 int summary_command(const arguments *a);

@@ -19,19 +19,19 @@ typedef struct {
     const char *name;
     int (*run)(const arguments *a);
     size_t least, most;
-    bool writes; /* whether it takes -o */
+    enum { NO_OPTION, OUTPUT, FORMAT } takes; /* -o; --json or --csv */
     const char *operands, *purpose;
 } command;
 
 static const command commands[] = {
-    {"summary", summary_command, 1, 1, false, "FILE",
+    {"summary", summary_command, 1, 1, NO_OPTION, "FILE",
      "one line: ok and the figures, or refused NUMBER PLACE"},
-    {"show", show_command, 1, 1, false, "FILE", "groups, accounts and details in columns"},
-    {"screen", screen_command, 1, 1, false, "FILE", "the same as a tree to move about in"},
-    {"check", check_command, 1, (size_t)-1, false, "FILE..", "a line for each file"},
-    {"split", split_command, 2, 2, true, "[-o OUT] NAME FILE", "only the groups of one receiver"},
-    {"combine", combine_command, 2, 2, true, "[-o OUT] A B", "the groups of two files in one"},
-    {"explain", explain_command, 0, 1, false, "[NUMBER]", "what a refusal means, and what to do"},
+    {"show", show_command, 1, 1, FORMAT, "[--json|--csv] FILE", "groups, accounts and details in columns"},
+    {"screen", screen_command, 1, 1, NO_OPTION, "FILE", "the same as a tree to move about in"},
+    {"check", check_command, 1, (size_t)-1, NO_OPTION, "FILE..", "a line for each file"},
+    {"split", split_command, 2, 2, OUTPUT, "[-o OUT] NAME FILE", "only the groups of one receiver"},
+    {"combine", combine_command, 2, 2, OUTPUT, "[-o OUT] A B", "the groups of two files in one"},
+    {"explain", explain_command, 0, 1, NO_OPTION, "[NUMBER]", "what a refusal means, and what to do"},
 };
 enum { COMMANDS = sizeof commands / sizeof commands[0] };
 
@@ -41,11 +41,11 @@ static const struct option program_options[] = {
     {NULL, 0, NULL, 0},
 };
 
-/* A command's options; the first is for those that write. */
-static const struct option command_options[] = {
-    {"output", required_argument, NULL, 'o'},
-    {"help", no_argument, NULL, 'h'},
-    {NULL, 0, NULL, 0},
+/* The options of commands, by what they take. */
+static const struct option command_options[][4] = {
+    [NO_OPTION] = {{"help", no_argument, NULL, 'h'}},
+    [OUTPUT] = {{"output", required_argument, NULL, 'o'}, {"help", no_argument, NULL, 'h'}},
+    [FORMAT] = {{"json", no_argument, NULL, 'j'}, {"csv", no_argument, NULL, 'c'}, {"help", no_argument, NULL, 'h'}},
 };
 
 /* What a command's arguments ask for. */
@@ -58,7 +58,7 @@ static void put_usage(FILE *to)
 {
     fputs("usage: bai2 COMMAND ..\n", to);
     for (size_t i = 0; i < COMMANDS; i++)
-        fprintf(to, "  bai2 %-7s %-18s  %s\n", commands[i].name, commands[i].operands,
+        fprintf(to, "  bai2 %-7s %-19s  %s\n", commands[i].name, commands[i].operands,
                 commands[i].purpose);
     fputs("A FILE of - is standard input. A COMMAND with --help tells its options. Status: 0 accepted,\n"
           "1 refused or not readable, 2 wrong usage, 3 the answer can't be written or shown. See bai2(1).\n",
@@ -76,8 +76,11 @@ static void put_command_help(const command *c)
 {
     put_command_usage(stdout, c);
     printf("  %s\n", c->purpose);
-    if (c->writes)
+    if (c->takes == OUTPUT)
         puts("  -o OUT, --output=OUT  writes to the file OUT instead of standard output");
+    if (c->takes == FORMAT)
+        puts("  --json                a JSON object a line for each record and item, with all fields\n"
+             "  --csv                 the same as comma-separated values, for a spreadsheet");
     puts("  -h, --help            says how the command is used");
 }
 
@@ -89,23 +92,37 @@ static request take_rest(const command *c, int argc, char **argv, arguments *a)
     return a->count >= c->least && a->count <= c->most ? TO_RUN : NOT_UNDERSTOOD;
 }
 
+/* Notes the format asked for; tells and answers false where it was another one before. */
+static bool take_format(const command *c, arguments *a, output_format format)
+{
+    if (a->format != REPORT && a->format != format) {
+        complain("%s: --json and --csv exclude each other", c->name);
+        return false;
+    }
+    a->format = format;
+    return true;
+}
+
 /* Sorts a command's arguments, of which the first is its name, into options and operands. */
 static request sort_arguments(const command *c, int argc, char **argv, arguments *a)
 {
-    const char *letters = c->writes ? "-:ho:" : "-:h"; /* options may stand after operands */
-    const struct option *options = c->writes ? command_options : command_options + 1;
+    const char *letters = c->takes == OUTPUT ? "-:ho:" : "-:h"; /* options may stand after operands */
+    bool good = true;
     optind = 0; /* which has getopt_long begin anew */
-    for (;;) {
+    while (good) {
         const char *word = argv[optind == 0 ? 1 : optind];
-        switch (getopt_long(argc, argv, letters, options, NULL)) {
+        switch (getopt_long(argc, argv, letters, command_options[c->takes], NULL)) {
         case OPERAND: a->operands[a->count++] = optarg; break;
         case 'o': a->out = optarg; break;
+        case 'j': good = take_format(c, a, AS_JSON); break;
+        case 'c': good = take_format(c, a, AS_CSV); break;
         case 'h': return FOR_HELP;
         case -1: return take_rest(c, argc, argv, a);
         case ':': complain("%s: option %s needs a file", c->name, word); return NOT_UNDERSTOOD;
         default: complain("%s: unknown option %s", c->name, word); return NOT_UNDERSTOOD;
         }
     }
+    return NOT_UNDERSTOOD;
 }
 
 /* Runs a command with its arguments, of which the first is its name. */

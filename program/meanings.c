@@ -95,8 +95,8 @@ static const explanation explanations[REFUSALS + 1] = {
         "'bai2 show' lists the receivers."},
     [BAI2_NO_SUCH_PART] = {
         "no such group, account or detail",
-        "A program asked for a group, account or detail that the file does not have. They are "
-        "numbered from 0.",
+        "A program asked for a group, account or detail that the file does not have (they are numbered "
+        "from 0), or for a record at the file's end or after it.",
         "Ask for the numbers first: 'bai2 summary' prints how many there are."},
     [BAI2_RESULT_TOO_LONG] = {
         "the result is not a file that can be read",

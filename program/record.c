@@ -1,150 +1,109 @@
-/* The fields of a record, read for display (document 01, "Lines and records" and "Fields"). */
+/* What a record says, for display: its fields taken by their kinds. */
 #include "record.h"
 
 #include <string.h>
 
-#include "codes.h"
-
 enum { DIGITS = 18 };
 
-/* Sets the walk on the line that starts here, after its code; no more where there is none. */
-static void enter_line(fields *walk, size_t start)
+/* What a 01 says. */
+file_header file_header_of(const fields *f)
 {
-    line l = line_at(walk->record, start);
-    size_t left = l.end - l.start;
-    walk->at = l.start + (left < AFTER_CODE ? left : AFTER_CODE);
-    walk->line_end = l.end;
-    walk->next = l.next;
-    walk->more = start < walk->record.length;
+    return (file_header){
+        .sender = field_of_kind(f, BAI2_FIELD_NAME, 0),
+        .receiver = field_of_kind(f, BAI2_FIELD_NAME, 1),
+        .date = field_of_kind(f, BAI2_FIELD_DATE, 0),
+        .time = field_of_kind(f, BAI2_FIELD_TIME, 0),
+        .number = field_of_kind(f, BAI2_FIELD_FILE_NUMBER, 0),
+    };
 }
 
-/* The walk over a record's fields, before the first one. */
-static fields walk_of(slice record)
+/* What a 02 says. */
+group_header group_header_of(const fields *f)
 {
-    fields walk = {.record = record};
-    enter_line(&walk, 0);
-    return walk;
+    return (group_header){
+        .receiver = field_of_kind(f, BAI2_FIELD_ULTIMATE_RECEIVER, 0),
+        .originator = field_of_kind(f, BAI2_FIELD_NAME, 0),
+        .status = field_of_kind(f, BAI2_FIELD_GROUP_STATUS, 0),
+        .date = field_of_kind(f, BAI2_FIELD_DATE, 0),
+        .time = field_of_kind(f, BAI2_FIELD_TIME_OR_NONE, 0),
+        .currency = field_of_kind(f, BAI2_FIELD_CURRENCY, 0),
+        .modifier = field_of_kind(f, BAI2_FIELD_MODIFIER, 0),
+    };
 }
 
-/* The next field; the walk moves past it. Empty where there is no more. */
-static slice next_field(fields *walk)
+/* What a 03 says beside its items. */
+account_header account_header_of(const fields *f)
 {
-    if (!walk->more)
-        return part_of(walk->record, 0, 0);
-    const uint8_t *bytes = walk->record.bytes;
-    size_t start = walk->at, end = start;
-    while (end < walk->line_end && bytes[end] != ',' && bytes[end] != '/')
-        end++;
-    if (end < walk->line_end && bytes[end] == ',')
-        walk->at = end + 1;
-    else
-        enter_line(walk, walk->next);
-    return (slice){bytes + start, end - start};
+    return (account_header){
+        .number = field_of_kind(f, BAI2_FIELD_NAME, 0),
+        .currency = field_of_kind(f, BAI2_FIELD_CURRENCY, 0),
+    };
 }
 
-/* The funds that come next; the walk moves past their values. */
-static funds next_funds(fields *walk)
+/* What a 49, 98 or 99 says. */
+trailer trailer_of(const fields *f)
 {
-    funds f = {.kind = next_field(walk)};
-    uint64_t values = 0;
-    if (same_text(f.kind, "V"))
-        values = 2;
-    if (same_text(f.kind, "S"))
-        values = f.parts = 3;
-    if (same_text(f.kind, "D")) {
-        f.parts = number_of(next_field(walk));
-        values = 2 * f.parts;
+    return (trailer){
+        .total = field_of_kind(f, BAI2_FIELD_TOTAL, 0),
+        .count = field_of_kind(f, BAI2_FIELD_COUNT, 0),
+        .records = field_of_kind(f, BAI2_FIELD_RECORDS, 0),
+    };
+}
+
+/* Whether a field of this kind is the type that an item or a detail begins with. */
+static bool is_type(uint64_t kind)
+{
+    return kind == BAI2_FIELD_TYPE || kind == BAI2_FIELD_FURTHER_TYPE || kind == BAI2_FIELD_DETAIL_TYPE;
+}
+
+/* Whether a field of this kind is a piece of text. */
+static bool is_text(uint64_t kind)
+{
+    return kind == BAI2_FIELD_TEXT || kind == BAI2_FIELD_FURTHER_TEXT;
+}
+
+/* Takes one more field of an item or a detail in. */
+static void take_field(entry *e, const fields *f, size_t i)
+{
+    slice bytes = field_at(f, i);
+    switch (kind_at(f, i)) {
+    case BAI2_FIELD_AMOUNT: case BAI2_FIELD_STATUS_AMOUNT: e->amount = bytes; break;
+    case BAI2_FIELD_ITEM_COUNT: e->count = bytes; break;
+    case BAI2_FIELD_FUNDS: e->funds.kind = bytes; break;
+    case BAI2_FIELD_DATE: e->funds.date = bytes; break;
+    case BAI2_FIELD_TIME_OR_NONE: e->funds.time = bytes; break;
+    case BAI2_FIELD_SPLIT_AMOUNT: case BAI2_FIELD_DAYS:
+        if (e->funds.parts++ == 0)
+            e->funds.first = i;
+        break;
+    case BAI2_FIELD_REFERENCE:
+        if (kind_at(f, i + 1) == BAI2_FIELD_REFERENCE) /* of the two, the bank's is the first */
+            e->bank_reference = bytes;
+        else
+            e->customer_reference = bytes;
+        break;
+    default: break;
     }
-    f.values = *walk;
-    for (uint64_t i = 0; i < values && walk->more; i++)
-        next_field(walk);
-    return f;
 }
 
-/* The fields of a 01. */
-file_header read_file_header(slice record)
+/* The next item or detail from this field on, which moves past it, up to its text. False where there
+   is no more, or only the item that is all empty. */
+bool next_entry(const fields *f, size_t *at, entry *found)
 {
-    fields walk = walk_of(record);
-    file_header h;
-    h.sender = next_field(&walk);
-    h.receiver = next_field(&walk);
-    h.date = next_field(&walk);
-    h.time = next_field(&walk);
-    h.number = next_field(&walk);
-    return h;
-}
-
-/* The fields of a 02. */
-group_header read_group_header(slice record)
-{
-    fields walk = walk_of(record);
-    group_header h;
-    h.receiver = next_field(&walk);
-    h.originator = next_field(&walk);
-    h.status = next_field(&walk);
-    h.date = next_field(&walk);
-    h.time = next_field(&walk);
-    h.currency = next_field(&walk);
-    h.modifier = next_field(&walk);
-    return h;
-}
-
-/* The fields of a 03, up to its items. */
-account_header read_account_header(slice record)
-{
-    fields walk = walk_of(record);
-    account_header h;
-    h.number = next_field(&walk);
-    h.currency = next_field(&walk);
-    h.items = walk;
-    return h;
-}
-
-/* The next item of a 03; false where there is no more, or only the one that is all empty. */
-bool next_item(fields *walk, item *found)
-{
-    if (!walk->more)
-        return false;
-    found->type = next_field(walk);
-    found->amount = next_field(walk);
-    found->count = next_field(walk);
-    found->funds = next_funds(walk);
+    slice none = part_of(f->file, 0, 0);
+    while (*at < f->count && !is_type(kind_at(f, *at)))
+        ++*at;
+    *found = (entry){*at, field_at(f, *at), none, none, {none, none, none, 0, 0}, none, none};
+    while (++*at < f->count && !is_type(kind_at(f, *at)) && !is_text(kind_at(f, *at)))
+        take_field(found, f, *at);
     return found->type.length > 0;
 }
 
-/* The fields of a 16, up to its text. */
-detail read_detail(slice record)
+/* The piece of text that this field is, which moves past it; false, and empty, where it is none. */
+bool next_piece(const fields *f, size_t *at, slice *piece)
 {
-    fields walk = walk_of(record);
-    detail d;
-    d.type = next_field(&walk);
-    d.amount = next_field(&walk);
-    d.funds = next_funds(&walk);
-    d.bank_reference = next_field(&walk);
-    d.customer_reference = next_field(&walk);
-    d.text = walk;
-    return d;
-}
-
-/* The next piece of a 16's text; false where there is no more. A slash alone means no text. */
-bool next_piece(fields *walk, slice *piece)
-{
-    if (!walk->more)
-        return false;
-    *piece = trimmed(part_of(walk->record, walk->at, walk->line_end - walk->at));
-    enter_line(walk, walk->next);
-    return piece->length > 0 && !same_text(*piece, "/");
-}
-
-/* The fields of a 49, 98 or 99. */
-trailer read_trailer(slice record)
-{
-    fields walk = walk_of(record);
-    trailer t = {.total = next_field(&walk), .count = part_of(record, 0, 0)};
-    if (code_at(record, 0) != ACCOUNT_TRAILER)
-        t.count = next_field(&walk);
-    t.records = next_field(&walk);
-    return t;
+    *piece = is_text(kind_at(f, *at)) ? field_at(f, (*at)++) : part_of(f->file, 0, 0);
+    return piece->length > 0;
 }
 
 /* The amount without its sign and leading zeros; "0" keeps its digit. */
@@ -198,35 +157,31 @@ const char *put_day(char room[DAY_ROOM], slice date, slice time)
 }
 
 /* Funds as they are shown: their kind, with the value date where they have one. */
-const char *put_funds(char room[FUNDS_ROOM], const funds *f)
+const char *put_funds(char room[FUNDS_ROOM], const funds *u)
 {
-    char day[DAY_ROOM] = "";
-    fields values = f->values;
-    if (same_text(f->kind, "V")) {
-        slice date = next_field(&values);
-        put_day(day, date, next_field(&values));
-    }
-    snprintf(room, FUNDS_ROOM, "%.*s%s%s", SLICE(part_of(f->kind, 0, 1)), *day == '\0' ? "" : " ", day);
+    char day[DAY_ROOM];
+    put_day(day, u->date, u->time);
+    snprintf(room, FUNDS_ROOM, "%.*s%s%s", SLICE(part_of(u->kind, 0, 1)), *day == '\0' ? "" : " ", day);
     return room;
 }
 
-/* The next amount where funds come at several times (S and D), and when it comes; false where there
-   is no more. */
-bool next_funds_part(char room[FUNDS_ROOM], funds *f)
+/* One of the amounts where funds come at several times (S and D), from 0, and when it comes; false
+   where there is no such one. */
+bool put_funds_part(char room[FUNDS_ROOM], const fields *f, const funds *u, size_t part)
 {
     static const char *const when[] = {"at once", "in one day", "in two days or later"};
     char amount[AMOUNT_ROOM];
-    if (f->taken >= f->parts || !f->values.more)
+    if (part >= u->parts)
         return false;
-    if (same_text(f->kind, "S")) {
-        put_amount(amount, next_field(&f->values));
-        snprintf(room, FUNDS_ROOM, "%s: %s", when[f->taken], *amount == '\0' ? "not given" : amount);
+    if (kind_at(f, u->first) == BAI2_FIELD_SPLIT_AMOUNT) {
+        put_amount(amount, field_at(f, u->first + part));
+        snprintf(room, FUNDS_ROOM, "%s: %s", when[part], *amount == '\0' ? "not given" : amount);
     } else {
-        unsigned days = (unsigned)number_of(next_field(&f->values));
-        put_amount(amount, next_field(&f->values));
+        size_t pair = u->first + 2 * part; /* days and amount */
+        unsigned days = (unsigned)number_of(field_at(f, pair));
+        put_amount(amount, field_at(f, pair + 1));
         snprintf(room, FUNDS_ROOM, "in %u day%s: %s", days, days == 1 ? "" : "s", amount);
     }
-    f->taken++;
     return true;
 }
 

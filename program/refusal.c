@@ -4,8 +4,8 @@
 #include <inttypes.h>
 #include <string.h>
 
-#include "codes.h"
 #include "message.h"
+#include "refused_record.h"
 
 enum {
     TEXT_COLUMNS = 78,
@@ -77,42 +77,21 @@ static void put_line_and_caret(FILE *to, slice file, size_t place)
     put_caret(to, file, e, place);
 }
 
-/* The code of the record that a trailer of this code closes; NO_CODE for any other record. */
-static record_code opening_code(record_code trailer)
-{
-    if (trailer == ACCOUNT_TRAILER)
-        return ACCOUNT_HEADER;
-    return trailer == GROUP_TRAILER ? GROUP_HEADER : NO_CODE;
-}
-
-/* Where the record starts that this line's trailer closes; the line itself where it is none. */
-static size_t opening_of(slice file, line l)
-{
-    record_code opening = opening_code(code_at(file, l.start));
-    for (line before = l; opening != NO_CODE && before.start > 0;) {
-        before = line_of(file, before.start - 1);
-        if (code_at(file, before.start) == opening)
-            return before.start;
-    }
-    return l.start;
-}
-
-/* Where the line starts that is shown before the refused one, to tell what it is about: what a
-   wrong trailer closes, the last line where the file ends too early; else the refused line. */
-static size_t context_of(slice file, uint64_t number, line l)
+/* A byte of the line that is shown before the refused one, to tell what it is about: the start of what
+   a wrong trailer closes, the last line where the file ends too early; else the refused byte. */
+static size_t context_of(slice file, uint64_t number, size_t place)
 {
     if (number >= BAI2_WRONG_TOTAL && number <= BAI2_SUM_TOO_LARGE)
-        return opening_of(file, l);
-    if (l.start > 0 && l.start == file.length)
-        return line_of(file, l.start - 1).start;
-    return l.start;
+        return opening_of(file, place);
+    size_t start = line_of(file, place).start;
+    return start > 0 && start == file.length ? start - 1 : place;
 }
 
 /* Writes the line that is shown before the refused one, where there is such a line. */
 static void put_context(FILE *to, slice file, uint64_t number, size_t place)
 {
     line refused = line_of(file, place);
-    line l = line_at(file, context_of(file, number, refused));
+    line l = line_of(file, context_of(file, number, place));
     if (l.start == refused.start)
         return;
     bool cut = l.end - l.start > LONGEST_CONTEXT;
@@ -149,6 +128,13 @@ void tell_refusal_without_place(FILE *to, const char *name, uint64_t number)
     put_meaning(to, number);
 }
 
+/* Writes which byte of the file is refused, and what stands there where that is known. */
+static void put_place(FILE *to, slice file, uint64_t number, size_t place)
+{
+    const char *what = place == file.length ? "the file ends here" : refused_field(file, number, place);
+    fprintf(to, "\n  Byte %zu of the file, counted from 0%s%s.\n", place, *what == '\0' ? "" : ": ", what);
+}
+
 /* Tells a refusal in full: number, line and column, the line with its caret, and the meaning. */
 void tell_refusal(FILE *to, const char *name, slice file, uint64_t number, uint64_t place)
 {
@@ -163,7 +149,6 @@ void tell_refusal(FILE *to, const char *name, slice file, uint64_t number, uint6
     fputc('\n', to);
     put_context(to, file, number, at);
     put_line_and_caret(to, file, at);
-    fprintf(to, "\n  Byte %zu of the file, counted from 0%s.\n", at,
-            at == file.length ? ": the file ends here" : "");
+    put_place(to, file, number, at);
     put_meaning(to, number);
 }

@@ -5,6 +5,7 @@
 
 #include "escapes.h"
 #include "refusal.h"
+#include "refused_record.h"
 #include "screen.h"
 
 enum {
@@ -12,8 +13,13 @@ enum {
     SIDE_STEP = 16,  /* how far left and right move */
     MEANING_ROWS = 7,
     LEAST_ROWS = 14, /* a lower canvas shows no meaning */
-    CARET_CELLS = 4  /* of the refused byte where it is escaped */
+    CARET_CELLS = 4, /* of the refused byte where it is escaped */
+    WORDS_ROOM = 64
 };
+
+/* A format: goes to the row, from 1, and wipes it. Not after it is drawn: a cursor that has passed the
+   last cell still stands on it. */
+#define EMPTY_ROW GO_TO_ROW PLAIN_LOOK WIPE_REST_OF_ROW
 
 /* How many rows are left for the file's lines. */
 static size_t body_rows(const canvas *c)
@@ -89,18 +95,20 @@ static void draw_line_bytes(const refusal_screen *s, const canvas *c, line l)
         put_byte(c->to, s->file.bytes[i]);
         fputs(refused ? PLAIN_LOOK : "", c->to);
     }
-    fputs(WIPE_REST_OF_ROW, c->to);
 }
 
-/* Draws the caret under the refused byte, where the byte is on the canvas. */
+/* Draws the caret under the refused byte, where the byte is on the canvas, and the field in words as
+   far as the row reaches. */
 static void draw_caret(const refusal_screen *s, const canvas *c, size_t row, line l)
 {
     size_t cells = 0, from = l.start + s->left;
     for (size_t i = from; i < s->place && i < l.end; i++)
         cells += cells_of(s->file.bytes[i]);
     bool seen = s->place >= from && cells < body_columns(c);
-    fprintf(c->to, GO_TO_ROW PLAIN_LOOK "%7s | %*s%s" WIPE_REST_OF_ROW, row + 1, "",
-            seen ? (int)cells : 0, "", seen ? "^" : "");
+    char words[WORDS_ROOM];
+    snprintf(words, sizeof words, "^%s%s", *s->field == '\0' ? "" : " ", s->field);
+    fprintf(c->to, EMPTY_ROW "%7s | %*s%.*s", row + 1, "",
+            seen ? (int)cells : 0, "", seen ? (int)(body_columns(c) - cells) : 0, words);
 }
 
 /* Draws the file's lines from the first one on the canvas on. */
@@ -110,11 +118,9 @@ static void draw_lines(const refusal_screen *s, const canvas *c)
     bool awaited = stands_in_file(s->number); /* whether the refused line is still to come */
     size_t refused = line_of(s->file, s->place).start;
     for (size_t row = 1; row <= body_rows(c); row++) {
-        fprintf(c->to, GO_TO_ROW PLAIN_LOOK, row + 1);
-        if (at == s->file.length && !(awaited && at == refused)) {
-            fputs(WIPE_REST_OF_ROW, c->to);
+        fprintf(c->to, EMPTY_ROW, row + 1);
+        if (at == s->file.length && !(awaited && at == refused))
             continue;
-        }
         line l = line_at(s->file, at);
         fprintf(c->to, "%7zu | ", number++);
         draw_line_bytes(s, c, l);
@@ -216,7 +222,8 @@ static bool find_in_lines(void *state, slice needle)
 /* The view of a refused file. */
 view open_refusal_view(refusal_screen *s, const char *name, slice file, uint64_t number, uint64_t place)
 {
-    *s = (refusal_screen){.name = name, .file = file, .number = number, .place = (size_t)place};
+    *s = (refusal_screen){.name = name, .file = file, .number = number, .place = (size_t)place,
+                          .field = refused_field(file, number, (size_t)place)};
     return (view){s, "Arrows, j k: move  Enter: to the byte  /: search  n: next  g G: ends  q: leave",
                   draw_refusal, press_refusal, find_in_lines};
 }

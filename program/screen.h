@@ -18,6 +18,7 @@ typedef struct {
     slice file;
     uint64_t number;
     size_t place;
+    const char *field; /* the refused field in words, nothing where it is not known */
     size_t top;   /* where the first line on the canvas starts */
     size_t left;  /* how many bytes of each line are left of the canvas */
 } refusal_screen;

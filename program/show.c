@@ -44,25 +44,16 @@ static void set_amount(row *r, slice amount)
     r->cells[AMOUNT] = slice_of(put_amount(r->amount, amount));
 }
 
-/* The cells of an item's row. */
-static void item_row(row *r, const item *i)
+/* The cells of an item's or a detail's row, with this piece of text. */
+static void entry_row(row *r, const entry *e, slice piece)
 {
     *r = (row){0};
-    set_amount(r, i->amount);
-    r->cells[COUNT] = slice_of(put_amount(r->count, i->count));
-    r->cells[FUNDS] = slice_of(put_funds(r->funds, &i->funds));
-}
-
-/* The cells of a detail's row; the first piece of text is taken from its walk. */
-static void detail_row(row *r, detail *d)
-{
-    *r = (row){0};
-    set_amount(r, d->amount);
-    r->cells[FUNDS] = slice_of(put_funds(r->funds, &d->funds));
-    r->cells[BANK_REFERENCE] = d->bank_reference;
-    r->cells[CUSTOMER_REFERENCE] = d->customer_reference;
-    if (!next_piece(&d->text, &r->cells[TEXT]))
-        r->cells[TEXT].length = 0;
+    set_amount(r, e->amount);
+    r->cells[COUNT] = slice_of(put_amount(r->count, e->count));
+    r->cells[FUNDS] = slice_of(put_funds(r->funds, &e->funds));
+    r->cells[BANK_REFERENCE] = e->bank_reference;
+    r->cells[CUSTOMER_REFERENCE] = e->customer_reference;
+    r->cells[TEXT] = piece;
 }
 
 /* Widens the columns so that a row fits; a column that has something is as wide as its name. */
@@ -78,53 +69,47 @@ static void widen(layout *l, const row *r)
     }
 }
 
-/* Widens the columns for an account's items. */
-static void measure_items(layout *l, slice bytes)
+/* Widens the columns for the record's items, or its detail with the first piece of its text. */
+static void measure_entries(layout *l, const fields *f)
 {
-    account_header h = read_account_header(bytes);
     row r;
-    for (item i; next_item(&h.items, &i);) {
-        item_row(&r, &i);
+    slice piece;
+    size_t at = 0;
+    for (entry e; next_entry(f, &at, &e);) {
+        next_piece(f, &at, &piece);
+        entry_row(&r, &e, piece);
         widen(l, &r);
     }
 }
 
-/* Widens the columns for a detail. */
-static void measure_detail(layout *l, slice bytes)
-{
-    detail d = read_detail(bytes);
-    row r;
-    detail_row(&r, &d);
-    widen(l, &r);
-}
-
 /* Widens the columns for a trailer's total. */
-static void measure_trailer(layout *l, slice bytes)
+static void measure_trailer(layout *l, const fields *f)
 {
     row r = {0};
-    set_amount(&r, read_trailer(bytes).total);
+    set_amount(&r, trailer_of(f).total);
     widen(l, &r);
 }
 
 /* Widens the columns for all rows of one record. */
-static void measure_record(layout *l, record_code code, slice bytes)
+static void measure_record(layout *l, record_code code, const fields *f)
 {
     switch (code) {
-    case ACCOUNT_HEADER: measure_items(l, bytes); break;
-    case DETAIL: measure_detail(l, bytes); break;
-    case ACCOUNT_TRAILER: case GROUP_TRAILER: case FILE_TRAILER: measure_trailer(l, bytes); break;
+    case ACCOUNT_HEADER: case DETAIL: measure_entries(l, f); break;
+    case ACCOUNT_TRAILER: case GROUP_TRAILER: case FILE_TRAILER: measure_trailer(l, f); break;
     default: break;
     }
 }
 
 /* The layout that fits the whole file. */
-static layout layout_for(FILE *to, const outline *o)
+static layout layout_for(FILE *to, const outline *o, fields *f)
 {
     layout l = {.to = to};
     int label = snprintf(NULL, 0, "  group %" PRIu64 " total", o->summary.groups);
     l.label = label > LEAST_LABEL ? (size_t)label : LEAST_LABEL;
-    for (size_t i = 0; i < o->count; i++)
-        measure_record(&l, o->records[i].code, bytes_of(o, i));
+    for (size_t i = 0; i < o->count; i++) {
+        read_fields(f, o->records[i].start);
+        measure_record(&l, o->records[i].code, f);
+    }
     return l;
 }
 
@@ -168,10 +153,10 @@ static void put_cell_row(const layout *l, column c, slice cell)
 }
 
 /* Writes the amounts of funds that come at several times, a row each. */
-static void put_funds_rows(const layout *l, funds *f)
+static void put_funds_rows(const layout *l, const fields *f, const funds *u)
 {
     char words[FUNDS_ROOM];
-    while (next_funds_part(words, f))
+    for (size_t part = 0; put_funds_part(words, f, u, part); part++)
         put_cell_row(l, FUNDS, slice_of(words));
 }
 
@@ -183,51 +168,50 @@ static void put_typed_row(const layout *l, slice type, const row *r)
     put_row(l, slice_of(label), r);
 }
 
-/* Writes an account's header line, and the columns' names and its items where it has any rows. */
-static void put_account(const layout *l, slice bytes, bool has_details)
+/* Writes the record's items, or its detail: for each its row, further pieces of its text, and its
+   funds' amounts. */
+static void put_entries(const layout *l, const fields *f)
 {
-    account_header h = read_account_header(bytes);
     row r;
+    slice piece;
+    size_t at = 0;
+    for (entry e; next_entry(f, &at, &e);) {
+        next_piece(f, &at, &piece);
+        entry_row(&r, &e, piece);
+        put_typed_row(l, e.type, &r);
+        while (next_piece(f, &at, &piece))
+            put_cell_row(l, TEXT, piece);
+        put_funds_rows(l, f, &e.funds);
+    }
+}
+
+/* Writes an account's header line, and the columns' names and its items where it has any rows. */
+static void put_account(const layout *l, const fields *f, bool has_details)
+{
+    account_header h = account_header_of(f);
+    entry first;
     fprintf(l->to, "\n  Account %.*s", SLICE(h.number));
     if (h.currency.length > 0)
         fprintf(l->to, "  %.*s", SLICE(h.currency));
     fputc('\n', l->to);
-    fields items = h.items;
-    item i;
-    if (has_details || next_item(&items, &i))
+    if (has_details || next_entry(f, &(size_t){0}, &first))
         put_names(l);
-    while (next_item(&h.items, &i)) {
-        item_row(&r, &i);
-        put_typed_row(l, i.type, &r);
-        put_funds_rows(l, &i.funds);
-    }
-}
-
-/* Writes a detail: its row, further pieces of text, and its funds' values. */
-static void put_detail(const layout *l, slice bytes)
-{
-    detail d = read_detail(bytes);
-    row r;
-    detail_row(&r, &d);
-    put_typed_row(l, d.type, &r);
-    for (slice piece; next_piece(&d.text, &piece);)
-        put_cell_row(l, TEXT, piece);
-    put_funds_rows(l, &d.funds);
+    put_entries(l, f);
 }
 
 /* Writes the file's header. */
-static void put_file_header(FILE *to, slice bytes)
+static void put_file_header(FILE *to, const fields *f)
 {
-    file_header h = read_file_header(bytes);
+    file_header h = file_header_of(f);
     char day[DAY_ROOM];
     fprintf(to, "File number %.*s  from %.*s  to %.*s  %s\n", SLICE(h.number), SLICE(h.sender),
             SLICE(h.receiver), put_day(day, h.date, h.time));
 }
 
 /* Writes a group's header. */
-static void put_group(FILE *to, uint64_t number, slice bytes)
+static void put_group(FILE *to, uint64_t number, const fields *f)
 {
-    group_header h = read_group_header(bytes);
+    group_header h = group_header_of(f);
     char day[DAY_ROOM];
     const char *modifier = modifier_in_words(h.modifier);
     fprintf(to, "\nGroup %" PRIu64 "  receiver ", number);
@@ -260,17 +244,17 @@ static void put_records(const layout *l, uint64_t records)
 }
 
 /* Writes the total of an account. */
-static void put_account_total(const layout *l, slice bytes, uint64_t details)
+static void put_account_total(const layout *l, const fields *f, uint64_t details)
 {
-    trailer t = read_trailer(bytes);
+    trailer t = trailer_of(f);
     put_total(l, "    total", units_of(t.total), details, "detail");
     put_records(l, number_of(t.records));
 }
 
 /* Writes the total of a group. */
-static void put_group_total(const layout *l, slice bytes, uint64_t number)
+static void put_group_total(const layout *l, const fields *f, uint64_t number)
 {
-    trailer t = read_trailer(bytes);
+    trailer t = trailer_of(f);
     char label[LABEL_ROOM];
     snprintf(label, sizeof label, "  group %" PRIu64 " total", number);
     fputc('\n', l->to);
@@ -289,22 +273,24 @@ static void put_file_total(const layout *l, bai2_summary s)
 /* Writes the report of an accepted file. */
 void put_report(FILE *to, const outline *o)
 {
-    layout l = layout_for(to, o);
+    fields f = {.file = o->file};
+    layout l = layout_for(to, o, &f);
     uint64_t group = 0, details = 0;
     for (size_t i = 0; i < o->count && !ferror(to); i++) {
-        slice bytes = bytes_of(o, i);
+        read_fields(&f, o->records[i].start);
         switch (o->records[i].code) {
-        case FILE_HEADER: put_file_header(to, bytes); break;
-        case GROUP_HEADER: put_group(to, ++group, bytes); break;
+        case FILE_HEADER: put_file_header(to, &f); break;
+        case GROUP_HEADER: put_group(to, ++group, &f); break;
         case ACCOUNT_HEADER:
-            put_account(&l, bytes, o->records[i + 1].code == DETAIL);
+            put_account(&l, &f, o->records[i + 1].code == DETAIL);
             details = 0;
             break;
-        case DETAIL: put_detail(&l, bytes); details++; break;
-        case ACCOUNT_TRAILER: put_account_total(&l, bytes, details); break;
-        case GROUP_TRAILER: put_group_total(&l, bytes, group); break;
+        case DETAIL: put_entries(&l, &f); details++; break;
+        case ACCOUNT_TRAILER: put_account_total(&l, &f, details); break;
+        case GROUP_TRAILER: put_group_total(&l, &f, group); break;
         case FILE_TRAILER: put_file_total(&l, o->summary); break;
         default: break;
         }
     }
+    drop_fields(&f);
 }

@@ -3,15 +3,24 @@
 
 #include <stdlib.h>
 
-#include "message.h"
 #include "record.h"
 
-enum { FIRST_ROOM = 256, LEAST_TEXT_WIDTH = 8 };
+enum { LEAST_TEXT_WIDTH = 8, LONG_RECORD = 65536 /* bytes */ };
+
+/* The fields of a record, until another one's are asked for. Those of a long record outlast short ones,
+   so that they are not read anew for each row. */
+const fields *fields_of(tree *t, size_t record)
+{
+    const found_record *r = &t->outline->records[record];
+    fields *f = r->length < LONG_RECORD ? &t->few : &t->many;
+    read_fields(f, r->start);
+    return f;
+}
 
 /* A tree with everything closed, except that a single group stands open. */
 void make_tree(tree *t, const outline *o, size_t text_width)
 {
-    *t = (tree){.outline = o, .text_width = text_width};
+    *t = (tree){.outline = o, .few.file = o->file, .many.file = o->file, .text_width = text_width};
     t->open = room_for(o->count, sizeof *t->open);
     if (o->summary.groups == 1)
         t->open[1] = true;
@@ -21,6 +30,8 @@ void make_tree(tree *t, const outline *o, size_t text_width)
 /* Gives the tree's memory back. */
 void drop_tree(tree *t)
 {
+    drop_fields(&t->few);
+    drop_fields(&t->many);
     free(t->open);
     free(t->rows);
     *t = (tree){0};
@@ -29,13 +40,8 @@ void drop_tree(tree *t)
 /* Adds one row. */
 static void add_row(tree *t, tree_row row)
 {
-    if (t->count == t->room) {
-        t->room = t->room == 0 ? FIRST_ROOM : t->room * 2;
-        tree_row *larger = realloc(t->rows, t->room * sizeof *t->rows);
-        if (larger == NULL)
-            out_of_memory();
-        t->rows = larger;
-    }
+    if (t->count == t->room)
+        t->rows = larger(t->rows, &t->room, sizeof *t->rows);
     t->rows[t->count++] = row;
 }
 
@@ -47,22 +53,26 @@ static tree_row row_about(const tree *t, row_kind kind, size_t record, slice byt
 }
 
 /* Adds the rows about funds: their kind, and each amount where they come at several times. */
-static void add_funds_rows(tree *t, size_t record, const funds *f)
+static void add_funds_rows(tree *t, size_t record, const funds *u)
 {
-    tree_row row = row_about(t, FUNDS_ROW, record, f->kind);
-    if (f->kind.length > 0)
+    tree_row row = row_about(t, FUNDS_ROW, record, u->kind);
+    if (u->kind.length > 0)
         add_row(t, row);
     row.kind = FUNDS_PART_ROW;
-    for (; row.number < f->parts; row.number++)
+    for (; row.number < u->parts; row.number++)
         add_row(t, row);
 }
 
 /* Adds the rows of an account's items. */
 static void add_item_rows(tree *t, size_t record)
 {
-    account_header h = read_account_header(bytes_of(t->outline, record));
-    for (item i; next_item(&h.items, &i);)
-        add_row(t, row_about(t, ITEM_ROW, record, i.type));
+    const fields *f = fields_of(t, record);
+    size_t at = 0;
+    for (entry e; next_entry(f, &at, &e);) {
+        tree_row row = row_about(t, ITEM_ROW, record, e.type);
+        row.number = (uint32_t)e.start;
+        add_row(t, row);
+    }
 }
 
 /* Adds a row about a field, unless the field is empty. */
@@ -83,11 +93,14 @@ static void add_text_rows(tree *t, size_t record, slice piece)
 /* Adds the rows below a detail: its references, what its funds say, its whole text. */
 static void add_detail_rows(tree *t, size_t record)
 {
-    detail d = read_detail(bytes_of(t->outline, record));
-    add_field_row(t, BANK_REFERENCE_ROW, record, d.bank_reference);
-    add_field_row(t, CUSTOMER_REFERENCE_ROW, record, d.customer_reference);
-    add_funds_rows(t, record, &d.funds);
-    for (slice piece; next_piece(&d.text, &piece);)
+    const fields *f = fields_of(t, record);
+    entry e;
+    size_t at = 0;
+    next_entry(f, &at, &e);
+    add_field_row(t, BANK_REFERENCE_ROW, record, e.bank_reference);
+    add_field_row(t, CUSTOMER_REFERENCE_ROW, record, e.customer_reference);
+    add_funds_rows(t, record, &e.funds);
+    for (slice piece; next_piece(f, &at, &piece);)
         add_text_rows(t, record, piece);
 }
 

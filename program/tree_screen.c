@@ -19,9 +19,9 @@ static size_t body_rows(const canvas *c)
 }
 
 /* Words for a group's row. */
-static void put_group_label(char *label, const tree_row *row, slice bytes)
+static void put_group_label(char *label, const tree_row *row, const fields *f)
 {
-    group_header h = read_group_header(bytes);
+    group_header h = group_header_of(f);
     char day[DAY_ROOM];
     if (h.receiver.length == 0)
         h.receiver = (slice){(const uint8_t *)"(none)", 6};
@@ -30,106 +30,97 @@ static void put_group_label(char *label, const tree_row *row, slice bytes)
 }
 
 /* Words for an account's row. */
-static void put_account_label(char *label, slice bytes)
+static void put_account_label(char *label, const fields *f)
 {
-    account_header h = read_account_header(bytes);
+    account_header h = account_header_of(f);
     snprintf(label, LABEL_ROOM, "Account %.*s  %.*s", SLICE(h.number), SLICE(h.currency));
 }
 
-/* Words for a detail's row: its type, and its text or else a reference. */
-static void put_detail_label(char *label, slice bytes)
+/* Words and amount for a detail's row: its type, and its text or else a reference. */
+static void put_detail_label(char *label, char amount[AMOUNT_ROOM], const fields *f)
 {
-    detail d = read_detail(bytes);
+    entry e;
     slice words;
-    if (!next_piece(&d.text, &words))
-        words = d.bank_reference.length > 0 ? d.bank_reference : d.customer_reference;
+    size_t at = 0;
+    next_entry(f, &at, &e);
+    if (!next_piece(f, &at, &words))
+        words = e.bank_reference.length > 0 ? e.bank_reference : e.customer_reference;
     words = part_of(words, 0, LABEL_ROOM - 16);
-    snprintf(label, LABEL_ROOM, "%.*s  %.*s", SLICE(d.type), SLICE(words));
+    snprintf(label, LABEL_ROOM, "%.*s  %.*s", SLICE(e.type), SLICE(words));
+    put_amount(amount, e.amount);
 }
 
-/* The item that starts at this place of the file. */
-static item item_at(const tree_screen *s, const tree_row *row)
+/* Words and amount for an item's row. */
+static void put_item_label(char *label, char amount[AMOUNT_ROOM], const tree_row *row, const fields *f)
 {
-    account_header h = read_account_header(bytes_of(s->outline, row->record));
-    item i = {0};
-    while (next_item(&h.items, &i))
-        if ((size_t)(i.type.bytes - s->outline->file.bytes) == row->start)
-            break;
-    return i;
-}
-
-/* Words for an item's row. */
-static void put_item_label(char *label, item *i)
-{
-    size_t used = (size_t)snprintf(label, LABEL_ROOM, "%.*s", SLICE(i->type));
-    if (i->count.length > 0)
-        used += (size_t)snprintf(label + used, LABEL_ROOM - used, "  count %.*s", SLICE(i->count));
+    entry e;
+    size_t at = row->number;
+    next_entry(f, &at, &e);
+    size_t used = (size_t)snprintf(label, LABEL_ROOM, "%.*s", SLICE(e.type));
+    if (e.count.length > 0)
+        used += (size_t)snprintf(label + used, LABEL_ROOM - used, "  count %.*s", SLICE(e.count));
     char words[FUNDS_ROOM];
-    if (i->funds.kind.length > 0)
-        used += (size_t)snprintf(label + used, LABEL_ROOM - used, "  funds %s", put_funds(words, &i->funds));
-    for (size_t part = 0; part <= PARTS_IN_ROW && next_funds_part(words, &i->funds); part++)
+    if (e.funds.kind.length > 0)
+        used += (size_t)snprintf(label + used, LABEL_ROOM - used, "  funds %s", put_funds(words, &e.funds));
+    for (size_t part = 0; part <= PARTS_IN_ROW && put_funds_part(words, f, &e.funds, part); part++)
         used += (size_t)snprintf(label + used, LABEL_ROOM - used, "  %s", part < PARTS_IN_ROW ? words : "..");
+    put_amount(amount, e.amount);
 }
 
-/* Words for a row below a detail. */
-static void put_note_label(char *label, const tree_screen *s, const tree_row *row)
+/* Words for a row about a detail's funds. */
+static void put_funds_label(char *label, const tree_row *row, const fields *f)
+{
+    entry e;
+    char words[FUNDS_ROOM] = "";
+    next_entry(f, &(size_t){0}, &e);
+    if (row->kind == FUNDS_ROW)
+        put_funds(words, &e.funds);
+    else
+        put_funds_part(words, f, &e.funds, row->number);
+    snprintf(label, LABEL_ROOM, "funds %s", words);
+}
+
+/* Words for a row about a detail's reference or text: the row's own bytes. */
+static void put_note_label(char *label, const tree_row *row, slice file)
 {
     static const char *const captions[] = {
         [BANK_REFERENCE_ROW] = "bank reference ",
         [CUSTOMER_REFERENCE_ROW] = "customer reference ",
         [TEXT_ROW] = ""};
-    char words[FUNDS_ROOM] = "";
-    if (row->kind == FUNDS_ROW || row->kind == FUNDS_PART_ROW) {
-        detail d = read_detail(bytes_of(s->outline, row->record));
-        if (row->kind == FUNDS_ROW)
-            put_funds(words, &d.funds);
-        while (row->kind == FUNDS_PART_ROW && d.funds.taken <= row->number)
-            if (!next_funds_part(words, &d.funds))
-                break;
-        snprintf(label, LABEL_ROOM, "funds %s", words);
-        return;
-    }
-    slice bytes = part_of(s->outline->file, row->start, row->length);
+    slice bytes = part_of(file, row->start, row->length);
     snprintf(label, LABEL_ROOM, "%s%.*s", captions[row->kind], SLICE(bytes));
 }
 
 /* The amount at the right edge of a group's or account's row: its trailer's total. */
-static void put_closing_total(char amount[AMOUNT_ROOM], const tree_screen *s, const tree_row *row)
+static void put_closing_total(char amount[AMOUNT_ROOM], tree_screen *s, const tree_row *row)
 {
-    slice bytes = bytes_of(s->outline, s->outline->records[row->record].closing);
-    snprintf(amount, AMOUNT_ROOM, "%" PRId64, units_of(read_trailer(bytes).total));
+    const fields *f = fields_of(&s->tree, s->outline->records[row->record].closing);
+    snprintf(amount, AMOUNT_ROOM, "%" PRId64, units_of(trailer_of(f).total));
 }
 
 /* A row's words and its amount, empty where it has none. */
-static void put_label(char *label, char amount[AMOUNT_ROOM], const tree_screen *s, const tree_row *row)
+static void put_label(char *label, char amount[AMOUNT_ROOM], tree_screen *s, const tree_row *row)
 {
-    slice bytes = bytes_of(s->outline, row->record);
-    item i;
+    const fields *f = fields_of(&s->tree, row->record);
     amount[0] = '\0';
     switch (row->kind) {
     case GROUP_ROW:
-        put_group_label(label, row, bytes);
+        put_group_label(label, row, f);
         put_closing_total(amount, s, row);
         return;
     case ACCOUNT_ROW:
-        put_account_label(label, bytes);
+        put_account_label(label, f);
         put_closing_total(amount, s, row);
         return;
-    case DETAIL_ROW:
-        put_detail_label(label, bytes);
-        put_amount(amount, read_detail(bytes).amount);
-        return;
-    case ITEM_ROW:
-        i = item_at(s, row);
-        put_item_label(label, &i);
-        put_amount(amount, i.amount);
-        return;
-    default: put_note_label(label, s, row); return;
+    case DETAIL_ROW: put_detail_label(label, amount, f); return;
+    case ITEM_ROW: put_item_label(label, amount, row, f); return;
+    case FUNDS_ROW: case FUNDS_PART_ROW: put_funds_label(label, row, f); return;
+    default: put_note_label(label, row, s->outline->file); return;
     }
 }
 
 /* Draws one row of the tree: its indent, whether it is open, its words and its amount. */
-static void draw_tree_row(const tree_screen *s, const canvas *c, size_t canvas_row, size_t index)
+static void draw_tree_row(tree_screen *s, const canvas *c, size_t canvas_row, size_t index)
 {
     static const int indents[] = {[GROUP_ROW] = 0, [ACCOUNT_ROW] = 2, [DETAIL_ROW] = 4, [ITEM_ROW] = 4,
                                   [BANK_REFERENCE_ROW] = 8, [CUSTOMER_REFERENCE_ROW] = 8,
@@ -143,9 +134,9 @@ static void draw_tree_row(const tree_screen *s, const canvas *c, size_t canvas_r
 }
 
 /* Draws the title: the file's name, who sent it to whom, its total. */
-static void draw_title(const tree_screen *s, const canvas *c)
+static void draw_title(tree_screen *s, const canvas *c)
 {
-    file_header h = read_file_header(bytes_of(s->outline, 0));
+    file_header h = file_header_of(fields_of(&s->tree, 0));
     char text[LABEL_ROOM], day[DAY_ROOM], total[AMOUNT_ROOM + 8];
     snprintf(text, sizeof text, "%.60s  %.*s to %.*s  %s", last_part(s->name), SLICE(h.sender),
              SLICE(h.receiver), put_day(day, h.date, h.time));

@@ -1,51 +1,63 @@
 /* The commands that look into one file: show and screen. */
 #include "commands.h"
+#include "export.h"
 #include "input.h"
 #include "message.h"
 #include "outline.h"
+#include "output.h"
 #include "pager.h"
 #include "refusal.h"
 #include "screen.h"
 
-enum { BYTES_TO_JUDGE = 32 << 20 }; /* by the library before a file is shown: a fraction of a second */
-
-/* The outline of an accepted file; tells and answers false where the library disagrees with it. */
-static bool outline_of(outline *o, const input *in, bai2_summary s)
+/* Shows the report of an accepted file; false where it can't. */
+static bool show_report(const input *in, bai2_summary s)
 {
-    if (make_outline(o, in->file, s, BYTES_TO_JUDGE))
-        return true;
-    complain("%s: the display disagrees with the library, so nothing is shown; this is a fault of "
-             "the program, please report it with the file", in->name);
-    return false;
+    outline o;
+    make_outline(&o, in->file, s);
+    bool shown = put_report_paged(&o);
+    drop_outline(&o);
+    return shown;
 }
 
-/* bai2 show FILE: the report, or the refusal in words. */
+/* Writes an accepted file's lines for programs; how the command ends. */
+static int export_file(const input *in, output_format format, bai2_summary s)
+{
+    bool whole = put_export(stdout, format == AS_JSON ? JSON_LINES : CSV, in->file, s);
+    bool written = flush_standard_output();
+    if (!whole)
+        complain("%s: the library hands out other records than it has counted, so the output is not "
+                 "whole; this is a fault of the program, please report it with the file", in->name);
+    return whole && written ? GOOD : TROUBLE;
+}
+
+/* bai2 show FILE: the report or its lines for programs, or the refusal in words. */
 int show_command(const arguments *a)
 {
     input in;
-    outline o;
-    int status = TROUBLE;
+    int status = REFUSED;
     if (!load(&in, a->operands[0]))
         return REFUSED;
     bai2_summary s = bai2_read(in.file.bytes, in.file.length);
-    if (s.number != 0) {
+    if (s.number != 0)
         tell_refusal(stderr, in.name, in.file, s.number, s.place);
-        status = REFUSED;
-    } else if (outline_of(&o, &in, s)) {
-        status = put_report_paged(&o) ? GOOD : TROUBLE;
-        drop_outline(&o);
-    }
+    else if (a->format != REPORT)
+        status = export_file(&in, a->format, s);
+    else
+        status = show_report(&in, s) ? GOOD : TROUBLE;
     unload(&in);
     return status;
 }
 
 /* Lets the user move about in an accepted file's tree; false where there is no terminal. */
-static bool show_tree_screen(const input *in, const outline *o)
+static bool show_tree_screen(const input *in, bai2_summary s)
 {
+    outline o;
     tree_screen screen;
-    view v = open_tree_view(&screen, in->name, o);
+    make_outline(&o, in->file, s);
+    view v = open_tree_view(&screen, in->name, &o);
     bool shown = run_view(&v);
     close_tree_view(&screen);
+    drop_outline(&o);
     return shown;
 }
 
@@ -61,17 +73,14 @@ static bool show_refusal_screen(const input *in, bai2_summary s)
 int screen_command(const arguments *a)
 {
     input in;
-    outline o;
-    int status = TROUBLE;
+    int status;
     if (!load(&in, a->operands[0]))
         return REFUSED;
     bai2_summary s = bai2_read(in.file.bytes, in.file.length);
-    if (s.number != 0) {
+    if (s.number != 0)
         status = show_refusal_screen(&in, s) ? REFUSED : TROUBLE;
-    } else if (outline_of(&o, &in, s)) {
-        status = show_tree_screen(&in, &o) ? GOOD : TROUBLE;
-        drop_outline(&o);
-    }
+    else
+        status = show_tree_screen(&in, s) ? GOOD : TROUBLE;
     unload(&in);
     return status;
 }

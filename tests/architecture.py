@@ -166,7 +166,7 @@ def crates():
 
 @check
 def header():
-    """include/bai2.h has the library's names and numbers of refusals, and its limits."""
+    """include/bai2.h has the library's names and numbers of refusals, its limits, and the rules' kinds of fields, of which firstType is TYPE there."""
     named = {name: int(number) for name, number in re.findall(r"const (\w+): u64 = (\d+);", text_of("crates/base_refusals/src/lib.rt"))}
     limits = {name: int(n.replace("_", "")) for name, n in re.findall(r"const (LONGEST_\w+): usize = ([\d_]+);", text_of("crates/base_limits/src/lib.rt"))}
     told = {name: int(number) for name, number in re.findall(r"\bBAI2_(\w+) = (\d+)", text_of("include/bai2.h"))}
@@ -175,6 +175,10 @@ def header():
     for name, number in sorted({**named, **limits}.items()):
         if told.get(name) != number:
             yield f"{name} is {number}, and BAI2_{name} is {told.get(name)}"
+    kinds = {name: int(number) for name, number in re.findall(r"^kindNumber (\w+) = (\d+)$", text_of("crates/rules/specs/Grammar.antt"), re.M)}
+    kinds = {"FIELD_" + re.sub("(?=[A-Z])", "_", name.removeprefix("first")).upper().strip("_"): number for name, number in kinds.items()}
+    if not kinds or kinds != {name: number for name, number in told.items() if name.startswith("FIELD_")}:
+        yield "the kinds of include/bai2.h are not those of rules/specs/Grammar.antt"
 
 
 def refusal_rows():

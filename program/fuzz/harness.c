@@ -4,11 +4,14 @@
 #include <stdlib.h>
 #include <string.h>
 
+#include "agree.h"
 #include "bai2.h"
+#include "export.h"
 #include "mend.h"
 #include "outline.h"
 #include "record.h"
 #include "refusal.h"
+#include "refused_record.h"
 #include "screen.h"
 #include "show.h"
 #include "write.h"
@@ -41,7 +44,8 @@ static void press_and_draw(const view *v, FILE *to, size_t which)
     v->draw(v->state, &c);
 }
 
-/* A refused file: every call says so alike, and the refusal can be told and shown. */
+/* A refused file: every call says so alike, and the refusal can be told and shown, with its field where
+   it is one of sums and counts. */
 static void try_refused(slice file, bai2_summary s, FILE *to)
 {
     must_hold(s.place <= file.length && s.total == 0 && s.records == 0);
@@ -49,6 +53,8 @@ static void try_refused(slice file, bai2_summary s, FILE *to)
     must_hold(part.number == s.number && part.place == s.place && part.length == 0);
     bai2_detail d = bai2_detail_of(file.bytes, file.length, 0, 0, 0);
     must_hold(d.number == s.number && d.place == s.place && d.text_length == 0);
+    bool of_sums = s.number >= BAI2_AMOUNTS_TOO_LARGE && s.number <= BAI2_SUM_TOO_LARGE;
+    must_hold(of_sums == (*refused_field(file, s.number, (size_t)s.place) != '\0'));
     tell_refusal(to, "file", file, s.number, s.place);
     refusal_screen screen;
     view v = open_refusal_view(&screen, "file", file, s.number, s.place);
@@ -88,19 +94,32 @@ static void try_combine(slice file, bai2_summary s)
     free(out);
 }
 
-/* An accepted file: its outline is the library's, it can be shown, split and combined. */
+/* Splits the file for the receiver of each of its groups. */
+static void try_splits(const outline *o)
+{
+    fields f = {.file = o->file};
+    for (size_t i = 0; i < o->count; i++) {
+        if (o->records[i].code != GROUP_HEADER)
+            continue;
+        read_fields(&f, o->records[i].start);
+        try_split(o->file, group_header_of(&f).receiver, o->summary.groups);
+    }
+    drop_fields(&f);
+}
+
+/* An accepted file: all calls agree on it, it can be shown, exported, split and combined. */
 static void try_accepted(slice file, bai2_summary s, FILE *to)
 {
     outline o;
     tree_screen screen;
-    must_hold(make_outline(&o, file, s, UINT64_MAX));
+    make_outline(&o, file, s);
+    must_hold(calls_agree(&o));
     put_report(to, &o);
+    must_hold(put_export(to, JSON_LINES, file, s) && put_export(to, CSV, file, s));
     view v = open_tree_view(&screen, "file", &o);
     press_and_draw(&v, to, file.length);
     close_tree_view(&screen);
-    for (size_t i = 0; i < o.count; i++)
-        if (o.records[i].code == GROUP_HEADER)
-            try_split(file, read_group_header(bytes_of(&o, i)).receiver, s.groups);
+    try_splits(&o);
     try_combine(file, s);
     drop_outline(&o);
 }
@@ -118,6 +137,7 @@ static FILE *nowhere(void)
 /* Tries everything on one file. */
 static void try_file(slice file)
 {
+    must_hold(records_hold(file));
     bai2_summary s = bai2_read(file.bytes, file.length);
     if (s.number != 0)
         try_refused(file, s, nowhere());

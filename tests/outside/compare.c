@@ -1,9 +1,10 @@
 /* The harness: asks the oracle and the library the same about generated files.
-     compare read|split|combine|parts|writer N SEED [CORPUS]
+     compare read|split|combine|parts|writer|records N SEED [CORPUS]
      compare big [CORPUS]
      compare files FILE...
    At the first difference it prints one line, keeps the input in the folder CORPUS, and ends with
-   status 1. Otherwise the last line says how many files were compared. */
+   status 1. Otherwise the last line says how many files, or how many starts of records, were asked
+   about. */
 #include <inttypes.h>
 #include <stdio.h>
 #include <stdlib.h>
@@ -15,7 +16,7 @@ enum { NUMBERS = 21, HUGE = 1 << 22, LONGEST_TRAILER = 64 /* no fresh 99 has mor
 
 static guarded file_memory[2], name_memory;
 static buffer made;
-static uint64_t verdict; /* on the file generated last */
+static bai2_summary verdict; /* on the file generated last */
 static uint64_t numbers[NUMBERS]; /* how often each refusal was given; 0 is accepted */
 
 /* A generated file in guarded memory, read by both; a good one must be accepted. */
@@ -28,8 +29,8 @@ static slice some_file(dice *d, int which, unsigned good_of_thousand)
         good = generate_any(d, &made);
     slice file = lend(&file_memory[which], made.bytes, made.length);
     name_inputs(file, (slice){0});
-    verdict = ask_read(file).number;
-    must_hold("a good file is accepted", !good || verdict == 0);
+    verdict = ask_read(file);
+    must_hold("a good file is accepted", !good || verdict.number == 0);
     return file;
 }
 
@@ -37,15 +38,29 @@ static slice some_file(dice *d, int which, unsigned good_of_thousand)
 static void compare_read(dice *d)
 {
     some_file(d, 0, 0);
-    numbers[verdict]++;
+    numbers[verdict.number]++;
 }
 
 /* Asks for parts of one file. */
 static void compare_parts(dice *d)
 {
     slice file = some_file(d, 0, 700);
-    numbers[verdict]++;
+    numbers[verdict.number]++;
     ask_all_parts(d, file);
+}
+
+/* Asks for records and fields of one file, mostly with damage in many of them; how many starts were
+   asked about. */
+static uint64_t compare_starts(dice *d)
+{
+    slice file = some_file(d, 0, 300);
+    if (chance(d, 600) && made.length < HUGE) {
+        damage_fields(d, &made);
+        file = lend(&file_memory[0], made.bytes, made.length);
+        name_inputs(file, (slice){0});
+        verdict = ask_read(file);
+    }
+    return ask_starts(d, file, verdict, numbers);
 }
 
 /* A name to ask for: mostly a receiver, else one of the lengths and bytes that matter. */
@@ -158,17 +173,37 @@ static void print_numbers(void)
     printf("   all %7" PRIu64 "\n", all);
 }
 
+/* The random numbers for one file of a mode; notes which file it is. */
+static dice dice_for(const char *mode, uint64_t seed, uint64_t index, const char *corpus)
+{
+    name_question(mode, seed, index, corpus);
+    return dice_of(seed * UINT64_C(1000003) + index);
+}
+
 /* Compares N generated files in one mode. */
 static int compare_many(const char *mode, void (*compare)(dice *), uint64_t count, uint64_t seed,
                         const char *corpus)
 {
     for (uint64_t i = 0; i < count; i++) {
-        dice d = dice_of(seed * UINT64_C(1000003) + i);
-        name_question(mode, seed, i, corpus);
+        dice d = dice_for(mode, seed, i, corpus);
         compare(&d);
     }
     print_numbers();
     printf("compare %s: %" PRIu64 " files, 0 differences\n", mode, count);
+    return 0;
+}
+
+/* Compares records and fields from at least N starts of generated files. */
+static int compare_records(uint64_t count, uint64_t seed, const char *corpus)
+{
+    uint64_t starts = 0;
+    for (uint64_t i = 0; starts < count; i++) {
+        dice d = dice_for("records", seed, i, corpus);
+        starts += compare_starts(&d);
+    }
+    print_kinds();
+    print_numbers();
+    printf("compare records: %" PRIu64 " starts, 0 differences\n", starts);
     return 0;
 }
 
@@ -188,7 +223,7 @@ static void compare_file(const char *path, uint64_t index)
     name_question("files", 0, index, NULL);
     dice d = dice_of(index);
     slice lent = lend(&file_memory[0], made.bytes, made.length);
-    ask_read(lent);
+    ask_starts(&d, lent, ask_read(lent), numbers);
     ask_all_parts(&d, lent);
     for (int i = 0; i < 30; i++)
         ask_split(some_name(&d), lent, ample(lent.length));
@@ -207,7 +242,7 @@ static int compare_files(int count, char **paths)
 /* Says how to call the program. */
 static int usage(void)
 {
-    fputs("usage: compare read|split|combine|parts|writer N SEED [CORPUS]\n"
+    fputs("usage: compare read|split|combine|parts|writer|records N SEED [CORPUS]\n"
           "       compare big [CORPUS]\n"
           "       compare files FILE...\n", stderr);
     return 2;
@@ -233,9 +268,12 @@ int main(int count, char **arguments)
     }
     if (count != 4 && count != 5)
         return usage();
+    uint64_t asked = strtoull(arguments[2], NULL, 10), seed = strtoull(arguments[3], NULL, 10);
+    const char *corpus = count == 5 ? arguments[4] : NULL;
+    if (strcmp(arguments[1], "records") == 0)
+        return compare_records(asked, seed, corpus);
     for (size_t i = 0; i < sizeof modes / sizeof *modes; i++)
         if (strcmp(arguments[1], modes[i].name) == 0)
-            return compare_many(modes[i].name, modes[i].compare, strtoull(arguments[2], NULL, 10),
-                                strtoull(arguments[3], NULL, 10), count == 5 ? arguments[4] : NULL);
+            return compare_many(modes[i].name, modes[i].compare, asked, seed, corpus);
     return usage();
 }

@@ -8,6 +8,7 @@
 
 enum {
     LONGEST_FILE = 16777216,
+    LONGEST_OUTPUT = 8 * LONGEST_FILE, /* bytes; those that are never asked for cost nothing */
     FRINGE = 64,   /* bytes in front of and after an output slice that must stay as they were */
     PATTERN = 0xA5 /* what output slices hold before a call */
 };
@@ -18,6 +19,8 @@ typedef struct {
     __typeof__(bai2_group) *group;
     __typeof__(bai2_account) *account;
     __typeof__(bai2_detail_of) *detail_of;
+    __typeof__(bai2_record_at) *record_at;
+    __typeof__(bai2_fields_at) *fields_at;
     __typeof__(bai2_split) *split;
     __typeof__(bai2_combine) *combine;
     __typeof__(bai2_writer_new) *writer_new;
@@ -57,8 +60,12 @@ void ask_all_parts(dice *d, slice file);
 bai2_answer ask_split(slice name, slice file, size_t out_length);
 bai2_combined ask_combine(slice a, slice b, size_t out_length);
 const uint8_t *last_result(void);
+bai2_record ask_record(slice file, uint64_t start);
+bai2_fields ask_fields(slice file, uint64_t start, size_t out_length);
 
-/* compare_writer.c, compare_big.c */
+/* compare_records.c, compare_writer.c, compare_big.c */
+uint64_t ask_starts(dice *d, slice file, bai2_summary verdict, uint64_t *numbers);
+void print_kinds(void);
 void compare_writer(dice *d, uint64_t *numbers);
 uint64_t compare_big(void);
 

@@ -12,13 +12,15 @@
 #include "oracle.h"
 
 const side oracle = {
-    oracle_read, oracle_group, oracle_account, oracle_detail_of, oracle_split, oracle_combine,
+    oracle_read, oracle_group, oracle_account, oracle_detail_of, oracle_record_at, oracle_fields_at,
+    oracle_split, oracle_combine,
     oracle_writer_new, oracle_write_header, oracle_write_group, oracle_write_account,
     oracle_write_item, oracle_write_detail, oracle_write_end_account, oracle_write_end_group,
     oracle_write_end_file};
 
 const side library = {
-    bai2_read, bai2_group, bai2_account, bai2_detail_of, bai2_split, bai2_combine,
+    bai2_read, bai2_group, bai2_account, bai2_detail_of, bai2_record_at, bai2_fields_at,
+    bai2_split, bai2_combine,
     bai2_writer_new, bai2_write_header, bai2_write_group, bai2_write_account,
     bai2_write_item, bai2_write_detail, bai2_write_end_account, bai2_write_end_group,
     bai2_write_end_file};
@@ -218,8 +220,8 @@ void ask_all_parts(dice *d, slice file)
 static void fresh_outputs(size_t length, uint8_t **one, uint8_t **other)
 {
     if (outputs[0].bytes == NULL) {
-        outputs[0] = guarded_of(LONGEST_FILE + 4096);
-        outputs[1] = guarded_of(LONGEST_FILE + 4096);
+        outputs[0] = guarded_of(LONGEST_OUTPUT + FRINGE);
+        outputs[1] = guarded_of(LONGEST_OUTPUT + FRINGE);
     }
     *one = guarded_end(&outputs[0], length);
     *other = guarded_end(&outputs[1], length);
@@ -238,7 +240,7 @@ static void same_outputs(const char *call, const uint8_t *one, const uint8_t *ot
 
 static const uint8_t *result;
 
-/* Where the last accepted split or combine of the oracle stands. */
+/* Where the oracle's last split, combination or fields stand. */
 const uint8_t *last_result(void)
 {
     return result;
@@ -267,6 +269,31 @@ bai2_combined ask_combine(slice a, slice b, size_t out_length)
     bai2_combined other = library.combine(a.bytes, a.length, b.bytes, b.length, other_out, out_length);
     SAME("combine", one, other);
     same_outputs("combine", one_out, other_out, out_length, (size_t)one.length);
+    result = one_out;
+    return one;
+}
+
+/* Asks both for a record; the oracle's answer. */
+bai2_record ask_record(slice file, uint64_t start)
+{
+    bai2_record one = oracle.record_at(file.bytes, file.length, start);
+    bai2_record other = library.record_at(file.bytes, file.length, start);
+    SAME("record", one, other);
+    return one;
+}
+
+/* Asks both for a record's fields, into so many numbers; none are NULL. The oracle's answer. */
+bai2_fields ask_fields(slice file, uint64_t start, size_t out_length)
+{
+    uint8_t *one_out, *other_out;
+    fresh_outputs(out_length * sizeof(uint64_t), &one_out, &other_out);
+    uint64_t *one_numbers = out_length == 0 ? NULL : (uint64_t *)(void *)one_out;
+    uint64_t *other_numbers = out_length == 0 ? NULL : (uint64_t *)(void *)other_out;
+    bai2_fields one = oracle.fields_at(file.bytes, file.length, start, one_numbers, out_length);
+    bai2_fields other = library.fields_at(file.bytes, file.length, start, other_numbers, out_length);
+    SAME("fields", one, other);
+    same_outputs("fields", one_out, other_out, out_length * sizeof(uint64_t),
+                 3 * (size_t)one.count * sizeof(uint64_t));
     result = one_out;
     return one;
 }

@@ -1,4 +1,5 @@
-/* Files at the bound of 16,777,216 bytes: lines, records and groups of every size that fits. */
+/* Files at the bound of 16,777,216 bytes: lines, records and groups of every size that fits; and records
+   beyond it, which are handed out all the same. */
 #include <inttypes.h>
 #include <stdio.h>
 #include <string.h>
@@ -137,6 +138,53 @@ static void long_records(buffer *b)
     long_text(b, "88,/\n", 7, sizeof header - 1 + sizeof group - 1 + 14 + 3);
 }
 
+/* Asks for the record at the file's start, with so many lines and fields: the room is just enough, then
+   one number short. */
+static void hand_out(const char *what, const buffer *b, uint64_t lines, size_t fields)
+{
+    slice file = lent(0, b);
+    asked++;
+    name_inputs(file, (slice){0});
+    bai2_record r = ask_record(file, 0);
+    bai2_fields f = ask_fields(file, 0, 3 * fields);
+    printf("%s: %" PRIu64 " lines, %" PRIu64 " fields\n", what, r.lines, f.count);
+    must_hold(what, r.number == 0 && r.lines == lines && r.length == b->length);
+    must_hold(what, f.number == 0 && f.count == fields);
+    must_hold("one number short is 15", ask_fields(file, 0, 3 * fields - 1).number == 15);
+}
+
+/* The same record with a fault at its very end: nothing is handed out. */
+static void hand_nothing_out(buffer *b, const char *end, size_t fields, uint64_t number, uint64_t place)
+{
+    add_text(b, end);
+    slice file = lent(0, b);
+    asked++;
+    name_inputs(file, (slice){0});
+    bai2_fields f = ask_fields(file, 0, 3 * fields);
+    must_hold("a fault at the end", f.number == number && f.place == place);
+}
+
+/* Records of more than 16,777,216 bytes. */
+static void hand_out_records(buffer *b)
+{
+    static const char items[] = "88,100,,,D,2/\n88,000,1/\n88,1,000000000000000002/\n";
+    size_t pieces = LONGEST_FILE / strlen("88,,\n") + 1, triples = LONGEST_FILE / strlen(items) + 1;
+    clear(b);
+    add_text(b, "16,165,1,,,,A\n");
+    repeat(b, "88,,\n", b->length + pieces * strlen("88,,\n"));
+    hand_out("a text in 3.3 million pieces", b, 1 + pieces, 6 + pieces);
+    hand_nothing_out(b, "88,/", 7 + pieces, 7, b->length + 3);
+    clear(b);
+    add_text(b, "03,ACCOUNT,,010,1,,/\n");
+    repeat(b, items, b->length + triples * strlen(items));
+    hand_out("items with distributions over a million 88s", b, 1 + 3 * triples, 6 + 9 * triples);
+    hand_nothing_out(b, "88,100,,,D,1,1/", 12 + 9 * triples, 8, b->length + 14);
+    clear(b);
+    add_text(b, "16,165,1,,,,A");
+    repeat(b, "/, ", LONGEST_FILE + 1000);
+    hand_out("a text of 16 MiB in one line", b, 1, 6);
+}
+
 /* Splits at the bound. */
 static void big_splits(buffer *b)
 {
@@ -268,6 +316,7 @@ uint64_t compare_big(void)
     memory[1] = guarded_of(LONGEST_FILE + 4096);
     no_files(&b);
     long_records(&b);
+    hand_out_records(&b);
     big_splits(&b);
     big_combinations(&b);
     big_parts(&b);

@@ -5,6 +5,8 @@
 
 enum { LONGEST_FILE = 16777216 };
 
+#define NAME_76 "0123456789 123456789 123456789 123456789 123456789 123456789 123456789 12345"
+
 /* Takes bytes out of a file and puts others in their place. */
 static void replace(buffer *b, size_t at, size_t out_length, const uint8_t *in, size_t in_length)
 {
@@ -170,6 +172,48 @@ void damage(dice *d, buffer *file)
         copy_line, drop_line, swap_lines, cut_end, insert_line, insert_cr, lengthen_line};
     if (file->length > 0)
         ways[roll(d, sizeof ways / sizeof *ways)](d, file);
+}
+
+/* Whether a field can't go on past this byte. */
+static bool ends_field(uint8_t byte)
+{
+    return byte == ',' || byte == '/' || byte == '\n' || byte == '\r';
+}
+
+/* A field of any kind, good or bad for the place it comes to; every third has an end of its own, or is
+   as long as a name may be, or longer. */
+static const char *some_field(dice *d)
+{
+    static const char *const fields[] = {
+        "", "", "0", "1", "2", "3", "4", "5", "Z", "S", "V", "D", "X", " ", "-1", "+1", "-", "000", "002", "999",
+        "1000", "010", "100", "165", "890", "899", "040229", "050229", "0406", "2400", "2401", "1260", "9999",
+        "48", "47", "USD", "usd", "123456789", "1234567890", "999999999999999999", "+999999999999999999",
+        "1000000000000000000", "A\x7F" "B", "\x80", "\r", "88"};
+    static const char *const others[] = {
+        ",", "/", "/ ", "/X", "A/ B", "/\n88,", "/ \r\n88,", "1/\n88,", "/\n88,/\n88,", "\n88,", "1\n88,", "\n",
+        "\r\n", NAME_76, NAME_76 "X", NAME_76 "X"};
+    return chance(d, 333) ? others[roll(d, sizeof others / sizeof *others)]
+                          : fields[roll(d, sizeof fields / sizeof *fields)];
+}
+
+/* Puts another field in the place of one. */
+static void damage_field(dice *d, buffer *b)
+{
+    const char *field = some_field(d);
+    size_t start = (size_t)roll(d, b->length), end = start;
+    while (start > 0 && !ends_field(b->bytes[start - 1]))
+        start--;
+    while (end < b->length && !ends_field(b->bytes[end]))
+        end++;
+    replace(b, start, end - start, (const uint8_t *)field, strlen(field));
+}
+
+/* Puts other fields in the place of some of a file's: about one for two lines. */
+void damage_fields(dice *d, buffer *file)
+{
+    size_t times = 1 + (size_t)roll(d, file->length < 8000 ? file->length / 40 + 1 : 200);
+    for (size_t i = 0; i < times && file->length > 0; i++)
+        damage_field(d, file);
 }
 
 /* A file of more bytes than allowed; what they are does not matter. */

@@ -41,6 +41,9 @@ void generate_receiver(dice *d, buffer *out);
 /* A printable name of that length without comma and slash, blanks inside. */
 void generate_name(dice *d, buffer *out, size_t length);
 
+/* Puts other fields in the place of some of a file's. */
+void damage_fields(dice *d, buffer *file);
+
 /* What generate.c and damage.c share. */
 void generate_with_slip(dice *d, buffer *out);
 void damage(dice *d, buffer *file);

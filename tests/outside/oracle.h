@@ -14,6 +14,11 @@ bai2_part oracle_account(const uint8_t *file, size_t file_length, uint64_t group
 bai2_detail oracle_detail_of(const uint8_t *file, size_t file_length,
                              uint64_t group, uint64_t account, uint64_t detail);
 
+bai2_record oracle_record_at(const uint8_t *file, size_t file_length, uint64_t start);
+
+bai2_fields oracle_fields_at(const uint8_t *file, size_t file_length, uint64_t start,
+                             uint64_t *out, size_t out_length);
+
 bai2_answer oracle_split(const uint8_t *name, size_t name_length,
                          const uint8_t *file, size_t file_length,
                          uint8_t *out, size_t out_length);

@@ -2,7 +2,7 @@
    record; refusals 1 to 6 and 10 to 14. */
 #include <string.h>
 
-#include "oracle_inner.h"
+#include "oracle_lines.h"
 
 static const refusal none = {0, 0};
 
@@ -56,23 +56,6 @@ static size_t bad_byte(const uint8_t *file, line l)
     return place;
 }
 
-/* The code that a line begins with, or 0. */
-static unsigned code_at(const uint8_t *file, line l)
-{
-    if (l.end - l.start < 3 || file[l.start + 2] != ',')
-        return 0;
-    if (!is_digit(file[l.start]) || !is_digit(file[l.start + 1]))
-        return 0;
-    unsigned code = (unsigned)(file[l.start] - '0') * 10 + (unsigned)(file[l.start + 1] - '0');
-    switch (code) {
-    case FILE_HEADER: case GROUP_HEADER: case ACCOUNT_HEADER: case DETAIL:
-    case ACCOUNT_TRAILER: case CONTINUATION: case GROUP_TRAILER: case FILE_TRAILER:
-        return code;
-    default:
-        return 0;
-    }
-}
-
 /* Judges a line by itself: 3, 4, 5. */
 static refusal check_line(const reader *r, line l)
 {
@@ -84,12 +67,6 @@ static refusal check_line(const reader *r, line l)
     if (code_at(r->file, l) == 0)
         return (refusal){5, l.start};
     return none;
-}
-
-/* Whether a continuation line starts here. */
-static bool continues(const reader *r, size_t at)
-{
-    return r->length - at >= 3 && memcmp(r->file + at, "88,", 3) == 0;
 }
 
 /* Finds the record that starts here and judges its lines. */
@@ -108,7 +85,7 @@ static refusal find_record(const reader *r, record *rec)
             rec->longest_line = l.end - l.start;
         rec->lines++;
         at = l.next;
-    } while (at < r->length && continues(r, at));
+    } while (at < r->length && continues(r->file, r->length, at));
     rec->end = at;
     return none;
 }

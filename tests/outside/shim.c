@@ -1,7 +1,8 @@
 /* Stands in for the library: the oracle under the library's names, so that the harness itself can be
    tested. Each -D switch plants one bug that the harness must find:
    BUG_88_NOT_COUNTED, BUG_DEBIT_SUBTRACTED, BUG_TEXT_CUT, BUG_ZERO_DROPPED, BUG_PLACE_OFF,
-   BUG_BYTE_BEHIND, BUG_REFUSED_MOVES.
+   BUG_BYTE_BEHIND, BUG_REFUSED_MOVES; of records and fields BUG_88_NOT_A_LINE, BUG_PIECE_CUT,
+   BUG_PLACE_IN_RECORD, BUG_FAULT_IN_RECORD, BUG_NO_ROOM_WRITES, BUG_START_CUT.
    With STAND_IN defined as a weak attribute it answers only the calls that the library lacks. */
 #include <stdlib.h>
 #include <string.h>
@@ -66,6 +67,54 @@ STAND_IN bai2_detail bai2_detail_of(const uint8_t *file, size_t file_length,
         d.text_length = (uint64_t)(slash - file) - d.text_start;
 #endif
     return d;
+}
+
+/* As the oracle, with a bug where one is planted. */
+STAND_IN bai2_record bai2_record_at(const uint8_t *file, size_t file_length, uint64_t start)
+{
+#ifdef BUG_START_CUT
+    start = (uint32_t)start;
+#endif
+    bai2_record r = oracle_record_at(file, file_length, start);
+#ifdef BUG_88_NOT_A_LINE
+    r.lines = r.number == 0;
+#endif
+    return r;
+}
+
+#ifdef BUG_PIECE_CUT
+/* Cuts each piece of text at its first slash. */
+static void cut_pieces(const uint8_t *file, uint64_t *out, uint64_t count)
+{
+    for (uint64_t *three = out; three < out + 3 * count; three += 3) {
+        const uint8_t *piece = file + three[1], *slash = memchr(piece, '/', three[2]);
+        if ((three[0] == BAI2_FIELD_TEXT || three[0] == BAI2_FIELD_FURTHER_TEXT) && slash != NULL)
+            three[2] = (uint64_t)(slash - piece);
+    }
+}
+#endif
+
+/* As the oracle, with a bug where one is planted. */
+STAND_IN bai2_fields bai2_fields_at(const uint8_t *file, size_t file_length, uint64_t start,
+                           uint64_t *out, size_t out_length)
+{
+    bai2_fields f = oracle_fields_at(file, file_length, start, out, out_length);
+#ifdef BUG_PIECE_CUT
+    cut_pieces(file, out, f.count);
+#endif
+#ifdef BUG_PLACE_IN_RECORD
+    for (uint64_t i = 0; i < f.count; i++)
+        out[3 * i + 1] -= start;
+#endif
+#ifdef BUG_FAULT_IN_RECORD
+    if (f.number >= 7 && f.number <= 9)
+        f.place -= start;
+#endif
+#ifdef BUG_NO_ROOM_WRITES
+    if (f.number == 15 && out_length > 0)
+        out[0] = 0;
+#endif
+    return f;
 }
 
 /* As the oracle, with a bug where one is planted. */

@@ -1,9 +1,11 @@
--- One answer for each public call: two results that both meet its promise are equal, and so are the output slices. Each but `detail-one` is `one-answer` of
--- crate `laws`, with the way from the meaning back to the answer. Assumes nothing.
-use Prim.Native.Nat.{ℕ}
-use mathlib.Core.Path.{_≡_, refl, sym, ap, ap₂, _∙_}
-use mathlib.Core.Bool.{Bool, true, false}
-use mathlib.Core.List.{_++_}
+-- One answer for each public call: two results that both meet its promise are equal, and so are the output slices. Each but `detail-one` and
+-- `fields-one` is `one-answer` of crate `laws`, with the way from the meaning back to the answer. Assumes nothing.
+use Prim.Native.Nat.{ℕ, _≤_}
+use native.Mathlib.Omega.{arith}
+use mathlib.Core.Path.{_≡_, refl, sym, ap, ap₂, subst, _∙_}
+use mathlib.Core.Bool.{Bool, true, false, cond}
+use mathlib.Core.List.{List, _++_}
+use borrow.Author.Tests.{ne-eqb}
 use lib.Dec.{eqb}
 use Rattle.rules.specs.Bytes.{Bytes}
 use Rattle.rules.specs.Outcome.{Outcome, refused, fine, _>>=_}
@@ -15,8 +17,12 @@ use Rattle.rules.specs.Answers as rules
 use Rattle.rules.specs.Combine as combine
 use Rattle.rules.specs.Split.{split}
 use Rattle.rules.specs.Writer as writing
+use Rattle.rules.specs.HandedOut.{recordAt, RecordAnswer, recordAnswer, FieldsAnswer, fieldsOfRecord}
 use Rattle.laws.specs.LawWords.{Left}
 use Rattle.laws.proofs.OneAnswer.{one-answer}
+use Rattle.laws_handing.proofs.FieldsTold.{fields-told}
+use Rattle.base_codes.specs.declared.Code.{Code}
+use Rattle.base_codes.specs.declared.Code.the-variants as codes
 use Rattle.base_quantities.specs.QuantityMeanings.{unitsOf}
 use Rattle.base_totals.specs.declared.Summary.{Summary}
 use Rattle.read_file.specs.declared.Verdict.{Verdict}
@@ -36,6 +42,12 @@ use Rattle.base_refusals.specs.RefusalMeaning.{refusalMeant}
 use Rattle.part_details.specs.declared.DetailAnswer.{DetailAnswer}
 use Rattle.part_groups.specs.PartMeaning as parts
 use Rattle.part_details.specs.DetailMeaning as details
+use Rattle.part_records.specs.declared.Found.{Found}
+use Rattle.part_records.specs.declared.Found.the-variants as found
+use Rattle.part_records.specs.RecordsFound.{recordMeant, Finds}
+use Rattle.part_fields.specs.declared.Fields.{Fields}
+use Rattle.part_fields.specs.declared.Fields.the-variants as fields
+use Rattle.part_fields.specs.FieldNumbers.{fieldsMeant}
 use Rattle.write_state.specs.declared.Phase.{Phase}
 use Rattle.write_state.specs.declared.Phase.the-variants as phases
 use Rattle.write_state.specs.declared.Writer.{Writer}
@@ -46,9 +58,11 @@ use Rattle.bai2.specs.declared.Bai2Answer.{Bai2Answer}
 use Rattle.bai2.specs.declared.Bai2Combined.{Bai2Combined}
 use Rattle.bai2.specs.declared.cutting.Bai2Part.{Bai2Part}
 use Rattle.bai2.specs.declared.cutting.Bai2Detail.{Bai2Detail}
+use Rattle.bai2.specs.declared.handing.Bai2Record.{Bai2Record}
+use Rattle.bai2.specs.declared.handing.Bai2Fields.{Bai2Fields}
 use Rattle.c_writer.specs.declared.Bai2Writer.{Bai2Writer}
 use Rattle.c_writer.specs.declared.Bai2Written.{Bai2Written}
-use Rattle.bai2.specs.CAnswers.{SummaryFigures, summaryFigures, readMeant, splitMeant, combineMeant, partMeant, isGiven, orZero}
+use Rattle.bai2.specs.CAnswers.{SummaryFigures, summaryFigures, readMeant, splitMeant, combineMeant, partMeant, isGiven, orZero, recordFigures, fieldsFigures}
 use Rattle.c_writer.specs.WriterFigures.{numbersOf, Reply, replied, replyTo}
 
 -- the code's refusal that stands for one of the rules
@@ -217,6 +231,75 @@ detail-one promised x y e z f w = sym (same-detail x z) ∙ ap detailOf (e ∙ s
 -- bai2_detail_of: the figures are promised themselves
 pub c-detail-one : (promised x y : Bai2Detail) → x ≡ promised → y ≡ promised → x ≡ y
 c-detail-one = one-answer (λ (x : Bai2Detail). x) (λ (x : Bai2Detail). x) (λ x. refl)
+
+-- ---- records and fields
+
+-- the code of this number
+abbrev codeFrom : ℕ → Code
+codeFrom n =
+    cond (eqb n 1) codes.FileHeader
+    (cond (eqb n 2) codes.GroupHeader
+    (cond (eqb n 3) codes.AccountHeader
+    (cond (eqb n 16) codes.Detail
+    (cond (eqb n 49) codes.AccountTrailer (cond (eqb n 98) codes.GroupTrailer (cond (eqb n 99) codes.FileTrailer codes.Continuation))))))
+
+-- no code has the number 0
+abbrev foundFrom : RecordAnswer → Found
+foundFrom m = cond (eqb (m .code) 0) (found.Refused (refusalFrom (m .refusal))) (found.Record (codeFrom (m .code)) (record { 0 = m .lines }) (m .len))
+
+same-found : (x : Found) → foundFrom (recordMeant x) ≡ x
+same-found (found.Refused why) = refl
+same-found (found.Record codes.FileHeader n size) = refl
+same-found (found.Record codes.GroupHeader n size) = refl
+same-found (found.Record codes.AccountHeader n size) = refl
+same-found (found.Record codes.Detail n size) = refl
+same-found (found.Record codes.AccountTrailer n size) = refl
+same-found (found.Record codes.GroupTrailer n size) = refl
+same-found (found.Record codes.FileTrailer n size) = refl
+same-found (found.Record codes.Continuation n size) = refl
+
+-- part_records::record_at
+pub record-one : (file : Bytes) (start : ℕ) (x y : Found) → Finds file start x → Finds file start y → x ≡ y
+record-one file start x y p q = one-answer recordMeant foundFrom same-found (recordAnswer (recordAt file start)) x y (p .answer) (q .answer)
+
+-- bai2_record_at
+pub c-record-one : (file : Bytes) (start : ℕ) (x y : Bai2Record)
+    → recordFigures x ≡ recordAnswer (recordAt file start) → recordFigures y ≡ recordAnswer (recordAt file start) → x ≡ y
+c-record-one file start =
+    one-answer recordFigures
+    (λ (m : RecordAnswer). record { number = m .refusal .number; place = m .refusal .place; code = m .code; lines = m .lines; length = m .len })
+    (λ x. refl) (recordAnswer (recordAt file start))
+
+abbrev fieldsFrom : FieldsAnswer → Left Fields
+fieldsFrom m = record { answer = cond (eqb (m .count) 0) (fields.Refused (refusalFrom (m .refusal))) (fields.Given (record { 0 = m .count })); slice = m .out }
+
+-- its number tells whether it is refused
+abbrev Told : FieldsAnswer → Type 0
+Told m = m .refusal .number ≡ 0 → 1 ≤ m .count
+
+given-back : (n : ℕ) (out : List ℕ) → 1 ≤ n → _≡_ {A = Left Fields} (fieldsFrom (fieldsMeant (fields.Given (record { 0 = n })) out)) (record { answer = fields.Given (record { 0 = n }); slice = out })
+given-back n out h =
+    let some : eqb n 0 ≡ false = ne-eqb n 0 (λ e. omega arith) in
+    rw some
+
+same-fields : (r : Fields) (out : List ℕ) → Told (fieldsMeant r out) → _≡_ {A = Left Fields} (fieldsFrom (fieldsMeant r out)) (record { answer = r; slice = out })
+same-fields (fields.Refused why) out t = refl
+same-fields (fields.Given n) out t = given-back (n .0) out (t refl)
+
+-- part_fields::fields_at
+pub fields-one : (file : Bytes) (start : ℕ) (before : List ℕ) (x y : Left Fields)
+    → fieldsMeant (x .answer) (x .slice) ≡ fieldsOfRecord file start before → fieldsMeant (y .answer) (y .slice) ≡ fieldsOfRecord file start before → x ≡ y
+fields-one file start before x y p q =
+    let told = fields-told file start before in
+    sym (same-fields (x .answer) (x .slice) (subst Told (sym p) told)) ∙ ap fieldsFrom (p ∙ sym q) ∙ same-fields (y .answer) (y .slice) (subst Told (sym q) told)
+
+-- bai2_fields_at
+pub c-fields-one : (file : Bytes) (start : ℕ) (before : List ℕ) (x y : Left Bai2Fields)
+    → fieldsFigures (x .answer) (x .slice) ≡ fieldsOfRecord file start before → fieldsFigures (y .answer) (y .slice) ≡ fieldsOfRecord file start before → x ≡ y
+c-fields-one file start before =
+    one-answer (λ (x : Left Bai2Fields). fieldsFigures (x .answer) (x .slice))
+    (λ (m : FieldsAnswer). record { answer = record { number = m .refusal .number; place = m .refusal .place; count = m .count }; slice = m .out })
+    (λ x. refl) (fieldsOfRecord file start before)
 
 -- ---- writing
 

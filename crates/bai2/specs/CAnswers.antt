@@ -1,6 +1,7 @@
 -- What the answers to C say in the rules' terms: the same numbers, figure by figure; where refused, every figure but number and place is 0, and combine's file.
 -- Assumes nothing.
 use Prim.Native.Nat.{ℕ}
+use mathlib.Core.List.{List}
 use mathlib.Core.Option.{Option, none, some}
 use lib.IntN.{ℤ}
 use Rattle.rules.specs.Bytes.{Bytes}
@@ -9,11 +10,14 @@ use Rattle.rules.specs.Numbers.{asInteger}
 use Rattle.rules.specs.Totals.{Summary, noSummary}
 use Rattle.rules.specs.Answers as rules
 use Rattle.rules.specs.Combine as combine
+use Rattle.rules.specs.HandedOut as handed
 use Rattle.bai2.specs.declared.Bai2Summary.{Bai2Summary}
 use Rattle.bai2.specs.declared.Bai2Answer.{Bai2Answer}
 use Rattle.bai2.specs.declared.Bai2Combined.{Bai2Combined}
 use Rattle.bai2.specs.declared.cutting.Bai2Part.{Bai2Part}
 use Rattle.bai2.specs.declared.cutting.Bai2Detail.{Bai2Detail}
+use Rattle.bai2.specs.declared.handing.Bai2Record.{Bai2Record}
+use Rattle.bai2.specs.declared.handing.Bai2Fields.{Bai2Fields}
 
 -- ---- reading
 
@@ -84,3 +88,12 @@ detailFigures d =
       «text_start» = d .textStart;
       «text_length» = d .textLength;
     }
+
+-- ---- records and fields
+
+abbrev pub recordFigures : Bai2Record → handed.RecordAnswer
+recordFigures r = record { refusal = record { number = r .number; place = r .place }; code = r .code; lines = r .lines; len = r .length }
+
+-- an answer about fields, with what the slice holds
+abbrev pub fieldsFigures : Bai2Fields → List ℕ → handed.FieldsAnswer
+fieldsFigures r out = record { refusal = record { number = r .number; place = r .place }; count = r .count; out = out }

@@ -12,6 +12,7 @@ ghost use Rattle.rules.specs.Combine.{combine};
 ghost use Rattle.bai2.specs.CAnswers.{summaryFigures, readMeant, splitMeant, combineMeant};
 
 pub mod cutting;
+pub mod handing;
 pub mod writing;
 
 // What reading a file answers.

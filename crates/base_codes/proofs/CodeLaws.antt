@@ -5,8 +5,7 @@ use mathlib.Core.Path.{_≡_, refl}
 use mathlib.Core.List.{[], _∷_}
 use lib.Dec.{eqb}
 use Rattle.rules.specs.Bytes.{Bytes, comma, letter, sameBytes}
-use Rattle.rules.specs.Lines.{Code, fileHeader, groupHeader, accountHeader, detail, accountTrailer, groupTrailer, fileTrailer, continuation, codeBytes, sameCode}
-use Rattle.base_codes.specs.CodeMeaning.{codeNumber}
+use Rattle.rules.specs.Lines.{Code, fileHeader, groupHeader, accountHeader, detail, accountTrailer, groupTrailer, fileTrailer, continuation, codeBytes, sameCode, codeNumber}
 
 -- what holds of each code holds of every code
 by-code : (P : Code → Type 0) → P fileHeader → P groupHeader → P accountHeader → P detail → P accountTrailer → P groupTrailer → P fileTrailer → P continuation → (c : Code) → P c

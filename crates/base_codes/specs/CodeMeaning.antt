@@ -1,5 +1,4 @@
 -- The rules' code that a `Code` stands for, and the bytes that its digits stand for. Assumes nothing.
-use Prim.Native.Nat.{ℕ}
 use mathlib.Core.List.{[], _∷_}
 use Rattle.rules.specs.Bytes.{Bytes, comma}
 use Rattle.rules.specs.Lines as lines
@@ -16,17 +15,6 @@ codeMeant codes.AccountTrailer = lines.accountTrailer
 codeMeant codes.GroupTrailer = lines.groupTrailer
 codeMeant codes.FileTrailer = lines.fileTrailer
 codeMeant codes.Continuation = lines.continuation
-
--- the code's two digits as a number: those of `codeBytes` (rules/specs/Lines.antt); joined by `number-bytes` (proofs/CodeLaws.antt)
-abbrev pub codeNumber : lines.Code → ℕ
-codeNumber lines.fileHeader = 1
-codeNumber lines.groupHeader = 2
-codeNumber lines.accountHeader = 3
-codeNumber lines.detail = 16
-codeNumber lines.accountTrailer = 49
-codeNumber lines.groupTrailer = 98
-codeNumber lines.fileTrailer = 99
-codeNumber lines.continuation = 88
 
 -- two digits and a comma, with which a line of that code begins
 abbrev pub bytesMeant : Digits → Bytes

@@ -1,7 +1,7 @@
 // The codes of records, one type for every crate that reads or writes them, and the two digits of each.
 ghost use mathlib.Core.Path.{_≡_};
-ghost use Rattle.rules.specs.Lines.{codeBytes, sameCode};
-ghost use Rattle.base_codes.specs.CodeMeaning.{codeMeant, codeNumber, bytesMeant};
+ghost use Rattle.rules.specs.Lines.{codeBytes, codeNumber, sameCode};
+ghost use Rattle.base_codes.specs.CodeMeaning.{codeMeant, bytesMeant};
 
 pub enum Code {
     FileHeader,

@@ -4,14 +4,15 @@ use native.Mathlib.Omega.{arith}
 use mathlib.Core.Path.{_≡_, refl, sym, ap, _∙_}
 use mathlib.Core.Bool.{Bool, true, false, cond}
 use mathlib.Core.List.{List, [], _∷_, _++_}
-use lib.ListN.{take, drop, getD}
+use lib.Dec.{eqb}
+use lib.ListN.{length, take, drop, getD}
 use borrow.Author.Tests.{eqb-true}
 use Rattle.rules.specs.Bytes.{Bytes, isEmpty, trimmed, all}
 use Rattle.rules.specs.Numbers.{digits, number, Signed, signed, withoutSign, numberFrom}
 use Rattle.rules.specs.TypeCodes.{typeClass}
 use Rattle.rules.specs.Outcome.{fine}
 use Rattle.rules.specs.Lines.{Line, sizeOf, linesOf, Code, detail, Record}
-use Rattle.rules.specs.Cells.{Cell, cellsOf}
+use Rattle.rules.specs.Cells.{Mark, atComma, atSlash, atLineEnd, Cell, markPlace, cellsOf, leadingBlanks}
 use Rattle.rules.specs.Grammar.{
   Kind,
   name,
@@ -54,6 +55,7 @@ use Rattle.rules.specs.Grammar.{
   nextKind,
   isText,
   judged,
+  mayLack,
   fieldsOf,
 }
 use Rattle.rules.specs.Records.{Field, the, walkRecord}
@@ -63,7 +65,8 @@ use Rattle.base_digits.proofs.ReadingLaws.{value-is}
 use Rattle.base_digits.proofs.SignLaws.{amount-empty}
 use Rattle.read_kept.proofs.EachKind.{Signs, reads-amount, reads-total}
 use Rattle.find_field.proofs.SearchAgrees.{found-is}
-use Rattle.find_field.specs.FieldSearch.{Sighted, seen, onto, lost, onward, sight, isOpen, seekCells, Found, orAfter, seekLines, inDetail}
+use Rattle.find_next.specs.FieldTrace.{Trace, stops, ends, yields, traceAfter, traceTaken, tracePastSlash, traceTakenTo, traceCells, traceEnd, traceLines}
+use Rattle.find_field.specs.FieldSearch.{Found, soughtIn, seekLines, inDetail}
 
 -- ---- kinds by their numbers
 
@@ -110,44 +113,74 @@ same-kind k kd e = sym (numbered kd) ∙ ap (λ (n : ℕ). getD kindsInOrder n n
 -- ---- what holds of every good field of a kind holds of what is found
 
 module _ (k : Kind) (P : Bytes → Type 0) (none : P []) (each : (bs : Bytes) (new : List Kind) → judged k bs ≡ good new → P bs) where
-  abbrev Holds : Sighted → Type 0
-  Holds (seen p bs) = P bs
-  Holds (onto ks) = Unit {0}
-  Holds lost = Unit {0}
+  -- of each field of the kind that is yielded
+  abbrev Holds : Trace → Type 0
+  Holds (stops why) = Unit {0}
+  Holds ends = Unit {0}
+  Holds (yields f t) = (sameKind k (f .kind) ≡ true → P (f .bytes)) × Holds t
 
-  either : (t : Bool) (x y : Sighted) → Holds x → Holds y → Holds (cond t x y)
+  either : (t : Bool) (x y : Trace) → Holds x → Holds y → Holds (cond t x y)
   either true x y h g = h
   either false x y h g = g
 
-  judged-holds : (j : Judged) (kd : Kind) (ks : List Kind) (p : ℕ) (bs : Bytes) (f : List Kind → Sighted) → judged kd bs ≡ j → ((next : List Kind) → Holds (f next)) → Known (sameKind k kd)
-      → Holds (onward (andThen j ks) (λ next. cond (sameKind k kd) (seen p bs) (f next)))
-  unfolding onward andThen
-  judged-holds (bad n) kd ks p bs f e h t = tt
-  judged-holds (good new) kd ks p bs f e h (holds t) = rw t (each bs new (ap (λ (x : Kind). judged x bs) (sym (same-kind k kd t)) ∙ e))
-  judged-holds (good new) kd ks p bs f e h (fails t) = rw t (h (new ++ ks))
+  kind-holds : (kd : Kind) (bs : Bytes) (new : List Kind) → judged kd bs ≡ good new → sameKind k kd ≡ true → P bs
+  kind-holds kd bs new e t = each bs new (ap (λ (x : Kind). judged x bs) (sym (same-kind k kd t)) ∙ e)
 
-  sight-holds : (ks : List Kind) (p : ℕ) (bs : Bytes) (f : List Kind → Sighted) → ((next : List Kind) → Holds (f next)) → Holds (sight k ks p bs f)
-  unfolding sight takeNext onward
-  sight-holds [] p bs f h = tt
-  sight-holds (kd ∷ ks) p bs f h = judged-holds (judged kd bs) kd ks p bs f refl h (known (sameKind k kd))
+  after-holds : (j : Judged) (kd : Kind) (ks : List Kind) (p : ℕ) (bs : Bytes) (go : List Kind → Trace) → judged kd bs ≡ j → ((next : List Kind) → Holds (go next))
+      → Holds (traceAfter (andThen j ks) (record { kind = kd; place = p; bytes = bs }) go)
+  unfolding traceAfter andThen
+  after-holds (bad n) kd ks p bs go e h = tt
+  after-holds (good new) kd ks p bs go e h = (kind-holds kd bs new e, h (new ++ ks))
 
-  cells-hold : (cs : List Cell) (ks : List Kind) → Holds (seekCells k ks cs)
-  unfolding seekCells
-  cells-hold [] ks = tt
-  cells-hold (c ∷ cs) ks =
-      either (isText (nextKind ks)) _ _ (sight-holds ks (c .place) (trimmed (c .rest)) (λ next. onto next) (λ next. tt))
-      (either (isOpen (c .mark)) lost _ tt (sight-holds ks (c .place) (c .bytes) (λ next. seekCells k next cs) (λ next. cells-hold cs next)))
+  taken-holds : (ks : List Kind) (p : ℕ) (bs : Bytes) (go : List Kind → Trace) → ((next : List Kind) → Holds (go next)) → Holds (traceTaken ks p bs go)
+  unfolding traceTaken takeNext traceAfter
+  taken-holds [] p bs go h = tt
+  taken-holds (kd ∷ ks) p bs go h = after-holds (judged kd bs) kd ks p bs go refl h
 
-  after-holds : (o : Sighted) (f : List Kind → Found) → Holds o → ((next : List Kind) → P (f next .bytes)) → P (orAfter o f .bytes)
-  unfolding orAfter
-  after-holds (seen p bs) f h g = h
-  after-holds (onto ks) f h g = g ks
-  after-holds lost f h g = none
+  past-holds : (j : Judged) (kd : Kind) (ks : List Kind) (p : ℕ) (bs : Bytes) (q : ℕ) (after : Bytes) (go : List Kind → Trace) → judged kd bs ≡ j → ((next : List Kind) → Holds (go next))
+      → Holds (tracePastSlash (andThen j ks) (record { kind = kd; place = p; bytes = bs }) q after go)
+  unfolding tracePastSlash andThen
+  past-holds (bad n) kd ks p bs q after go e h = tt
+  past-holds (good new) kd ks p bs q after go e h = either (eqb (leadingBlanks after) (length after)) _ _ (kind-holds kd bs new e, h (new ++ ks)) tt
 
-  found-holds : (ls : List Line) (p : ℕ) (ks : List Kind) → P (seekLines k p ks ls .bytes)
+  slash-holds : (ks : List Kind) (p : ℕ) (bs : Bytes) (q : ℕ) (after : Bytes) (go : List Kind → Trace) → ((next : List Kind) → Holds (go next))
+      → Holds (tracePastSlash (takeNext ks bs) (record { kind = nextKind ks; place = p; bytes = bs }) q after go)
+  unfolding takeNext tracePastSlash
+  slash-holds [] p bs q after go h = tt
+  slash-holds (kd ∷ ks) p bs q after go h = past-holds (judged kd bs) kd ks p bs q after go refl h
+
+  to-holds : (m : Mark) (c : Cell) (ks : List Kind) (s : ℕ) (go : List Kind → ℕ → Trace) → ((next : List Kind) (q : ℕ) → Holds (go next q)) → Holds (traceTakenTo m c ks s go)
+  unfolding traceTakenTo
+  to-holds atLineEnd c ks s go h = tt
+  to-holds atComma c ks s go h = taken-holds ks (c .place) (c .bytes) (λ next. go next s) (λ next. h next s)
+  to-holds (atSlash after) c ks s go h = slash-holds ks (c .place) (c .bytes) (markPlace c) after (λ next. go next (markPlace c)) (λ next. h next (markPlace c))
+
+  cells-hold : (cs : List Cell) (ks : List Kind) (s : ℕ) (go : List Kind → ℕ → Trace) → ((next : List Kind) (q : ℕ) → Holds (go next q)) → Holds (traceCells ks s cs go)
+  unfolding traceCells
+  cells-hold [] ks s go h = h ks s
+  cells-hold (c ∷ cs) ks s go h =
+      either (isText (nextKind ks)) _ _ (taken-holds ks (c .place) (trimmed (c .rest)) (λ next. go next s) (λ next. h next s))
+      (to-holds (c .mark) c ks s (λ next q. traceCells next q cs go) (λ next q. cells-hold cs next q go h))
+
+  lines-hold : (ls : List Line) (p : ℕ) (ks : List Kind) (s : ℕ) → Holds (traceLines p ks s ls)
+  unfolding traceLines traceEnd
+  lines-hold [] p ks s = either (mayLack ks) _ _ tt tt
+  lines-hold (l ∷ ls) p ks s = cells-hold (cellsOf p l) ks s (λ next q. traceLines (p + sizeOf l) next q ls) (λ next q. lines-hold ls (p + sizeOf l) next q)
+
+  found-kept : (f : Field) (t : Trace) → (sameKind k (f .kind) ≡ true → P (f .bytes)) → P (soughtIn k t .bytes) → Known (sameKind k (f .kind)) → P (soughtIn k (yields f t) .bytes)
+  unfolding soughtIn
+  found-kept f t here later (holds e) = rw e (here e)
+  found-kept f t here later (fails e) = rw e later
+
+  sought-holds : (t : Trace) → Holds t → P (soughtIn k t .bytes)
+  unfolding soughtIn
+  sought-holds (stops why) h = none
+  sought-holds ends h = none
+  sought-holds (yields f t) h = found-kept f t (h .0) (sought-holds t (h .1)) (known (sameKind k (f .kind)))
+
+  found-holds : (ks : List Kind) (r : Record) → P (seekLines k ks r .bytes)
   unfolding seekLines
-  found-holds [] p ks = none
-  found-holds (l ∷ ls) p ks = after-holds (seekCells k ks (cellsOf p l)) (λ next. seekLines k (p + sizeOf l) next ls) (cells-hold (cellsOf p l) ks) (λ next. found-holds ls (p + sizeOf l) next)
+  found-holds ks r = sought-holds (traceLines 0 ks 0 r) (lines-hold r 0 ks 0)
 
 -- ---- a type is three digits, a number of records one to nine
 
@@ -162,9 +195,9 @@ each-type bs new e = go (known (digits 3 3 bs))
     go (holds t) = value-is 3 3 bs t (omega arith)
     go (fails t) = let z : bad 8 ≡ good new = rw t at e in cc
 
-type-read : (ks : List Kind) (r : Record) → ValueRead (seekLines detailType 0 ks r .bytes)
+type-read : (ks : List Kind) (r : Record) → ValueRead (seekLines detailType ks r .bytes)
 unfolding valueOf numberFrom digits all
-type-read ks r = found-holds detailType ValueRead refl each-type r 0 ks
+type-read ks r = found-holds detailType ValueRead refl each-type ks r
 
 each-records : (bs : Bytes) (new : List Kind) → judged records bs ≡ good new → ValueRead bs
 unfolding judged
@@ -174,9 +207,9 @@ each-records bs new e = go (known (digits 1 9 bs))
     go (holds t) = value-is 1 9 bs t (omega arith)
     go (fails t) = let z : bad 8 ≡ good new = rw t at e in cc
 
-records-read : (ks : List Kind) (r : Record) → ValueRead (seekLines records 0 ks r .bytes)
+records-read : (ks : List Kind) (r : Record) → ValueRead (seekLines records ks r .bytes)
 unfolding valueOf numberFrom digits all
-records-read ks r = found-holds records ValueRead refl each-records r 0 ks
+records-read ks r = found-holds records ValueRead refl each-records ks r
 
 -- ---- an amount and a total are digits after at most a sign, or an amount is empty
 
@@ -184,32 +217,32 @@ abbrev AmountRead : Bytes → Type 0
 AmountRead bs = amountIn bs ≡ signed bs
 
 -- of a kind that is read so
-sign-read : (k : Kind) → Signs k → (ks : List Kind) (r : Record) → AmountRead (seekLines k 0 ks r .bytes)
+sign-read : (k : Kind) → Signs k → (ks : List Kind) (r : Record) → AmountRead (seekLines k ks r .bytes)
 unfolding isEmpty
-sign-read k reads ks r = found-holds k AmountRead (amount-empty [] refl) reads r 0 ks
+sign-read k reads ks r = found-holds k AmountRead (amount-empty [] refl) reads ks r
 
 -- ---- the field's bytes as the code lends them
 
-pub spot-is : (k : Kind) (rec : Bytes) (first : List Kind) (x : Found) → first ≡ fieldsOf detail → x ≡ seekLines k 0 first (linesOf rec) → x ≡ inDetail k rec
+pub spot-is : (k : Kind) (rec : Bytes) (first : List Kind) (x : Found) → first ≡ fieldsOf detail → x ≡ seekLines k first (linesOf rec) → x ≡ inDetail k rec
 unfolding inDetail
-spot-is k rec first x e h = h ∙ ap (λ (ks : List Kind). seekLines k 0 ks (linesOf rec)) e
+spot-is k rec first x e h = h ∙ ap (λ (ks : List Kind). seekLines k ks (linesOf rec)) e
 
-pub lent-is : (k : Kind) (rec : Bytes) (first ks : List Kind) (s n : ℕ) → first ≡ ks → record { place = s; bytes = take n (drop s rec) } ≡ seekLines k 0 first (linesOf rec)
-    → take (s + n - s) (drop s rec) ≡ seekLines k 0 ks (linesOf rec) .bytes
+pub lent-is : (k : Kind) (rec : Bytes) (first ks : List Kind) (s n : ℕ) → first ≡ ks → record { place = s; bytes = take n (drop s rec) } ≡ seekLines k first (linesOf rec)
+    → take (s + n - s) (drop s rec) ≡ seekLines k ks (linesOf rec) .bytes
 lent-is k rec first ks s n e h =
     let size : s + n - s ≡ n = omega arith in
-    ap (λ (m : ℕ). take m (drop s rec)) size ∙ ap (λ (x : Found). x .bytes) (h ∙ ap (λ (js : List Kind). seekLines k 0 js (linesOf rec)) e)
+    ap (λ (m : ℕ). take m (drop s rec)) size ∙ ap (λ (x : Found). x .bytes) (h ∙ ap (λ (js : List Kind). seekLines k js (linesOf rec)) e)
 
-pub spot-bytes : (k : Kind) (rec : Bytes) (first : List Kind) (s n : ℕ) → first ≡ fieldsOf detail → record { place = s; bytes = take n (drop s rec) } ≡ seekLines k 0 first (linesOf rec)
+pub spot-bytes : (k : Kind) (rec : Bytes) (first : List Kind) (s n : ℕ) → first ≡ fieldsOf detail → record { place = s; bytes = take n (drop s rec) } ≡ seekLines k first (linesOf rec)
     → take (s + n - s) (drop s rec) ≡ inDetail k rec .bytes
 unfolding inDetail
 spot-bytes k rec first s n e h = lent-is k rec first (fieldsOf detail) s n e h
 
-pub type-in : (rec bs : Bytes) → bs ≡ seekLines detailType 0 (fieldsOf detail) (linesOf rec) .bytes → valueOf bs ≡ number (inDetail detailType rec .bytes)
+pub type-in : (rec bs : Bytes) → bs ≡ seekLines detailType (fieldsOf detail) (linesOf rec) .bytes → valueOf bs ≡ number (inDetail detailType rec .bytes)
 unfolding inDetail
 type-in rec bs e = ap valueOf e ∙ type-read (fieldsOf detail) (linesOf rec)
 
-pub amount-in : (rec bs : Bytes) → bs ≡ seekLines amount 0 (fieldsOf detail) (linesOf rec) .bytes
+pub amount-in : (rec bs : Bytes) → bs ≡ seekLines amount (fieldsOf detail) (linesOf rec) .bytes
     → (isEmpty bs ≡ isEmpty (inDetail amount rec .bytes)) × (valueOf (withoutSign bs) ≡ number (withoutSign (inDetail amount rec .bytes)))
 unfolding inDetail amountIn signed
 amount-in rec bs e =
@@ -219,13 +252,13 @@ amount-in rec bs e =
 
 module _ (c : Code) (rec : Bytes) (fs : List Field) (walked : walkRecord c (linesOf rec) ≡ fine fs) where
   -- the field found is the record's own
-  pub own-field : (k : Kind) → seekLines k 0 (fieldsOf c) (linesOf rec) .bytes ≡ the k fs .bytes
+  pub own-field : (k : Kind) → seekLines k (fieldsOf c) (linesOf rec) .bytes ≡ the k fs .bytes
   own-field k = ap (λ (x : Found). x .bytes) (sym (found-is k c (linesOf rec) fs walked))
 
 -- ---- a trailer's total and number of records, of whatever bytes
 
-pub total-found : (ks : List Kind) (r : Record) → amountIn (seekLines total 0 ks r .bytes) ≡ signed (seekLines total 0 ks r .bytes)
+pub total-found : (ks : List Kind) (r : Record) → amountIn (seekLines total ks r .bytes) ≡ signed (seekLines total ks r .bytes)
 total-found ks r = sign-read total reads-total ks r
 
-pub records-found : (ks : List Kind) (r : Record) → valueOf (seekLines records 0 ks r .bytes) ≡ number (seekLines records 0 ks r .bytes)
+pub records-found : (ks : List Kind) (r : Record) → valueOf (seekLines records ks r .bytes) ≡ number (seekLines records ks r .bytes)
 records-found ks r = records-read ks r

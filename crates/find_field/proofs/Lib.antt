@@ -1,5 +1,5 @@
 -- Laws that belong to no one function. Read in this order.
 pub mod SoughtLaws
-pub mod SightLaws
 pub mod SearchAgrees
+pub mod SeekLaws
 pub mod DetailFields

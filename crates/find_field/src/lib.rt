@@ -2,8 +2,7 @@
 use base_codes::Code;
 use base_quantities::Magnitude;
 use base_quantities::Place;
-use read_field_ends::Extent;
-use read_wanted::Taken;
+use find_next::Next;
 use read_wanted::want;
 use read_wanted::want::Want;
 ghost use mathlib.Core.Path.{_≡_};
@@ -15,7 +14,7 @@ ghost use Rattle.rules.specs.Grammar.{detailType, amount, sameKind, nextKind, f
 ghost use Rattle.base_codes.specs.CodeMeaning.{codeMeant};
 ghost use Rattle.read_wanted.specs.Wants.{wantedOf};
 ghost use Rattle.find_field.specs.FieldSearch.{inDetail, seekLines};
-ghost use Rattle.find_field.specs.SoughtKinds.{kindMeant, Sights, Spots};
+ghost use Rattle.find_field.specs.SoughtKinds.{kindMeant, Spots};
 
 // The kinds of field that can be sought: a detail's type, its amount, and its first text piece; a group's receiver; a trailer's total and its number of records.
 pub enum Sought {
@@ -37,13 +36,6 @@ pub struct Spot {
 pub struct Given {
     pub given: bool,
     pub amount: Magnitude,
-}
-
-// In a line: the field, by its start and length; or what is wanted after the line; or the line is not as it was wanted.
-enum Seen {
-    At(Place, usize),
-    Next(Want),
-    Lost,
 }
 
 // The next field is the one sought.
@@ -80,78 +72,39 @@ fn is_sought(want: Want, sought: Sought) -> bool
     }
 }
 
-// The field sought among those of a line after its code, where this is wanted first.
-fn seek_line(rest: &[u8], first: Want, sought: Sought) -> Seen
-    ensures { λ r. ⌜ Sights (now (rest .entry)) first sought r ⌝ }
+// Where there is no such field.
+fn nowhere() -> Spot
+    ensures { λ r. ⌜ r ≡ record { start = record { 0 = 0 }; length = 0 } ⌝ }
 {
-    let mut want = first;
-    let mut a: usize = 0;
-    loop {
-        let text = want::is_text(want);
-        let Extent::Field(n) = read_field_ends::field_extent(text, &rest[a..]) else {
-            return Seen::Lost;
-        };
-        let f = a + n;
-        let Taken::Next(next) = read_fields::take_field(want, &rest[a..f]) else {
-            return Seen::Lost;
-        };
-        if is_sought(want, sought) {
-            return Seen::At(Place(a), n);
-        }
-        if text {
-            return Seen::Next(next);
-        }
-        if rest[f] == b'/' {
-            return Seen::Next(next);
-        }
-        want = next;
-        a = f + 1;
-    }
-}
-
-// The field sought in a record, where this is wanted first.
-pub fn seek(rec: &[u8], first: Want, sought: Sought) -> Spot
-    ensures { λ r. ⌜ Spots (now (rec .entry)) first sought r ⌝ }
-{
-    let mut want = first;
-    let mut at: usize = 0;
-    while at < rec.len() {
-        let e = read_lines::body_end(rec, at);
-        let next = e + read_lines::end_len(rec, e);
-        let a = at + 3;
-        if e < a {
-            return Spot {
-                start: Place(0),
-                length: 0,
-            };
-        }
-        match seek_line(&rec[a..e], want, sought) {
-            Seen::At(i, n) => {
-                let start = a + i.0;
-                return Spot {
-                    start: Place(start),
-                    length: n,
-                };
-            }
-            Seen::Next(w) => want = w,
-            Seen::Lost => {
-                return Spot {
-                    start: Place(0),
-                    length: 0,
-                };
-            }
-        }
-        at = next;
-    }
     Spot {
         start: Place(0),
         length: 0,
     }
 }
 
+// The field sought in a record, where this is wanted first; 0 and 0 where the walk ends, or is refused, before one is met.
+pub fn seek(rec: &[u8], first: Want, sought: Sought) -> Spot
+    ensures { λ r. ⌜ Spots (now (rec .entry)) first sought r ⌝ }
+{
+    let mut walk = find_next::before_record(first);
+    loop {
+        let want = walk.want;
+        match find_next::next_field(rec, walk) {
+            Next::Refused(_) => return nowhere(),
+            Next::Over => return nowhere(),
+            Next::Field(start, length, after) => {
+                if is_sought(want, sought) {
+                    return Spot { start, length };
+                }
+                walk = after;
+            }
+        }
+    }
+}
+
 // The field sought in a record of this code; an empty part where there is none.
 pub fn field(rec: &[u8], code: Code, sought: Sought) -> &[u8]
-    ensures { λ r. ⌜ now r ≡ seekLines (kindMeant sought) 0 (fieldsOf (codeMeant code)) (linesOf (now (rec .entry))) .bytes ⌝ }
+    ensures { λ r. ⌜ now r ≡ seekLines (kindMeant sought) (fieldsOf (codeMeant code)) (linesOf (now (rec .entry))) .bytes ⌝ }
 {
     let spot = seek(rec, want::first_want(code), sought);
     let start = spot.start;

@@ -178,7 +178,7 @@ fn combine_accepted(
     match sum.join(t.total) {
         UnitsSum::Beyond => refused_by(AMOUNTS_TOO_LARGE),
         UnitsSum::Within(total) => {
-            let header = read_lines::record_end(b, 0);
+            let header = read_lines::record_end(b, Place(0)).0;
             let b99 = second.last.0;
             if !within(&b[header..b99], second.limit, first.limit) {
                 return refused_by(RESULT_TOO_LONG);

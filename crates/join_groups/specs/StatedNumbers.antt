@@ -8,8 +8,8 @@ use Rattle.find_field.specs.FieldSearch.{seekLines}
 
 -- its total
 abbrev pub statedTotal : Record → Sum
-statedTotal r = asSum (signed (seekLines total 0 (fieldsOf groupTrailer) r .bytes))
+statedTotal r = asSum (signed (seekLines total (fieldsOf groupTrailer) r .bytes))
 
 -- its number of records
 abbrev pub statedRecords : Record → ℕ
-statedRecords r = number (seekLines records 0 (fieldsOf groupTrailer) r .bytes)
+statedRecords r = number (seekLines records (fieldsOf groupTrailer) r .bytes)

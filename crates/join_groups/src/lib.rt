@@ -48,10 +48,15 @@ pub fn take_groups(name: &[u8], file: &[u8], from: Place, out: &mut [u8]) -> Tal
     let mut bytes: usize = 0;
     let mut total = Units(0, 0);
     let mut records = Records(0);
-    while read_lines::begins(file, at, Code::GroupHeader) {
-        let last = find_lines::next_line_of(file, at, Code::GroupTrailer, Code::FileTrailer);
-        let e = read_lines::record_end(file, last);
-        let header = read_lines::record_end(file, at);
+    while read_lines::begins(file, Place(at), Code::GroupHeader) {
+        let last = find_lines::next_line_of(
+            file,
+            Place(at),
+            Code::GroupTrailer,
+            Code::FileTrailer,
+        ).0;
+        let e = read_lines::record_end(file, Place(last)).0;
+        let header = read_lines::record_end(file, Place(at)).0;
         if join_receivers::is_for(name, &file[at..header]) {
             o += base_slices::put(&mut out[o..], &file[at..e]);
             let trailer = read_trailer(&file[last..e]);

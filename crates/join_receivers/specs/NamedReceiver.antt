@@ -8,4 +8,4 @@ use Rattle.find_field.specs.FieldSearch.{seekLines}
 -- stands for the test of one step of `groupsFor` (rules/specs/Split.antt), `sameBytes name (receiverOf g)`; joined by `named-is` (proofs/NamedLaws.antt)
 -- and `receiver-is` (join_groups/proofs/ReceiverLaws.antt)
 abbrev pub named : Bytes → Record → Bool
-named name r = sameBytes name (seekLines ultimateReceiver 0 (fieldsOf groupHeader) r .bytes)
+named name r = sameBytes name (seekLines ultimateReceiver (fieldsOf groupHeader) r .bytes)

@@ -117,7 +117,7 @@ fn split_accepted(name: &[u8], file: &[u8], out: &mut [u8]) -> Answer
     requires { ⌜ Accepts (now file) ⌝ }
     ensures { λ r. ⌜ answerMeant r (now (out .exit)) ≡ splitFitting (now (name .entry)) (now (file .entry)) (now (out .entry)) ⌝ }
 {
-    let header = read_lines::record_end(file, 0);
+    let header = read_lines::record_end(file, Place(0)).0;
     let number = misfit(name, file, header, out.len());
     if number != 0 {
         return refused(Refusal {

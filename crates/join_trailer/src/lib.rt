@@ -1,5 +1,6 @@
 // A fresh 99, and how many records a part has.
 use base_quantities::Count;
+use base_quantities::Place;
 use base_quantities::Records;
 use base_quantities::Units;
 ghost use mathlib.Core.Path.{_≡_};
@@ -45,7 +46,7 @@ pub fn count_lines(s: &[u8]) -> Records
     let mut n: u64 = 0;
     let mut at: usize = 0;
     while at < s.len() {
-        at = read_lines::next_line(s, at);
+        at = read_lines::next_line(s, Place(at)).0;
         n += 1;
     }
     Records(n)

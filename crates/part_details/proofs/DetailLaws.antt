@@ -6,7 +6,7 @@ use mathlib.Core.Bool.{Bool, true, false, cond, not}
 use mathlib.Core.List.{List, [], _∷_}
 use mathlib.Core.Option.{none, some}
 use lib.ListN.{length, take, drop, length-drop}
-use lib.Seq.{length-take-le}
+use lib.Seq.{slice, drop-drop, length-take-le}
 use Rattle.rules.specs.Bytes.{Bytes, slash, isEmpty, just}
 use Rattle.rules.specs.Numbers.{number, numberFrom, withoutSign}
 use Rattle.rules.specs.Outcome.{notRefused, Outcome, refused, fine, _>>=_, orElse}
@@ -18,7 +18,8 @@ use Rattle.rules.specs.Answers.{PartAnswer, partAnswer, noDetail, detailAnswer,
 use Rattle.rules.proofs.Tests.{Known, holds, fails, known}
 use Rattle.find_field.specs.FieldSearch.{Found, seekLines, inDetail}
 use Rattle.find_field.proofs.SearchAgrees.{found-is}
-use Rattle.find_field.proofs.SightLaws.{part-of-part}
+use Rattle.read_lines.proofs.LineLaws.{take-drop}
+use Rattle.read_walk.proofs.LineParts.{part-slice, part-front}
 use Rattle.part_details.specs.DetailMeaning.{amountMeant}
 use Rattle.part_details.specs.TextPlace.{pieceAt}
 use Rattle.part_groups.specs.PartsEnclosed.{Numbered}
@@ -36,6 +37,12 @@ piece-by p x (fails t) = (rw t, rw t)
 pub no-piece : (a : ℕ) (x : Found) → just slash (x .bytes) ≡ true → record { place = 0; bytes = [] } ≡ pieceAt a x
 unfolding pieceAt
 no-piece a x t = rw t
+
+-- a part of a part
+part-of-part : (s : Bytes) (a e i m : ℕ) → a ≤ e → i + m ≤ e - a → take m (drop i (take (e - a) (drop a s))) ≡ take m (drop (a + i) s)
+part-of-part s a e i m fits w =
+    let part : drop i (take (e - a) (drop a s)) ≡ slice (a + i) e s = ap (λ (xs : Bytes). drop i xs) (part-slice a e s fits) ∙ drop-drop i a (take e s) in
+    ap (λ (xs : Bytes). take m xs) part ∙ part-front s (a + i) e m (omega arith) ∙ sym (take-drop (a + i) m s)
 
 -- as the code finds it at s in the detail from a to e, n bytes long
 pub some-piece : (file : Bytes) (a e s n : ℕ) (x : Found) → record { place = s; bytes = take n (drop s (take (e - a) (drop a file))) } ≡ x → a ≤ e → s + n ≤ e - a → just slash (x .bytes) ≡ false
@@ -64,7 +71,7 @@ module _ (file : Bytes) (x : Placed) (s : DetailStands file x) where
 
   found : (k : Kind) → inDetail k rec ≡ record { place = the k (s .fields) .place; bytes = the k (s .fields) .bytes }
   unfolding inDetail
-  found k = ap (λ (r : Record). seekLines k 0 (fieldsOf detail) r) (s .lines) ∙ sym (found-is k detail (s .record-of) (s .fields) (s .walked))
+  found k = ap (λ (r : Record). seekLines k (fieldsOf detail) r) (s .lines) ∙ sym (found-is k detail (s .record-of) (s .fields) (s .walked))
 
   found-bytes : (k : Kind) → inDetail k rec .bytes ≡ the k (s .fields) .bytes
   found-bytes k = ap (λ (y : Found). y .bytes) (found k)

@@ -37,10 +37,11 @@ fn no_part(why: Refusal) -> Part
 fn nth_part(s: &[u8], opening: Code, closing: Code, n: u64) -> Part
     ensures { λ r. ⌜ Finds (codeMeant opening) (codeMeant closing) (now (s .entry)) n (partMeant r) ⌝ }
 {
-    let mut at = read_lines::record_end(s, 0);
+    let mut at = read_lines::record_end(s, Place(0)).0;
     let mut left = n;
-    while read_lines::begins(s, at, opening) {
-        let e = find_lines::next_line_of(s, read_lines::record_end(s, at), opening, closing);
+    while read_lines::begins(s, Place(at), opening) {
+        let after = read_lines::record_end(s, Place(at));
+        let e = find_lines::next_line_of(s, after, opening, closing).0;
         if left == 0 {
             let length = e - at;
             return Part {

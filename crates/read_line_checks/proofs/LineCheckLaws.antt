@@ -10,15 +10,15 @@ use borrow.Author.Tests.{le-leb, lt-leb}
 use lib.ListN.{length, take, drop, drop-of-length-le}
 use Rattle.rules.specs.Bytes.{Bytes, sameBytes, allowed, all}
 use Rattle.rules.specs.Outcome.{Refusal, Outcome, refused, refuse, fine, _>>=_}
-use Rattle.rules.specs.Lines.{Line, Code, Record, sizeOf, linesOf, codeOf, continuation, codeBytes, recordSize}
+use Rattle.rules.specs.Lines.{Line, Code, Record, sizeOf, linesOf, fileHeader, groupHeader, accountHeader, detail, accountTrailer, groupTrailer, fileTrailer, continuation, codeBytes, codeIn, codeOf, recordSize}
 use Rattle.rules.specs.Verdict.{notLonger, allAllowed, coded, goodLine, goodLines, noneLonger}
 use Rattle.rules.proofs.Binds.{then-fine, or-fine}
-use Rattle.rules.proofs.Tests.{Known, holds, fails, known}
+use Rattle.rules.proofs.Tests.{Known, holds, fails, known, same-eq}
 use Rattle.read_lines.specs.LineLengths.{run, bodyLen, lineLen, plainLen, firstLine, further, firstRecord, isEnd}
 use Rattle.read_lines.proofs.LineLengthLaws.{first-of, first-body}
 use Rattle.read_lines.proofs.OneRecord.{first-size}
 use Rattle.read_lines.proofs.RunLengths.{plain-byte}
-use Rattle.read_lines.proofs.Fronts.{not-below}
+use Rattle.read_lines.proofs.Fronts.{not-below, begins-front}
 use Rattle.read_lines.proofs.LineLaws.{lines-here, further-none, further-first, further-size}
 
 -- ---- 4: where the allowed bytes end
@@ -65,19 +65,41 @@ module _ (xs : Bytes) (p limit : ℕ) where
     unfolding goodLine notLonger
     line-byte k = rw (first-body xs, le-leb (bodyLen xs) limit h, allowed-not p xs k)
 
-    module _ (k : bodyLen xs ≤ plainLen xs) where
-      pub line-code : none ≡ codeOf (firstLine xs) → goodLine p limit (firstLine xs) ≡ refuse 5 p
-      unfolding goodLine notLonger coded
-      line-code e = rw (first-body xs, le-leb (bodyLen xs) limit h, allowed-body p xs k, sym e)
+    pub line-clean : bodyLen xs ≤ plainLen xs → goodLine p limit (firstLine xs) ≡ coded p (firstLine xs)
+    unfolding goodLine notLonger
+    line-clean k = rw (first-body xs, le-leb (bodyLen xs) limit h, allowed-body p xs k)
 
-      pub line-fine : (c : Code) → some c ≡ codeOf (firstLine xs) → goodLine p limit (firstLine xs) ≡ fine c
-      unfolding goodLine notLonger coded
-      line-fine c e = rw (first-body xs, le-leb (bodyLen xs) limit h, allowed-body p xs k, sym e)
+-- 5 alone is left
+module _ (p limit : ℕ) (l : Line) (h : goodLine p limit l ≡ coded p l) where
+  pub line-code : none ≡ codeOf l → goodLine p limit l ≡ refuse 5 p
+  unfolding coded
+  line-code e = h ∙ rw (sym e)
+
+  pub line-fine : (c : Code) → some c ≡ codeOf l → goodLine p limit l ≡ fine c
+  unfolding coded
+  line-fine c e = h ∙ rw (sym e)
 
 -- a good line's code
 pub good-code : (p limit : ℕ) (l : Line) (c : Code) → goodLine p limit l ≡ fine c → codeOf l ≡ some c
 unfolding goodLine coded
 good-code p limit l c h = or-fine (codeOf l) 5 p c (then-fine (allAllowed p (l .body)) _ c (then-fine (notLonger p limit l) _ c h))
+
+-- a line of 88 has that code
+pub code-88 : (xs : Bytes) → sameBytes (codeBytes continuation) (take 3 xs) ≡ true → codeOf (firstLine xs) ≡ some continuation
+unfolding codeOf codeIn sameBytes
+code-88 xs t =
+    let e : codeBytes continuation ≡ take 3 xs = same-eq (codeBytes continuation) (take 3 xs) (rw t tt) in
+    rw (
+      begins-front fileHeader xs,
+      begins-front groupHeader xs,
+      begins-front accountHeader xs,
+      begins-front detail xs,
+      begins-front accountTrailer xs,
+      begins-front groupTrailer xs,
+      begins-front fileTrailer xs,
+      begins-front continuation xs,
+      ← e,
+    )
 
 -- ---- lines one after the other
 

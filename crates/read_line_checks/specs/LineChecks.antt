@@ -7,16 +7,18 @@ use Rattle.rules.specs.Bytes.{Bytes}
 use Rattle.rules.specs.Outcome.{Refusal, Outcome, refused, fine}
 use Rattle.rules.specs.Lines.{linesOf, codeOf, recordSize}
 use Rattle.rules.specs.Lines as rules
-use Rattle.rules.specs.Verdict.{goodLine, goodLines}
+use Rattle.rules.specs.Verdict.{coded, goodLine, goodLines}
 use Rattle.base_codes.specs.CodeMeaning.{codeMeant}
 use Rattle.base_refusals.specs.RefusalMeaning.{refusalMeant}
 use Rattle.read_line_checks.specs.declared.Checked.{Checked}
 use Rattle.read_line_checks.specs.declared.Checked.the-variants as checked
+use Rattle.read_line_checks.specs.declared.Clean.{Clean}
+use Rattle.read_line_checks.specs.declared.Clean.the-variants as clean
 use Rattle.read_line_checks.specs.declared.GoodLine.{GoodLine}
 use Rattle.read_line_checks.specs.declared.GoodLine.the-variants as good
 use Rattle.read_line_checks.specs.declared.Scanned.{Scanned}
 use Rattle.read_line_checks.specs.declared.Scanned.the-variants as scanned
-use Rattle.read_lines.specs.LineLengths.{firstLine, lineLen, firstRecord}
+use Rattle.read_lines.specs.LineLengths.{firstLine, bodyLen, lineLen, firstRecord}
 
 -- checks that say nothing but fine
 abbrev pub checkedOf : Checked → Outcome (Unit {0})
@@ -27,6 +29,11 @@ checkedOf (checked.Refused why) = refused (refusalMeant why)
 abbrev pub placeWithin : Checked → ℕ → Type 0
 placeWithin checked.Fine n = Unit {0}
 placeWithin (checked.Refused why) n = why .place .0 ≤ n
+
+-- 3, 4 of the line that starts at p, with these bytes from there on: refused; or 5 alone is left, and where it ends without its end
+abbrev pub CleanIs : Clean → ℕ → ℕ → Bytes → Type 0
+CleanIs (clean.Refused why) p limit xs = (goodLine p limit (firstLine xs) ≡ refused (refusalMeant why)) × (why .place .0 ≤ p + length xs)
+CleanIs (clean.Ends e) p limit xs = (goodLine p limit (firstLine xs) ≡ coded p (firstLine xs)) × (e .0 ≡ p + bodyLen xs)
 
 -- 3, 4, 5 of the line that starts at p, with these bytes from there on: refused; or its code, and the place after it
 abbrev pub LineIs : GoodLine → ℕ → ℕ → Bytes → Type 0

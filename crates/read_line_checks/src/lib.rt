@@ -12,12 +12,18 @@ ghost use Prim.Native.Nat.{_<_};
 ghost use lib.ListN.{length, drop};
 ghost use Rattle.rules.specs.Lines.{linesOf};
 ghost use Rattle.rules.specs.Verdict.{noneLonger};
-ghost use Rattle.read_line_checks.specs.LineChecks.{checkedOf, placeWithin, LineIs, ScanIs};
+ghost use Rattle.read_line_checks.specs.LineChecks.{checkedOf, placeWithin, CleanIs, LineIs, ScanIs};
 
 // Fine, or refused.
 pub enum Checked {
     Fine,
     Refused(Refusal),
+}
+
+// Where a line ends, without its end, or a refusal.
+enum Clean {
+    Refused(Refusal),
+    Ends(Place),
 }
 
 // A line's code and the place after the line, or a refusal.
@@ -33,32 +39,43 @@ pub enum Scanned {
     Record(Code, Records, usize),
 }
 
-// 3, 4, 5 of the line that starts there.
-fn good_line(s: &[u8], start: Place, limit: usize) -> GoodLine
+// 3, 4 of the line that starts there.
+fn clean_line(s: &[u8], start: Place, limit: usize) -> Clean
     requires { ⌜ start .0 < length (now s) ⌝ }
-    ensures { λ r. ⌜ LineIs r (start .0) limit (drop (start .0) (now (s .entry))) ⌝ }
+    ensures { λ r. ⌜ CleanIs r (start .0) limit (drop (start .0) (now (s .entry))) ⌝ }
 {
     let at = start.0;
-    let i = read_lines::scan::plain_end(s, at, b'~');
-    let e = read_lines::body_end(s, i);
+    let i = read_lines::scan::plain_end(s, start, b'~').0;
+    let e = read_lines::body_end(s, Place(i)).0;
     if limit < e - at {
-        return GoodLine::Refused(Refusal {
+        return Clean::Refused(Refusal {
             number: LINE_TOO_LONG,
             place: Place(at + limit),
         });
     }
     if i < e {
-        return GoodLine::Refused(Refusal {
+        return Clean::Refused(Refusal {
             number: BYTE_NOT_ALLOWED,
             place: Place(i),
         });
     }
-    match read_lines::code_at(s, at) {
-        Coded::None => GoodLine::Refused(Refusal {
-            number: NO_RECORD_CODE,
-            place: Place(at),
-        }),
-        Coded::With(code) => GoodLine::Good(code, Place(e + read_lines::end_len(s, e))),
+    Clean::Ends(Place(e))
+}
+
+// 3, 4, 5 of the line that starts there.
+fn good_line(s: &[u8], start: Place, limit: usize) -> GoodLine
+    requires { ⌜ start .0 < length (now s) ⌝ }
+    ensures { λ r. ⌜ LineIs r (start .0) limit (drop (start .0) (now (s .entry))) ⌝ }
+{
+    match clean_line(s, start, limit) {
+        Clean::Refused(why) => GoodLine::Refused(why),
+        Clean::Ends(e) => match read_lines::code_at(s, start) {
+            Coded::None => GoodLine::Refused(Refusal {
+                number: NO_RECORD_CODE,
+                place: start,
+            }),
+            Coded::With(code) => GoodLine::Good(code, Place(e.0 + read_lines::end_len(s, e))),
+        },
     }
 }
 
@@ -69,10 +86,10 @@ fn scan_further(s: &[u8], limit: usize, code: Code, next: Place) -> Scanned
 {
     let mut at = next.0;
     let mut n: u64 = 1;
-    while read_lines::begins_with(s, at, b'8', b'8') {
-        match good_line(s, Place(at), limit) {
-            GoodLine::Refused(why) => return Scanned::Refused(why),
-            GoodLine::Good(_, after) => at = after.0,
+    while read_lines::begins_with(s, Place(at), b'8', b'8') {
+        match clean_line(s, Place(at), limit) {
+            Clean::Refused(why) => return Scanned::Refused(why),
+            Clean::Ends(e) => at = e.0 + read_lines::end_len(s, e),
         }
         n += 1;
     }
@@ -98,14 +115,14 @@ pub fn none_longer(s: &[u8], limit: usize) -> Checked
 {
     let mut start: usize = 0;
     while start < s.len() {
-        let e = read_lines::body_end(s, start);
+        let e = read_lines::body_end(s, Place(start)).0;
         if limit < e - start {
             return Checked::Refused(Refusal {
                 number: LINE_TOO_LONG,
                 place: Place(start + limit),
             });
         }
-        start = e + read_lines::end_len(s, e);
+        start = e + read_lines::end_len(s, Place(e));
     }
     Checked::Fine
 }

@@ -101,6 +101,9 @@ module _ (s : Bytes) (at : ℕ) where
     unfolding recordSize
     further-size n p = rw (further-first n p) (let z = first-size (drop at s) in omega arith)
 
+    pub further-count : (n : ℕ) → n ≡ at + lineLen (drop at s) → length (further (linesOf (drop at s))) ≡ suc (length (further (linesOf (drop n s))))
+    further-count n p = rw (further-first n p)
+
 -- ---- the record's end alone
 
 pub record-start : (s : Bytes) (at n : ℕ) → n ≡ at + lineLen (drop at s) → at + recordSize (firstRecord (linesOf (drop at s))) ≡ n + recordSize (further (linesOf (drop n s)))

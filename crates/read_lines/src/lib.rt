@@ -1,6 +1,7 @@
 // Lines and records of a file: where they end, and a line's code. `scan` finds the first byte outside a range, block by block.
 use base_codes::Code;
 use base_quantities::Place;
+use base_quantities::Records;
 ghost use mathlib.Core.Path.{_≡_};
 ghost use mathlib.Core.List.{[], _∷_};
 ghost use Prim.Native.Nat.{_+_, _-_, _≤_};
@@ -9,7 +10,7 @@ ghost use Rattle.rules.specs.Bytes.{comma, sameBytes};
 ghost use Rattle.rules.specs.Lines.{linesOf, codeBytes, codeOf, recordSize};
 ghost use Rattle.base_codes.specs.CodeMeaning.{codeMeant};
 ghost use Rattle.read_lines.specs.LineLengths.{bodyLen, endLen, lineLen, firstLine, firstRecord};
-ghost use Rattle.read_lines.specs.LineAnswers.{codeFound};
+ghost use Rattle.read_lines.specs.LineAnswers.{codeFound, LinesAre};
 
 pub mod scan;
 
@@ -19,10 +20,17 @@ pub enum Coded {
     With(Code),
 }
 
-// How many bytes of a line's end stand at `at`: LF, or CR and LF, or none.
-pub fn end_len(s: &[u8], at: usize) -> usize
-    ensures { λ r. ⌜ r ≡ endLen (drop at (now (s .entry))) ⌝ }
+// Some lines: how many, and where they end.
+pub struct Lines {
+    pub count: Records,
+    pub end: Place,
+}
+
+// How many bytes of a line's end stand there: LF, or CR and LF, or none.
+pub fn end_len(s: &[u8], start: Place) -> usize
+    ensures { λ r. ⌜ r ≡ endLen (drop (start .0) (now (s .entry))) ⌝ }
 {
+    let at = start.0;
     if s.len() <= at {
         return 0;
     }
@@ -41,44 +49,44 @@ pub fn end_len(s: &[u8], at: usize) -> usize
     2
 }
 
-// Where the line that starts at `at` ends, without its end.
-pub fn body_end(s: &[u8], at: usize) -> usize
-    ensures { λ r. ⌜ (r ≡ at + bodyLen (drop at (now (s .entry)))) × (r ≤ length (now (s .entry)) + (at - length (now (s .entry)))) ⌝ }
+// Where the line that starts there ends, without its end.
+pub fn body_end(s: &[u8], start: Place) -> Place
+    ensures { λ r. ⌜ (r .0 ≡ start .0 + bodyLen (drop (start .0) (now (s .entry)))) × (r .0 ≤ length (now (s .entry)) + (start .0 - length (now (s .entry)))) ⌝ }
 {
-    let mut i = at;
+    let mut i = start.0;
     while i < s.len() {
-        if 0 < end_len(s, i) {
-            return i;
+        if 0 < end_len(s, Place(i)) {
+            return Place(i);
         }
-        i = scan::plain_end(s, i + 1, 255);
+        i = scan::plain_end(s, Place(i + 1), 255).0;
     }
-    i
+    Place(i)
 }
 
 // Where the line that starts there ends among the first `size` bytes; after them more bytes help to search by blocks.
 pub fn body_end_in(s: &[u8], size: usize, start: Place) -> Place
     ensures { λ r. ⌜ r .0 ≡ start .0 + bodyLen (drop (start .0) (take size (now (s .entry)))) ⌝ }
 {
-    let at = start.0;
-    let e = body_end(s, at);
-    if e + end_len(s, e) <= size {
-        return Place(e);
+    let e = body_end(s, start);
+    if e.0 + end_len(s, e) <= size {
+        return e;
     }
-    Place(body_end(base_slices::front(s, size), at))
+    body_end(base_slices::front(s, size), start)
 }
 
-// Where the line after the one at `at` starts.
-pub fn next_line(s: &[u8], at: usize) -> usize
-    ensures { λ r. ⌜ (r ≡ at + lineLen (drop at (now (s .entry)))) × (r ≤ length (now (s .entry)) + (at - length (now (s .entry)))) ⌝ }
+// Where the line after the one that starts there starts.
+pub fn next_line(s: &[u8], start: Place) -> Place
+    ensures { λ r. ⌜ (r .0 ≡ start .0 + lineLen (drop (start .0) (now (s .entry)))) × (r .0 ≤ length (now (s .entry)) + (start .0 - length (now (s .entry)))) ⌝ }
 {
-    let e = body_end(s, at);
-    e + end_len(s, e)
+    let e = body_end(s, start);
+    Place(e.0 + end_len(s, e))
 }
 
-// x, y and a comma stand at `at`.
-pub fn begins_with(s: &[u8], at: usize, x: u8, y: u8) -> bool
-    ensures { λ r. ⌜ r ≡ sameBytes (x ∷ y ∷ comma ∷ []) (take 3 (drop at (now (s .entry)))) ⌝ }
+// x, y and a comma stand there.
+pub fn begins_with(s: &[u8], start: Place, x: u8, y: u8) -> bool
+    ensures { λ r. ⌜ r ≡ sameBytes (x ∷ y ∷ comma ∷ []) (take 3 (drop (start .0) (now (s .entry)))) ⌝ }
 {
+    let at = start.0;
     if s.len() < 3 {
         return false;
     }
@@ -94,52 +102,64 @@ pub fn begins_with(s: &[u8], at: usize, x: u8, y: u8) -> bool
     s[at + 2] == b','
 }
 
-// A line of this code starts at `at`.
-pub fn begins(s: &[u8], at: usize, code: Code) -> bool
-    ensures { λ r. ⌜ r ≡ sameBytes (codeBytes (codeMeant code)) (take 3 (drop at (now (s .entry)))) ⌝ }
+// A line of this code starts there.
+pub fn begins(s: &[u8], start: Place, code: Code) -> bool
+    ensures { λ r. ⌜ r ≡ sameBytes (codeBytes (codeMeant code)) (take 3 (drop (start .0) (now (s .entry)))) ⌝ }
 {
     let d = base_codes::digits_of(code);
-    begins_with(s, at, d.0, d.1)
+    begins_with(s, start, d.0, d.1)
 }
 
-// The code of the line that starts at `at`.
-pub fn code_at(s: &[u8], at: usize) -> Coded
-    ensures { λ r. ⌜ codeFound r ≡ codeOf (firstLine (drop at (now (s .entry)))) ⌝ }
+// The code of the line that starts there.
+pub fn code_at(s: &[u8], start: Place) -> Coded
+    ensures { λ r. ⌜ codeFound r ≡ codeOf (firstLine (drop (start .0) (now (s .entry)))) ⌝ }
 {
-    if begins(s, at, Code::FileHeader) {
+    if begins(s, start, Code::FileHeader) {
         return Coded::With(Code::FileHeader);
     }
-    if begins(s, at, Code::GroupHeader) {
+    if begins(s, start, Code::GroupHeader) {
         return Coded::With(Code::GroupHeader);
     }
-    if begins(s, at, Code::AccountHeader) {
+    if begins(s, start, Code::AccountHeader) {
         return Coded::With(Code::AccountHeader);
     }
-    if begins(s, at, Code::Detail) {
+    if begins(s, start, Code::Detail) {
         return Coded::With(Code::Detail);
     }
-    if begins(s, at, Code::AccountTrailer) {
+    if begins(s, start, Code::AccountTrailer) {
         return Coded::With(Code::AccountTrailer);
     }
-    if begins(s, at, Code::GroupTrailer) {
+    if begins(s, start, Code::GroupTrailer) {
         return Coded::With(Code::GroupTrailer);
     }
-    if begins(s, at, Code::FileTrailer) {
+    if begins(s, start, Code::FileTrailer) {
         return Coded::With(Code::FileTrailer);
     }
-    if begins(s, at, Code::Continuation) {
+    if begins(s, start, Code::Continuation) {
         return Coded::With(Code::Continuation);
     }
     Coded::None
 }
 
-// Where the record that starts at `at` ends: after its first line and all 88 lines after it.
-pub fn record_end(s: &[u8], at: usize) -> usize
-    ensures { λ r. ⌜ (r ≡ at + recordSize (firstRecord (linesOf (drop at (now (s .entry)))))) × (r ≤ length (now (s .entry)) + (at - length (now (s .entry)))) ⌝ }
+// The 88 lines from a place on.
+pub fn further_lines(s: &[u8], start: Place) -> Lines
+    ensures { λ r. ⌜ LinesAre r (start .0) (now (s .entry)) ⌝ }
 {
-    let mut e = next_line(s, at);
-    while begins(s, e, Code::Continuation) {
-        e = next_line(s, e);
+    let mut end = start;
+    let mut n: u64 = 0;
+    while begins(s, end, Code::Continuation) {
+        end = next_line(s, end);
+        n += 1;
     }
-    e
+    Lines {
+        count: Records(n),
+        end,
+    }
+}
+
+// Where the record that starts there ends: after its first line and all 88 lines after it.
+pub fn record_end(s: &[u8], start: Place) -> Place
+    ensures { λ r. ⌜ (r .0 ≡ start .0 + recordSize (firstRecord (linesOf (drop (start .0) (now (s .entry)))))) × (r .0 ≤ length (now (s .entry)) + (start .0 - length (now (s .entry)))) ⌝ }
+{
+    further_lines(s, next_line(s, start)).end
 }

@@ -3,8 +3,7 @@ use Prim.Native.Nat.{ℕ}
 use mathlib.Core.Path.{_≡_, refl}
 use mathlib.Core.Bool.{Bool, true, false, _||_}
 use lib.Dec.{eqb}
-use Rattle.rules.specs.Lines.{Code, sameCode}
-use Rattle.base_codes.specs.CodeMeaning.{codeNumber}
+use Rattle.rules.specs.Lines.{Code, sameCode, codeNumber}
 use Rattle.base_codes.proofs.CodeLaws.{same-number}
 
 pub or-false : (t : Bool) → t ≡ (t || false)

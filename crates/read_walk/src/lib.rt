@@ -58,7 +58,7 @@ fn walk_lines(rest: &[u8], rec: &[u8], first: Want, before: Magnitude) -> Walked
         }
         let e = read_lines::body_end_in(rest, rec.len(), Place(at)).0;
         let mut a = at + 3;
-        at = e + read_lines::end_len(rec, e);
+        at = e + read_lines::end_len(rec, Place(e));
         if e < a {
             break 'walk stop(LINE_BADLY_ENDED, Place(a));
         }

@@ -17,5 +17,6 @@ pub mod Combine
 pub mod Split
 pub mod Writer
 pub mod Answers
+pub mod HandedOut
 pub mod Report
 pub mod Examples

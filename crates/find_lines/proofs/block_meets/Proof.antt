@@ -11,10 +11,10 @@ use Rattle.find_lines.proofs.block_meets.Statement.{statement}
 use Rattle.find_lines.proofs.block_meets.Tie as tie
 
 abbrev Inv-loop : tie.InvT-loop
-Inv-loop s at x y found₀ i₀ found i = (i ≤ 128) × (found ≡ 0 → Quiet (bytesMeant x) (bytesMeant y) s at i)
+Inv-loop s x y at found₀ i₀ found i = (i ≤ 128) × (found ≡ 0 → Quiet (bytesMeant x) (bytesMeant y) s at i)
 
 abbrev μ-loop : tie.MeasureT-loop
-μ-loop s at x y found₀ i₀ found i = 128 - i
+μ-loop s x y at found₀ i₀ found i = 128 - i
 
 loop-holds : tie.Need-loop-holds Inv-loop μ-loop
 loop-holds c = (omega arith, λ e k h. absurd (omega arith))
@@ -23,7 +23,7 @@ loop-again : tie.Need-loop-again Inv-loop μ-loop
 loop-again c =
     let a = c .before .before .before .before .before .before .args in
     let l = c .before .before .before .before .loop in
-    let k = a .at + l .i in
+    let k = a .start .0 + l .i in
     (search needs, λ e. below-more _ _ (l .inv .1 (c .meets .ensures e .0)) (quiet-byte (a .x) (a .y) (a .s .now) k (omega arith) (c .meets .ensures e .1)))
 
 returns : tie.Need-returns Inv-loop μ-loop

@@ -11,10 +11,10 @@ use Rattle.find_lines.proofs.end_before_line.Statement.{statement}
 use Rattle.find_lines.proofs.end_before_line.Tie as tie
 
 abbrev Inv-loop : tie.InvT-loop
-Inv-loop s at e x y i₀ i = (at ≤ i) × (i ≤ e) × (at + aheadLen (bytesMeant x) (bytesMeant y) (drop at s) ≡ i + aheadLen (bytesMeant x) (bytesMeant y) (drop i s))
+Inv-loop s x y e i₀ i = (i₀ ≤ i) × (i ≤ e) × (i₀ + aheadLen (bytesMeant x) (bytesMeant y) (drop i₀ s) ≡ i + aheadLen (bytesMeant x) (bytesMeant y) (drop i s))
 
 abbrev μ-loop : tie.MeasureT-loop
-μ-loop s at e x y i₀ i = e - i
+μ-loop s x y e i₀ i = e - i
 
 returns : tie.Need-returns Inv-loop μ-loop
 returns c =

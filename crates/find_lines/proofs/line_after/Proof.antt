@@ -12,10 +12,10 @@ use Rattle.find_lines.proofs.line_after.Statement.{statement}
 use Rattle.find_lines.proofs.line_after.Tie as tie
 
 abbrev Inv-loop : tie.InvT-loop
-Inv-loop s at x y i₀ i = (i ≤ length s) × (at + aheadLen (bytesMeant x) (bytesMeant y) (drop at s) ≡ i + aheadLen (bytesMeant x) (bytesMeant y) (drop i s))
+Inv-loop s x y i₀ i = (i ≤ length s) × (i₀ + aheadLen (bytesMeant x) (bytesMeant y) (drop i₀ s) ≡ i + aheadLen (bytesMeant x) (bytesMeant y) (drop i s))
 
 abbrev μ-loop : tie.MeasureT-loop
-μ-loop s at x y i₀ i = length s - i
+μ-loop s x y i₀ i = length s - i
 
 -- ---- at a block
 
@@ -77,7 +77,7 @@ returns-3 : tie.Need-returns-3 Inv-loop μ-loop
 returns-3 c =
     let a = last-args (c .before) .args in
     let e = c .before .end-before-line2 in
-    let none = ahead-none (bytesMeant (a .x)) (bytesMeant (a .y)) (a .s .now) (e .result) (omega arith) in
+    let none = ahead-none (bytesMeant (a .x)) (bytesMeant (a .y)) (a .s .now) (e .result .0) (omega arith) in
     (omega (arith, last-head (c .before) .loop .inv .1, e .ensures .passed), e .ensures .within .1)
 
 pub line-after-spec : {M : Type 1} → statement M

@@ -8,7 +8,7 @@ use Rattle.find_lines.proofs.may_meet.Tie as tie
 returns-2 : tie.Need-returns-2
 returns-2 c = λ e.
     let a = c .before .before .before .args in
-    no-end-quiet (bytesMeant (a .x)) (bytesMeant (a .y)) (a .s .now) (a .at) 128 (c .before .block-ends .ensures (c .if1 .left))
+    no-end-quiet (bytesMeant (a .x)) (bytesMeant (a .y)) (a .s .now) (a .start .0) 128 (c .before .block-ends .ensures (c .if1 .left))
 
 pub may-meet-spec : {M : Type 1} → statement M
 may-meet-spec =

@@ -27,7 +27,7 @@ abbrev other-of : Codes → rules.Code
 other-of c = codeMeant (begun c .args .other)
 
 abbrev left-of : Codes → Bytes
-left-of c = drop (begun c .args .at) (begun c .args .s .now)
+left-of c = drop (begun c .args .start .0) (begun c .args .s .now)
 
 -- what is said of their digits is said of the codes
 of-codes : {A : Type 0} (f : Bytes → Bytes → A) (c : Codes) → f (bytesMeant (c .before .digits-of .result)) (bytesMeant (c .digits-of2 .result)) ≡ f (codeBytes (one-of c)) (codeBytes (other-of c))
@@ -36,8 +36,8 @@ of-codes f c = ap₂ f (c .before .digits-of .ensures) (c .digits-of2 .ensures)
 -- past the end
 returns : tie.Need-returns
 returns c =
-    let s = c .before in
-    let e = before-none (one-of s) (other-of s) (begun s .args .s .now) (begun s .args .at) (c .if1 .taken) in
+    let s = c .before .before in
+    let e = before-none (one-of s) (other-of s) (begun s .args .s .now) (begun s .args .start .0) (c .if1 .taken) in
     (omega arith, omega arith)
 
 -- ---- whether such a line begins here
@@ -46,7 +46,7 @@ abbrev Asked : Type 0
 Asked = tie.After-begins-either
 
 abbrev codes-of : Asked → Codes
-codes-of c = c .before .before
+codes-of c = c .before .before .before
 
 told : (c : Asked) → let s = codes-of c in beginsEither (codeBytes (one-of s)) (codeBytes (other-of s)) (left-of s) ≡ c .begins-either .result
 told c =

@@ -67,7 +67,7 @@ abbrev sum-of : At → Joined
 sum-of c = c .before .before .before .before
 
 abbrev header-of : At → ℕ
-header-of c = c .record-end .result
+header-of c = c .record-end .result .0
 
 header-is : (c : At) → header-of c ≡ recordSize (firstRecord (linesOf (b-of (sum-of c))))
 header-is c = c .record-end .ensures .0 ∙ zero-add _

@@ -47,10 +47,10 @@ abbrev at-of : Turn → ℕ
 at-of c = head c .loop .at
 
 abbrev last-of : Turn → ℕ
-last-of c = c .before .next-line-of .result
+last-of c = c .before .next-line-of .result .0
 
 abbrev end-of : Turn → ℕ
-end-of c = c .record-end .result
+end-of c = c .record-end .result .0
 
 -- the bytes from the group on
 abbrev here-of : Turn → Bytes
@@ -74,7 +74,7 @@ passes : (c : Asked) → let t = turn-of c in TurnIs (name-of t) (file-of t) (at
 passes c =
     let t = turn-of c in
     let header = c .before .before .record-end2 in
-    turn-is (file-of t) (at-of t) (last-of t) (end-of t) (begun t) (t .before .next-line-of .ensures .0) (t .record-end .ensures .0) (name-of t) (header .result) (c .is-for .result)
+    turn-is (file-of t) (at-of t) (last-of t) (end-of t) (begun t) (t .before .next-line-of .ensures .0) (t .record-end .ensures .0) (name-of t) (header .result .0) (c .is-for .result)
     (header .ensures .0) (c .is-for .ensures)
 
 -- what was taken so far, and these groups ahead

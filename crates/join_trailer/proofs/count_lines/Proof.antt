@@ -35,8 +35,8 @@ s-of c = c .before .before .before .before .args .s .now
 abbrev at-of : Turn → ℕ
 at-of c = c .before .before .loop .at
 
-passed : (c : Turn) → (at-of c < c .next-line .result) × (length (linesOf (drop (at-of c) (s-of c))) ≡ 1 + length (linesOf (drop (c .next-line .result) (s-of c))))
-passed c = line-more (s-of c) (at-of c) (c .next-line .result) (omega arith) (c .next-line .ensures .0)
+passed : (c : Turn) → (at-of c < c .next-line .result .0) × (length (linesOf (drop (at-of c) (s-of c))) ≡ 1 + length (linesOf (drop (c .next-line .result .0) (s-of c))))
+passed c = line-more (s-of c) (at-of c) (c .next-line .result .0) (omega arith) (c .next-line .ensures .0)
 
 add-n : tie.Need-add-n Inv-loop μ-loop
 add-n c = omega (arith, c .before .before .loop .inv .0)

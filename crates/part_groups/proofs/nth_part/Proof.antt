@@ -53,10 +53,10 @@ at-of c = head c .loop .at
 
 -- where its first record ends, and where it ends
 abbrev first-end : Turn → ℕ
-first-end c = c .before .record-end2 .result
+first-end c = c .before .record-end2 .result .0
 
 abbrev end-of : Turn → ℕ
-end-of c = c .next-line-of .result
+end-of c = c .next-line-of .result .0
 
 begun : (c : Turn) → sameBytes (codeBytes (opening-of c)) (take 3 (drop (at-of c) (s-of c))) ≡ true
 begun c = sym (c .before .before .before .begins .ensures) ∙ c .before .before .if1 .taken

@@ -27,19 +27,19 @@ returns c =
 
 add-start : tie.Need-add-start Inv-loop μ-loop
 add-start c =
-    let a = c .before .before .before .before .before .before .args in let at = c .before .before .before .before .loop .start in let e = c .before .before .body-end .result in
+    let a = c .before .before .before .before .before .before .args in let at = c .before .before .before .before .loop .start in let e = c .before .before .body-end .result .0 in
     let h = next-within (a .s .now) at e (e + c .end-len .result) (c .before .before .body-end .ensures .0) (rw (c .end-len .ensures)) in
     omega arith
 
 loop-less : tie.Need-loop-less Inv-loop μ-loop
 loop-less c =
-    let a = c .before .before .before .before .before .before .args in let at = c .before .before .before .before .loop .start in let e = c .before .before .body-end .result in
+    let a = c .before .before .before .before .before .before .args in let at = c .before .before .before .before .loop .start in let e = c .before .before .body-end .result .0 in
     let h = next-after (a .s .now) at e (e + c .end-len .result) (c .before .before .body-end .ensures .0) (rw (c .end-len .ensures)) (omega arith) in
     omega arith
 
 loop-again : tie.Need-loop-again Inv-loop μ-loop
 loop-again c =
-    let a = c .before .before .before .before .before .before .args in let at = c .before .before .before .before .loop .start in let e = c .before .before .body-end .result in let p = c .before .before .body-end .ensures .0 in
+    let a = c .before .before .before .before .before .before .args in let at = c .before .before .before .before .loop .start in let e = c .before .before .body-end .result .0 in let p = c .before .before .body-end .ensures .0 in
     let w = next-within (a .s .now) at e (e + c .end-len .result) p (rw (c .end-len .ensures)) in
     (omega arith, c .before .before .before .before .loop .inv .1 ∙ short-go (a .s .now) at (a .limit) (omega arith) (e + c .end-len .result) (omega arith) (next-is (a .s .now) at e (e + c .end-len .result) p (rw (c .end-len .ensures))))
 

@@ -9,7 +9,7 @@ use Rattle.read_lines.proofs.begins.Tie as tie
 returns : tie.Need-returns
 returns c =
     let a = c .before .before .before .args in
-    c .begins-with .ensures ∙ ap (λ (bs : Bytes). sameBytes bs (take 3 (drop (a .at) (a .s .now)))) (c .before .digits-of .ensures)
+    c .begins-with .ensures ∙ ap (λ (bs : Bytes). sameBytes bs (take 3 (drop (a .start .0) (a .s .now)))) (c .before .digits-of .ensures)
 
 pub begins-spec : {M : Type 1} → statement M
 begins-spec = tie.close (tie.spec (λ c κs. search needs) (λ c κs. search needs) returns)

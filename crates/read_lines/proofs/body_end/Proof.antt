@@ -11,10 +11,10 @@ use Rattle.read_lines.proofs.body_end.Statement.{statement}
 use Rattle.read_lines.proofs.body_end.Tie as tie
 
 abbrev Inv-loop : tie.InvT-loop
-Inv-loop s at i₀ i = (i ≤ length s + (at - length s)) × (at + bodyLen (drop at s) ≡ i + bodyLen (drop i s))
+Inv-loop s i₀ i = (i ≤ length s + (i₀ - length s)) × (i₀ + bodyLen (drop i₀ s) ≡ i + bodyLen (drop i s))
 
 abbrev μ-loop : tie.MeasureT-loop
-μ-loop s at i₀ i = length s - i
+μ-loop s i₀ i = length s - i
 
 returns : tie.Need-returns Inv-loop μ-loop
 returns c =
@@ -28,7 +28,7 @@ loop-again c =
     let i : ℕ = c .before .before .before .before .loop .i in
     let s = c .before .before .before .before .before .before .args .s .now in
     let h = run-step isEnd s i (omega arith) (is-end-at s i (omega arith) ∙ end-empty (endOf (drop i s)) (omega (arith, c .before .before .end-len .ensures))) in
-    let f = body-from s (i + 1) (c .plain-end .result) 255 (c .plain-end .ensures .0) in
+    let f = body-from s (i + 1) (c .plain-end .result .0) 255 (c .plain-end .ensures .0) in
     (omega arith, omega arith)
 
 returns-2 : tie.Need-returns-2 Inv-loop μ-loop

@@ -12,20 +12,20 @@ use Rattle.read_lines.proofs.body_end_in.Tie as tie
 
 add-if1 : tie.Need-add-if1
 add-if1 c =
-    let a = c .before .before .before .args in
-    let e = c .before .body-end .result in
-    let h = next-within (a .s .now) (a .start .0) e (e + c .end-len .result) (c .before .body-end .ensures .0) (rw (c .end-len .ensures)) in
+    let a = c .before .before .before .before .args in
+    let e = c .before .before .body-end .result .0 in
+    let h = next-within (a .s .now) (a .start .0) e (e + c .before .end-len .result) (c .before .before .body-end .ensures .0) (rw (c .before .end-len .ensures)) in
     omega arith
 
 returns : tie.Need-returns
 returns c =
-    let a = c .before .before .before .before .args in
-    let e = c .before .before .body-end .result in
-    body-in (a .s .now) (a .size) (a .start .0) e (e + c .before .end-len .result) (c .before .before .body-end .ensures .0) (rw (c .before .end-len .ensures)) (c .if1 .taken)
+    let a = c .before .before .before .before .before .args in
+    let e = c .before .before .before .body-end .result .0 in
+    body-in (a .s .now) (a .size) (a .start .0) e (e + c .before .before .end-len .result) (c .before .before .before .body-end .ensures .0) (rw (c .before .before .end-len .ensures)) (c .if1 .taken)
 
 returns-2 : tie.Need-returns-2
 returns-2 c =
-    let a = c .before .before .before .before .before .before .args in
+    let a = c .before .before .before .before .before .before .before .args in
     c .body-end2 .ensures .0 ∙ ap (λ (bs : Bytes). a .start .0 + bodyLen (drop (a .start .0) bs)) (c .before .front .ensures)
 
 pub body-end-in-spec : {M : Type 1} → statement M

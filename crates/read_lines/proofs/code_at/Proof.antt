@@ -19,7 +19,7 @@ abbrev s-1 : tie.After-begins → Bytes
 s-1 c = c .before .before .args .s .now
 
 abbrev at-1 : tie.After-begins → ℕ
-at-1 c = c .before .before .args .at
+at-1 c = c .before .before .args .start .0
 
 abbrev s-2 : tie.After-begins2 → Bytes
 s-2 c = s-1 (c .before .before)

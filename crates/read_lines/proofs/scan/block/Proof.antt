@@ -8,21 +8,21 @@ use Rattle.read_lines.proofs.scan.block.Statement.{statement}
 use Rattle.read_lines.proofs.scan.block.Tie as tie
 
 abbrev Inv-loop : tie.InvT-loop
-Inv-loop s at high first₀ i₀ first i = (i ≤ 64) × Nearest s at high i first
+Inv-loop s high at first₀ i₀ first i = (i ≤ 64) × Nearest s at high i first
 
 abbrev μ-loop : tie.MeasureT-loop
-μ-loop s at high first₀ i₀ first i = 64 - i
+μ-loop s high at first₀ i₀ first i = 64 - i
 
 loop-holds : tie.Need-loop-holds Inv-loop μ-loop
 loop-holds c =
     let a = c .before .args in
-    (omega arith, nearest-none (a .s .now) (a .at) (a .high))
+    (omega arith, nearest-none (a .s .now) (a .start .0) (a .high))
 
 loop-again : tie.Need-loop-again Inv-loop μ-loop
 loop-again c =
     let a = c .before .before .before .before .before .before .args in let i : ℕ = c .before .before .before .before .loop .i in
     let e : c .smaller .result ≡ min _ (c .before .before .before .before .loop .first) = c .smaller .ensures ∙ ap (λ (n : ℕ). min n (c .before .before .before .before .loop .first)) (c .before .place-of .ensures) in
-    (omega arith, subst (λ (n : ℕ). Nearest (a .s .now) (a .at) (a .high) (i + 1) n) (sym e) (nearest-step (a .s .now) (a .at) (a .high) i (c .before .before .before .before .loop .first) (omega arith) (c .before .before .before .before .loop .inv .1)))
+    (omega arith, subst (λ (n : ℕ). Nearest (a .s .now) (a .start .0) (a .high) (i + 1) n) (sym e) (nearest-step (a .s .now) (a .start .0) (a .high) i (c .before .before .before .before .loop .first) (omega arith) (c .before .before .before .before .loop .inv .1)))
 
 cast-result : tie.Need-cast-result Inv-loop μ-loop
 cast-result c = omega (arith, c .before .loop .inv .1 .low)
@@ -31,7 +31,7 @@ returns : tie.Need-returns Inv-loop μ-loop
 returns c =
     let a = c .before .before .before .args in
     let e : c .before .loop .i ≡ 64 = omega arith in
-    block-is (a .s .now) (a .at) (a .high) (c .before .loop .first) (omega arith) (rw e at (c .before .loop .inv .1))
+    block-is (a .s .now) (a .start .0) (a .high) (c .before .loop .first) (omega arith) (rw e at (c .before .loop .inv .1))
 
 pub block-spec : {M : Type 1} → statement M
 block-spec =

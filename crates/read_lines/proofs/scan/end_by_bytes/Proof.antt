@@ -10,10 +10,10 @@ use Rattle.read_lines.proofs.scan.end_by_bytes.Statement.{statement}
 use Rattle.read_lines.proofs.scan.end_by_bytes.Tie as tie
 
 abbrev Inv-loop : tie.InvT-loop
-Inv-loop s at high i₀ i = (i ≤ length s + (at - length s)) × (at + run (stopsAt high) (drop at s) ≡ i + run (stopsAt high) (drop i s))
+Inv-loop s high i₀ i = (i ≤ length s + (i₀ - length s)) × (i₀ + run (stopsAt high) (drop i₀ s) ≡ i + run (stopsAt high) (drop i s))
 
 abbrev μ-loop : tie.MeasureT-loop
-μ-loop s at high i₀ i = length s - i
+μ-loop s high i₀ i = length s - i
 
 loop-holds : tie.Need-loop-holds Inv-loop μ-loop
 loop-holds c = (omega arith, refl)

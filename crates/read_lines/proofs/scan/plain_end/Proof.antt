@@ -10,19 +10,16 @@ use Rattle.read_lines.proofs.scan.plain_end.Statement.{statement}
 use Rattle.read_lines.proofs.scan.plain_end.Tie as tie
 
 abbrev Inv-loop : tie.InvT-loop
-Inv-loop s at high i₀ i = (i ≤ length s + (at - length s)) × (at + run (stopsAt high) (drop at s) ≡ i + run (stopsAt high) (drop i s))
+Inv-loop s high i₀ i = (i ≤ length s + (i₀ - length s)) × (i₀ + run (stopsAt high) (drop i₀ s) ≡ i + run (stopsAt high) (drop i s))
 
 abbrev μ-loop : tie.MeasureT-loop
-μ-loop s at high i₀ i = length s - i
+μ-loop s high i₀ i = length s - i
 
 loop-holds : tie.Need-loop-holds Inv-loop μ-loop
 loop-holds c = (omega arith, refl)
 
 returns : tie.Need-returns Inv-loop μ-loop
 returns c = (omega arith, omega arith)
-
-add-result : tie.Need-add-result Inv-loop μ-loop
-add-result c = omega (arith, c .before .block .ensures .low)
 
 returns-2 : tie.Need-returns-2 Inv-loop μ-loop
 returns-2 c =
@@ -50,7 +47,7 @@ plain-end-spec =
     (λ c κs. search needs)
     returns
     (λ c κs. search needs)
-    add-result
+    (λ c. omega (arith, c .before .block .ensures .low))
     returns-2
     (λ c. search needs)
     (λ c. search needs)

@@ -1,0 +1,4 @@
+-- From the places of records to the theorems, in this order.
+pub mod RecordPlaces
+pub mod FieldsTold
+pub mod HandingTheorems

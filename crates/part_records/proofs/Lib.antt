@@ -1,0 +1,2 @@
+-- What is found at a byte.
+pub mod FoundLaws
