@@ -94,17 +94,14 @@ fn field_here(rec: &[u8], walk: Cursor) -> Next
     }
     let f = n + 1;
     if left[n] != b'/' {
-        return Next::Field(
-            start,
-            n,
-            Cursor {
-                want: next,
-                at: Place(a + f),
-                end,
-                line,
-                slash,
-            },
-        );
+        let ahead = Cursor {
+            want: next,
+            at: Place(a + f),
+            end,
+            line,
+            slash,
+        };
+        return Next::Field(start, n, ahead);
     }
     let t = f + read_field_ends::blanks_len(&left[f..]);
     if t < left.len() {

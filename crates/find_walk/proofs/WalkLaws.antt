@@ -105,7 +105,7 @@ module _ (rec : Bytes) (start least k : ℕ) (all : Trace) (before : List ℕ) (
     stop-ends x why e q = subst promised (sym q) (ends-so _ _ (trace-is (next.Refused why) e) refl refl tt)
 
     -- the record is over
-    pub over-ends : r ≡ next.Over → promised (reached.Over n)
+    pub over-ends : r ≡ next.Over → promised (reached.Over (record { 0 = n }))
     unfolding walkEnd numbersPassed
     over-ends e = let z : n ≡ n + 0 = omega arith in ends-so _ _ (trace-is next.Over e) refl (ap overAfter z) tt
 

@@ -28,20 +28,24 @@ after n (stopped why) = stopped why
 after n (overAfter m) = overAfter (n + m)
 after n (metAt p bs) = metAt p bs
 
--- the first field of the kind with number k, or the record's end or a refusal before it; the record starts at `start`
+-- the first field of the kind with number k, or the record's end or a refusal before it; the record starts at `start`. With a kind that no field has it stands for the
+-- count or the refusal of `walkRecord` (rules/specs/Records.antt), joined by `end-is` (part_fields/proofs/NumberLaws.antt); with one that is sought, for the first such
+-- field of `walkRecord`, joined by `walk-found` (find_field/proofs/WalkFound.antt) and `found-is` (find_field/proofs/SearchAgrees.antt)
 unfoldable pub walkEnd : ℕ → ℕ → Trace → WalkEnd
 walkEnd k start (stops why) = stopped (record { number = why .number; place = start + why .place })
 walkEnd k start ends = overAfter 0
 walkEnd k start (yields f t) = cond (eqb k (kindNumber (f .kind))) (metAt (f .place) (f .bytes)) (after 1 (walkEnd k start t))
 
--- the numbers of the fields before it: kind, place in the file, length
+-- the numbers of the fields before it: kind, place in the file, length; with a kind that no field has they stand for `handed` (rules/specs/HandedOut.antt), joined by
+-- `numbers-are` (part_fields/proofs/NumberLaws.antt)
 unfoldable pub numbersPassed : ℕ → ℕ → Trace → List ℕ
 numbersPassed k start (stops why) = []
 numbersPassed k start ends = []
 numbersPassed k start (yields f t) =
     cond (eqb k (kindNumber (f .kind))) [] (kindNumber (f .kind) ∷ (start + f .place) ∷ handedLength f ∷ numbersPassed k start t)
 
--- three numbers after the other at the front of a slice, as long as three find room
+-- numbers at the front of a slice, three after three, as long as three find room; where all do, that is the slice of `fieldsAnswer` (rules/specs/HandedOut.antt), joined by
+-- `put-all` (part_fields/proofs/NumberLaws.antt)
 unfoldable pub putThrees : List ℕ → List ℕ → List ℕ
 putThrees (k ∷ p ∷ l ∷ ns) (a ∷ b ∷ c ∷ out) = k ∷ p ∷ l ∷ putThrees ns out
 putThrees (k ∷ p ∷ l ∷ ns) (a ∷ b ∷ []) = a ∷ b ∷ []
@@ -63,7 +67,7 @@ traceOfRecord rec least c = traceLines 0 (fieldsOf c) 0 (ownLines least 0 (lines
 -- the answer of the code
 abbrev pub reachedMeant : Bytes → Reached → WalkEnd
 reachedMeant rec (reached.Refused why) = stopped (refusalMeant why)
-reachedMeant rec (reached.Over n) = overAfter n
+reachedMeant rec (reached.Over n) = overAfter (n .0)
 reachedMeant rec (reached.Field p n) = metAt (p .0) (take n (drop (p .0) rec))
 
 -- a field stands in the record

@@ -18,10 +18,13 @@ ghost use Rattle.find_walk.specs.WalkEnds.{PutsThree, WalksTo};
 // A text's kind.
 const TEXT: u64 = 21;
 
+// How many fields.
+pub struct FieldCount(pub u64);
+
 // Where a walk ends: it is refused; the record is over, after so many fields; or it meets the field sought, by its start in the record and its length.
 pub enum Reached {
     Refused(Refusal),
-    Over(usize),
+    Over(FieldCount),
     Field(Place, usize),
 }
 
@@ -103,7 +106,7 @@ pub fn walk_to(
         let want = walk.want;
         match find_next::next_field(rec, least, walk) {
             Next::Refused(why) => return refused_there(start, why),
-            Next::Over => return Reached::Over(n),
+            Next::Over => return Reached::Over(FieldCount(n as u64)),
             Next::Field(place, length, after) => {
                 let kind = read_kinds::kind_number(want);
                 if kind == sought {

@@ -5,6 +5,7 @@ use base_refusals::NO_RECORD_CODE;
 use base_refusals::NO_ROOM;
 use base_refusals::NO_SUCH_PART;
 use base_refusals::Refusal;
+use find_walk::FieldCount;
 use find_walk::Reached;
 use read_lines::Coded;
 ghost use mathlib.Core.Path.{_≡_};
@@ -21,9 +22,6 @@ const NO_KIND: u64 = 0;
 
 // So many fields find room in the space of a call's own.
 const HELD: usize = 16;
-
-// How many fields.
-pub struct FieldCount(pub u64);
 
 // How many fields were handed out; or why none was.
 pub enum Fields {
@@ -62,17 +60,18 @@ fn fields_of(file: &[u8], start: Place, code: Code, out: &mut [u64]) -> Fields
     match find_walk::walk_to(file, start, 1, code, NO_KIND, &mut held) {
         Reached::Refused(why) => Fields::Refused(why),
         Reached::Field(_, _) => refuse(NO_ROOM, Place(0)), // never: there is no such kind
-        Reached::Over(n) => {
+        Reached::Over(count) => {
+            let n = count.0 as usize;
             if !has_room(n, out.len()) {
                 return refuse(NO_ROOM, Place(0));
             }
             if HELD < n {
                 find_walk::walk_to(file, start, 1, code, NO_KIND, out);
-                return Fields::Given(FieldCount(n as u64));
+                return Fields::Given(count);
             }
             let end = 3 * n;
             base_slices::put_numbers(out, &held[0..end]);
-            Fields::Given(FieldCount(n as u64))
+            Fields::Given(count)
         }
     }
 }

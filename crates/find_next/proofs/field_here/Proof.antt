@@ -146,8 +146,8 @@ blanks-within c =
     let most : c .blanks-len .result ≤ length (after c) = rw (after-is c) at (c .blanks-len .ensures .1) in
     omega (arith, most, length-drop n l, shorter (plain-of c))
 
-add-t19 : tie.Need-add-t19
-add-t19 c = omega (arith, within (cut-part (c .before .before)))
+add-t20 : tie.Need-add-t20
+add-t20 c = omega (arith, within (cut-part (c .before .before)))
 
 returns : tie.Need-returns
 returns c =
@@ -182,8 +182,8 @@ add-f c = omega (arith, shorter c)
 shared-slice-read-if2 : tie.Need-shared-slice-read-if2
 shared-slice-read-if2 c = shorter (c .before)
 
-add-t30 : tie.Need-add-t30
-add-t30 c = omega (arith, within (good-part (c .before .before .before)), shorter (c .before .before))
+add-t31 : tie.Need-add-t31
+add-t31 c = omega (arith, within (good-part (c .before .before .before)), shorter (c .before .before))
 
 -- a comma
 returns-4 : tie.Need-returns-4
@@ -237,7 +237,7 @@ field-here-spec =
     (λ c κs. search needs)
     (λ c. search needs)
     (λ c. search needs)
-    add-t19
+    add-t20
     (λ c κs. search needs)
     returns
     (λ c. search needs)
@@ -252,7 +252,7 @@ field-here-spec =
     returns-3
     add-f
     shared-slice-read-if2
-    add-t30
+    add-t31
     returns-4
     sub-blanks-len
     part-blanks-len-start

@@ -53,10 +53,10 @@ abbrev walked : Tested → Walked
 walked c = c .before .before .before .before .before
 
 abbrev count : Tested → ℕ
-count c = c .before .before .n .given .0 .0
+count c = c .before .before .count .given .0 .0 .0
 
 count-is : (c : Tested) → overAfter (count c) ≡ walkEnd 0 (start-of (walked c)) (all (walked c))
-count-is c = end-is (walked c) _ (c .before .before .n .given .1)
+count-is c = end-is (walked c) _ (c .before .before .count .given .1)
 
 room : (c : Tested) (b : Bool) → c .has-room .result ≡ b → leb (3 * count c) (length (before (walked c))) ≡ b
 room c b e = sym (c .has-room .ensures) ∙ e
