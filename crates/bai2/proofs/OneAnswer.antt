@@ -47,7 +47,7 @@ use Rattle.part_records.specs.declared.Found.the-variants as found
 use Rattle.part_records.specs.RecordsFound.{recordMeant, Finds}
 use Rattle.part_fields.specs.declared.Fields.{Fields}
 use Rattle.part_fields.specs.declared.Fields.the-variants as fields
-use Rattle.part_fields.specs.FieldNumbers.{fieldsMeant}
+use Rattle.part_fields.specs.FieldAnswers.{fieldsMeant}
 use Rattle.write_state.specs.declared.Phase.{Phase}
 use Rattle.write_state.specs.declared.Phase.the-variants as phases
 use Rattle.write_state.specs.declared.Writer.{Writer}

@@ -223,20 +223,18 @@ sign-read k reads ks r = found-holds k AmountRead (amount-empty [] refl) reads k
 
 -- ---- the field's bytes as the code lends them
 
-pub spot-is : (k : Kind) (rec : Bytes) (first : List Kind) (x : Found) → first ≡ fieldsOf detail → x ≡ seekLines k first (linesOf rec) → x ≡ inDetail k rec
+pub spot-is : (k : Kind) (rec : Bytes) (x : Found) → x ≡ seekLines k (fieldsOf detail) (linesOf rec) → x ≡ inDetail k rec
 unfolding inDetail
-spot-is k rec first x e h = h ∙ ap (λ (ks : List Kind). seekLines k ks (linesOf rec)) e
+spot-is k rec x h = h
 
-pub lent-is : (k : Kind) (rec : Bytes) (first ks : List Kind) (s n : ℕ) → first ≡ ks → record { place = s; bytes = take n (drop s rec) } ≡ seekLines k first (linesOf rec)
+pub lent-is : (k : Kind) (rec : Bytes) (ks : List Kind) (s n : ℕ) → record { place = s; bytes = take n (drop s rec) } ≡ seekLines k ks (linesOf rec)
     → take (s + n - s) (drop s rec) ≡ seekLines k ks (linesOf rec) .bytes
-lent-is k rec first ks s n e h =
-    let size : s + n - s ≡ n = omega arith in
-    ap (λ (m : ℕ). take m (drop s rec)) size ∙ ap (λ (x : Found). x .bytes) (h ∙ ap (λ (js : List Kind). seekLines k js (linesOf rec)) e)
+lent-is k rec ks s n h = let size : s + n - s ≡ n = omega arith in ap (λ (m : ℕ). take m (drop s rec)) size ∙ ap (λ (x : Found). x .bytes) h
 
-pub spot-bytes : (k : Kind) (rec : Bytes) (first : List Kind) (s n : ℕ) → first ≡ fieldsOf detail → record { place = s; bytes = take n (drop s rec) } ≡ seekLines k first (linesOf rec)
+pub spot-bytes : (k : Kind) (rec : Bytes) (s n : ℕ) → record { place = s; bytes = take n (drop s rec) } ≡ seekLines k (fieldsOf detail) (linesOf rec)
     → take (s + n - s) (drop s rec) ≡ inDetail k rec .bytes
 unfolding inDetail
-spot-bytes k rec first s n e h = lent-is k rec first (fieldsOf detail) s n e h
+spot-bytes k rec s n h = lent-is k rec (fieldsOf detail) s n h
 
 pub type-in : (rec bs : Bytes) → bs ≡ seekLines detailType (fieldsOf detail) (linesOf rec) .bytes → valueOf bs ≡ number (inDetail detailType rec .bytes)
 unfolding inDetail

@@ -2,17 +2,14 @@
 use base_codes::Code;
 use base_quantities::Magnitude;
 use base_quantities::Place;
-use find_next::Next;
-use read_wanted::want;
-use read_wanted::want::Want;
+use find_walk::Reached;
 ghost use mathlib.Core.Path.{_≡_};
 ghost use mathlib.Core.Bool.{not};
 ghost use Rattle.rules.specs.Bytes.{isEmpty};
 ghost use Rattle.rules.specs.Numbers.{number, withoutSign};
 ghost use Rattle.rules.specs.Lines.{linesOf};
-ghost use Rattle.rules.specs.Grammar.{detailType, amount, sameKind, nextKind, fieldsOf};
+ghost use Rattle.rules.specs.Grammar.{detailType, amount, kindNumber, fieldsOf};
 ghost use Rattle.base_codes.specs.CodeMeaning.{codeMeant};
-ghost use Rattle.read_wanted.specs.Wants.{wantedOf};
 ghost use Rattle.find_field.specs.FieldSearch.{inDetail, seekLines};
 ghost use Rattle.find_field.specs.SoughtKinds.{kindMeant, Spots};
 
@@ -38,37 +35,17 @@ pub struct Given {
     pub amount: Magnitude,
 }
 
-// The next field is the one sought.
-fn is_sought(want: Want, sought: Sought) -> bool
-    ensures { λ r. ⌜ r ≡ sameKind (kindMeant sought) (nextKind (wantedOf want)) ⌝ }
+// The number of the kind that is sought.
+fn kind_sought(sought: Sought) -> u64
+    ensures { λ r. ⌜ r ≡ kindNumber (kindMeant sought) ⌝ }
 {
     match sought {
-        Sought::Type => match want {
-            Want::DetailType => true,
-            _ => false,
-        },
-        Sought::Amount => match want {
-            Want::ItemAmount => true,
-            Want::DetailAmount => true,
-            _ => false,
-        },
-        Sought::Text => match want {
-            Want::Text => true,
-            _ => false,
-        },
-        Sought::Receiver => match want {
-            Want::UltimateReceiver => true,
-            _ => false,
-        },
-        Sought::Total => match want {
-            Want::AccountTotal => true,
-            Want::Total => true,
-            _ => false,
-        },
-        Sought::Records => match want {
-            Want::Records => true,
-            _ => false,
-        },
+        Sought::Type => 20,
+        Sought::Amount => 17,
+        Sought::Text => 21,
+        Sought::Receiver => 3,
+        Sought::Total => 27,
+        Sought::Records => 29,
     }
 }
 
@@ -82,23 +59,16 @@ fn nowhere() -> Spot
     }
 }
 
-// The field sought in a record, where this is wanted first; 0 and 0 where the walk ends, or is refused, before one is met.
-pub fn seek(rec: &[u8], first: Want, sought: Sought) -> Spot
-    ensures { λ r. ⌜ Spots (now (rec .entry)) first sought r ⌝ }
+// The field sought in a record of this code; 0 and 0 where the walk ends, or is refused, before one is met.
+pub fn seek(rec: &[u8], code: Code, sought: Sought) -> Spot
+    ensures { λ r. ⌜ Spots (now (rec .entry)) (codeMeant code) sought r ⌝ }
 {
-    let mut walk = find_next::before_record(first);
-    loop {
-        let want = walk.want;
-        match find_next::next_field(rec, walk) {
-            Next::Refused(_) => return nowhere(),
-            Next::Over => return nowhere(),
-            Next::Field(start, length, after) => {
-                if is_sought(want, sought) {
-                    return Spot { start, length };
-                }
-                walk = after;
-            }
-        }
+    let mut none = [0u64; 1];
+    let kind = kind_sought(sought);
+    match find_walk::walk_to(rec, Place(0), rec.len(), code, kind, &mut none) {
+        Reached::Refused(_) => nowhere(),
+        Reached::Over(_) => nowhere(),
+        Reached::Field(start, length) => Spot { start, length },
     }
 }
 
@@ -106,7 +76,7 @@ pub fn seek(rec: &[u8], first: Want, sought: Sought) -> Spot
 pub fn field(rec: &[u8], code: Code, sought: Sought) -> &[u8]
     ensures { λ r. ⌜ now r ≡ seekLines (kindMeant sought) (fieldsOf (codeMeant code)) (linesOf (now (rec .entry))) .bytes ⌝ }
 {
-    let spot = seek(rec, want::first_want(code), sought);
+    let spot = seek(rec, code, sought);
     let start = spot.start;
     let from = start.0;
     let to = from + spot.length;

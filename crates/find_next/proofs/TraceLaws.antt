@@ -9,17 +9,17 @@ use lib.Dec.{eqb}
 use lib.ListN.{length, take, drop, getD, length-take, length-drop, drop-of-length-le}
 use lib.Seq.{slice, length-take-le}
 use Rattle.rules.specs.Bytes.{Bytes, slash, trimmed}
-use Rattle.rules.specs.Lines.{sizeOf, linesOf}
 use Rattle.rules.specs.Cells.{Cell, cellsFrom, cellsOf, leadingBlanks}
 use Rattle.rules.specs.Grammar.{Kind, bad, good, takeNext, nextKind, isText}
 use Rattle.rules.proofs.Tests.{Known, holds, fails, known}
 use Rattle.read_lines.specs.LineLengths.{bodyLen, lineLen}
-use Rattle.read_lines.proofs.LineLaws.{lines-here}
 use Rattle.read_field_ends.specs.declared.Extent.the-variants.{Field, Open}
 use Rattle.read_field_ends.specs.FieldLengths.{fieldLen, extentOf}
 use Rattle.read_field_ends.proofs.FieldLengthLaws.{extent-short, extent-open, extent-text}
 use Rattle.read_walk.proofs.LineParts.{line-size, line-fields, text-empty}
 use Rattle.read_walk.proofs.FirstCells.{first-open, first-comma, first-slash, comma-there, Starts, starts, cells-start}
+use Rattle.find_next.specs.CursorMeaning.{ownLine, linesFrom}
+use Rattle.find_next.proofs.OwnLines.{own-here, own-over}
 use Rattle.find_next.specs.FieldTrace.{Trace, yields, stopAt, fieldAt, traceAfter, traceTaken, tracePastSlash, traceTakenTo, traceCells, traceEnd, traceLines}
 
 -- ---- what is left of a line, xs at p
@@ -102,20 +102,20 @@ unfolding traceCells cellsFrom traceTaken traceAfter traceTakenTo trimmed
 no-cells ks s p go (holds t) = rw (t, text-empty ks t)
 no-cells ks s p go (fails t) = rw t (ap (λ (n : ℕ). stopAt 7 n) (omega arith))
 
--- ---- a line that starts at `at` and ends at e, before the one at n
+-- ---- the record's line that starts at `at` and ends at e, before the one at n
 
-module _ (rec : Bytes) (at e n : ℕ) (h : at < length rec) (he : e ≡ at + bodyLen (drop at rec)) (hn : n ≡ at + lineLen (drop at rec)) (ks : List Kind) (s : ℕ) where
-  pub line-first : traceLines at ks s (linesOf (drop at rec)) ≡ traceCells ks s (cellsFrom (at + 3) (slice (at + 3) e rec)) (λ next q. traceLines n next q (linesOf (drop n rec)))
+module _ (rec : Bytes) (least at e n : ℕ) (own : ownLine least at (drop at rec) ≡ true) (he : e ≡ at + bodyLen (drop at rec)) (hn : n ≡ at + lineLen (drop at rec)) (ks : List Kind) (s : ℕ) where
+  pub line-first : linesFrom rec least at ks s ≡ traceCells ks s (cellsFrom (at + 3) (slice (at + 3) e rec)) (linesFrom rec least n)
   unfolding traceLines cellsOf
-  line-first = rw (lines-here rec at n h hn, line-size rec at e n he hn, line-fields rec at e n he hn)
+  line-first = rw (own-here rec least at n hn own, line-size rec at e n he hn, line-fields rec at e n he hn)
 
   -- it is too short
-  pub short-line : e < at + 3 → traceLines at ks s (linesOf (drop at rec)) ≡ stopAt 7 (at + 3)
+  pub short-line : e < at + 3 → linesFrom rec least at ks s ≡ stopAt 7 (at + 3)
   short-line q =
       let z : slice (at + 3) e rec ≡ [] = drop-of-length-le (take e rec) {i = at + 3} (rw length-take (omega arith)) in
-      line-first ∙ rw z (no-cells ks s (at + 3) (λ next q. traceLines n next q (linesOf (drop n rec))) (known (isText (nextKind ks))))
+      line-first ∙ rw z (no-cells ks s (at + 3) (linesFrom rec least n) (known (isText (nextKind ks))))
 
 -- the record is over
-pub lines-over : (rec : Bytes) (ks : List Kind) (s at : ℕ) → length rec ≤ at → traceLines at ks s (linesOf (drop at rec)) ≡ traceEnd ks s
-unfolding traceLines linesOf
-lines-over rec ks s at h = rw (drop-of-length-le rec {i = at} h)
+pub lines-over : (rec : Bytes) (least : ℕ) (ks : List Kind) (s at : ℕ) → ownLine least at (drop at rec) ≡ false → linesFrom rec least at ks s ≡ traceEnd ks s
+unfolding traceLines
+lines-over rec least ks s at h = rw (own-over rec least at h)

@@ -5,7 +5,6 @@ use base_quantities::Place;
 use base_refusals::Refusal;
 use find_field::Sought;
 use find_field::Spot;
-use read_wanted::want;
 ghost use mathlib.Core.Path.{_≡_};
 ghost use Prim.Native.Nat.{_+_, _≤_};
 ghost use lib.ListN.{length};
@@ -33,7 +32,7 @@ fn text_in(file: &[u8], from: Place, to: Place) -> Spot
     let first = from.0;
     let last = to.0;
     let rec = &file[first..last];
-    let text = find_field::seek(rec, want::first_want(Code::Detail), Sought::Text);
+    let text = find_field::seek(rec, Code::Detail, Sought::Text);
     let found = text.start;
     let start = found.0;
     let end = start + text.length;

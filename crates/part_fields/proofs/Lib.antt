@@ -1,4 +1,3 @@
--- What a walk hands out, in numbers, what holds while it does, and what the call answers.
+-- What a walk over all fields hands out, in numbers, and what the call answers.
 pub mod NumberLaws
-pub mod HandLaws
 pub mod FieldsLaws

@@ -1,2 +1,2 @@
 -- The fields of a record as numbers.
-pub mod FieldNumbers
+pub mod FieldAnswers

@@ -9,7 +9,8 @@ use lib.ListN.{length, take, drop, getD, length-take, length-drop, drop-of-lengt
 use lib.Seq.{drop-drop, length-take-le}
 use Rattle.rules.specs.Bytes.{Bytes, sameBytes}
 use Rattle.rules.specs.Outcome.{Outcome, refuse, fine, _>>=_, orRefused}
-use Rattle.rules.specs.Lines.{Line, Code, linesOf, codeBytes, codeIn, codeOf, Record, recordsOf, recordSize, fileRecords}
+use Rattle.rules.specs.Lines.{Line, Code, fileHeader, groupHeader, accountHeader, detail, continuation, linesOf, codeBytes, codeIn, codeOf, Record, recordsOf, recordSize, fileRecords}
+use Rattle.rules.proofs.Tests.{same-eq}
 use Rattle.rules.specs.Verdict.{coded}
 use Rattle.rules.specs.HandedOut.{CodedRecord, firstCoded, recordAt, RecordAnswer, recordAnswer}
 use Rattle.base_quantities.specs.declared.Records.{Records}
@@ -18,7 +19,7 @@ use Rattle.base_codes.specs.CodeMeaning.{codeMeant}
 use Rattle.read_lines.specs.LineLengths.{lineLen, firstLine, further, firstRecord}
 use Rattle.read_lines.proofs.LineLengthLaws.{first-of}
 use Rattle.read_lines.proofs.Fronts.{begins-front}
-use Rattle.read_lines.proofs.LineLaws.{record-start}
+use Rattle.read_lines.proofs.LineLaws.{record-start, further-none}
 use Rattle.read_lines.proofs.OneRecord.{first-part, one-record, lines-size}
 use Rattle.part_records.specs.declared.Found.{Found}
 use Rattle.part_records.specs.declared.Found.the-variants as found
@@ -43,7 +44,7 @@ module _ (file : Bytes) (start : ℕ) where
     some-byte = omega (arith, length-drop start file)
 
     -- the line that starts there decides
-    by-code : recordAt file start ≡ (coded start (firstLine there) >>= λ c. fine (record { code = c; lines = firstRecord (linesOf there) }))
+    pub by-code : recordAt file start ≡ (coded start (firstLine there) >>= λ c. fine (record { code = c; lines = firstRecord (linesOf there) }))
     unfolding recordAt firstCoded fileRecords firstRecord
     by-code = rw (one-record there (recordSize (firstRecord (linesOf there))) refl some-byte, first-of there some-byte)
 
@@ -82,7 +83,22 @@ module _ (file : Bytes) (start : ℕ) where
           let length-is : recordSize (linesOf (take size there)) ≡ size = lines-size (take size there) ∙ length-take-le size there (omega (arith, length-drop start file)) in
           record { answer = sym (ap recordAnswer outcome-is ∙ rw (length-is, ← count-is)); outcome = outcome-is; inside = omega arith }
 
--- ---- the code of a line, sought one after the other
+    -- it is followed by no 88 line
+    pub single-finds : (c : code.Code) → some (codeMeant c) ≡ codeOf (firstLine there) → (n : ℕ) → n ≡ start + lineLen there → sameBytes (codeBytes continuation) (take 3 (drop n file)) ≡ false
+        → n ≤ length file → start ≤ n → Finds file start (found.Record c (record { 0 = 1 }) (n - start))
+    unfolding recordSize
+    single-finds c e n hn last within low =
+        let z = further-none file n last in
+        let size : n ≡ n + 0 = omega arith in
+        coded-finds c e n 0 n hn (sym (ap length z)) (size ∙ sym (ap (λ (ls : List Line). n + recordSize ls) z)) within low
+
+-- ---- the code of a line: a detail's, or sought one after the other
+
+pub detail-found : (xs : Bytes) → sameBytes (codeBytes detail) (take 3 xs) ≡ true → codeOf (firstLine xs) ≡ some detail
+unfolding codeOf codeIn sameBytes
+detail-found xs t =
+    let is : take 3 xs ≡ codeBytes detail = sym (same-eq (codeBytes detail) (take 3 xs) (rw t tt)) in
+    rw (begins-front fileHeader xs, begins-front groupHeader xs, begins-front accountHeader xs, begins-front detail xs, is)
 
 unfoldable pub meant : List code.Code → List Code
 meant [] = []

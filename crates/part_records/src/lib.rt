@@ -29,9 +29,12 @@ fn refuse(number: u64, place: Place) -> Found
 
 // The code of the line that starts there, sought one after the other. (`read_lines::code_at` answers the same, and is the reader's alone: with a second caller
 // the compiler no longer draws it into the reader.)
-fn code_there(file: &[u8], start: Place) -> Coded
+pub fn code_there(file: &[u8], start: Place) -> Coded
     ensures { λ r. ⌜ codeFound r ≡ codeOf (firstLine (drop (start .0) (now (file .entry)))) ⌝ }
 {
+    if read_lines::begins(file, start, Code::Detail) {
+        return Coded::With(Code::Detail);
+    }
     let codes = [
         Code::FileHeader,
         Code::GroupHeader,
@@ -63,10 +66,14 @@ pub fn record_at(file: &[u8], start: Place) -> Found
     match code_there(file, start) {
         Coded::None => refuse(NO_RECORD_CODE, start),
         Coded::With(code) => {
-            let further = read_lines::further_lines(file, read_lines::next_line(file, start));
-            let lines = further.count;
-            let end = further.end;
-            Found::Record(code, Records(lines.0 + 1), end.0 - start.0)
+            let next = read_lines::next_line(file, start);
+            if read_lines::begins(file, next, Code::Continuation) {
+                let further = read_lines::further_lines(file, next);
+                let lines = further.count;
+                let end = further.end;
+                return Found::Record(code, Records(lines.0 + 1), end.0 - start.0);
+            }
+            Found::Record(code, Records(1), next.0 - start.0)
         }
     }
 }

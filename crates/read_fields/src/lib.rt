@@ -104,3 +104,19 @@ pub fn take_detail_first(want: Want, f: &[u8]) -> Taken
         _ => take_field(want, f),
     }
 }
+
+// The same answer once more, for the walk that yields fields (`find_next`): a table that two walks call is drawn into neither.
+pub fn take_yielded(want: Want, f: &[u8]) -> Taken
+    ensures { λ r. ⌜ judgedOf r ≡ takeNext (wantedOf want) (now (f .entry)) ⌝ }
+{
+    match want {
+        Want::DetailType => detail(type_class(f)),
+        Want::DetailAmount => fitted_or_none(f, is_unsigned(f), Want::DetailFunds),
+        Want::DetailFunds => take_funds(f, After::References),
+        Want::BankReference => fitted(is_reference(f), Want::CustomerReference),
+        Want::CustomerReference => fitted(is_reference(f), Want::Text),
+        Want::Text => take_first_piece(f),
+        Want::FurtherText => take_piece(f),
+        _ => take_field(want, f),
+    }
+}

@@ -8,14 +8,13 @@ use Rattle.find_field.proofs.field.Tie as tie
 returns : tie.Need-returns
 returns c =
     let found = c .before .before .before in
-    let a = found .before .before .before .args in
-    lent-is (kindMeant (a .sought)) (a .rec .now) _ _ _ _ (found .before .first-want .ensures) (found .seek .ensures .answer)
+    let a = found .before .before .args in
+    lent-is (kindMeant (a .sought)) (a .rec .now) _ _ _ (found .seek .ensures .answer)
 
 pub field-spec : {M : Type 1} → statement M
 field-spec =
     tie.close
     (tie.spec
-    (λ c κs. search needs)
     (λ c κs. search needs)
     (λ c. search needs)
     (λ c. search needs)

@@ -17,8 +17,8 @@ returns c =
     let first = c .before .args .first in
     let is = c .before-line .ensures in (
       ap (λ (d : Cursor). d .want) is,
-      λ rec. (
-        ap (λ (d : Cursor). traceOf rec d) is ∙ trace-over rec first (record { 0 = 0 }) (record { 0 = 0 }),
+      λ rec least. (
+        ap (λ (d : Cursor). traceOf rec least d) is ∙ trace-over rec least first (record { 0 = 0 }) (record { 0 = 0 }),
         subst (Inside rec) (sym is) (record { in-line = omega arith; in-record = omega arith; slashed = omega arith }),
       ),
     )

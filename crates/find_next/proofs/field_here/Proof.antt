@@ -45,7 +45,7 @@ wanted c = wantedOf (walk-of c .want)
 
 -- what is left stands in the record
 within : (c : Part) → length (left c) ≤ length (rec-of c) - walk-of c .at .0
-within c = size-left (rec-of c) (walk-of c) (left c) (left-is c) .1
+within c = size-left (rec-of c) 0 (walk-of c) (left c) (left-is c) .1
 
 -- ---- how far the field goes
 
@@ -71,21 +71,21 @@ size-is : (c : Field) → extent.Field (size c) ≡ extentOf (isText (nextKind (
 size-is c = sym (c .before .n .given .1) ∙ extent-is (c .before .before .before)
 
 inside : (c : Field) → size c ≤ length (left (part-of c))
-inside c = let p = part-of c in in-left (rec-of p) (walk-of p) (left p) (left-is p) (size c) (size-is c)
+inside c = let p = part-of c in in-left (rec-of p) 0 (walk-of p) (left p) (left-is p) (size c) (size-is c)
 
 -- ---- the field is judged
 
 abbrev Judged : Type 0
-Judged = tie.After-take-field
+Judged = tie.After-take-yielded
 
 abbrev field : Judged → Field
 field c = c .before .before
 
-judged-is : (c : Judged) → judgedOf (c .take-field .result) ≡ takeNext (wanted (part-of (field c))) (take (size (field c)) (left (part-of (field c))))
+judged-is : (c : Judged) → judgedOf (c .take-yielded .result) ≡ takeNext (wanted (part-of (field c))) (take (size (field c)) (left (part-of (field c))))
 judged-is c =
     let g = field c in
     let lent : size g - 0 ≡ size g = omega arith in
-    c .take-field .ensures ∙ ap (λ (n : ℕ). takeNext (wanted (part-of g)) (take n (left (part-of g)))) lent
+    c .take-yielded .ensures ∙ ap (λ (n : ℕ). takeNext (wanted (part-of g)) (take n (left (part-of g)))) lent
 
 abbrev Good : Type 0
 Good = tie.After-known-told3
@@ -114,7 +114,7 @@ no-text c = sym (good-field (c .before) .before .before .before .before .is-text
 shorter : (c : Plain) → size (good-field (c .before)) < length (left (good-part (c .before)))
 shorter c =
     let p = good-part (c .before) in
-    in-short (rec-of p) (walk-of p) (left p) (left-is p) (size (good-field (c .before))) (size-is (good-field (c .before))) (no-text c)
+    in-short (rec-of p) 0 (walk-of p) (left p) (left-is p) (size (good-field (c .before))) (size-is (good-field (c .before))) (no-text c)
 
 -- ---- after a slash
 
@@ -146,17 +146,17 @@ blanks-within c =
     let most : c .blanks-len .result ≤ length (after c) = rw (after-is c) at (c .blanks-len .ensures .1) in
     omega (arith, most, length-drop n l, shorter (plain-of c))
 
-add-t19 : tie.Need-add-t19
-add-t19 c = omega (arith, within (cut-part (c .before .before)))
+add-t20 : tie.Need-add-t20
+add-t20 c = omega (arith, within (cut-part (c .before .before)))
 
 returns : tie.Need-returns
 returns c =
     let cut = c .before .before .before in
     let p = cut-part cut in
-    open-takes (rec-of p) (walk-of p) (left p) (left-is p) _ (c .stop .ensures) (sym (c .before .enum-told .given .1) ∙ extent-is cut)
+    λ least. open-takes (rec-of p) least (walk-of p) (left p) (left-is p) _ (c .stop .ensures) (sym (c .before .enum-told .given .1) ∙ extent-is cut)
 
-part-take-field-end : tie.Need-part-take-field-end
-part-take-field-end c = inside c
+part-take-yielded-end : tie.Need-part-take-yielded-end
+part-take-yielded-end c = inside c
 
 -- it is wrong
 returns-2 : tie.Need-returns-2
@@ -165,7 +165,7 @@ returns-2 c =
     let j = c .before .before .before .before in
     let g = field j in
     let p = part-of g in
-    wrong-takes (rec-of p) (walk-of p) (left p) (left-is p) (size g) (size-is g) _ _ (c .stop2 .ensures) (sym (judged-is j) ∙ ap judgedOf (c .before .before .number .given .1))
+    λ least. wrong-takes (rec-of p) least (walk-of p) (left p) (left-is p) (size g) (size-is g) _ _ (c .stop2 .ensures) (sym (judged-is j) ∙ ap judgedOf (c .before .before .number .given .1))
 
 -- a text ends the line
 returns-3 : tie.Need-returns-3
@@ -173,7 +173,7 @@ returns-3 c =
     let d = c .before .before in
     let g = good-field d in
     let p = good-part d in
-    text-takes (rec-of p) (walk-of p) (left p) (left-is p) (size g) (size-is g) (then d) (took d) _ (c .before-line .ensures)
+    λ least. text-takes (rec-of p) least (walk-of p) (left p) (left-is p) (size g) (size-is g) (then d) (took d) _ (c .before-line .ensures)
     (sym (g .before .before .before .before .is-text .ensures) ∙ c .before .if1 .taken)
 
 add-f : tie.Need-add-f
@@ -182,8 +182,8 @@ add-f c = omega (arith, shorter c)
 shared-slice-read-if2 : tie.Need-shared-slice-read-if2
 shared-slice-read-if2 c = shorter (c .before)
 
-add-t30 : tie.Need-add-t30
-add-t30 c = omega (arith, within (good-part (c .before .before .before)), shorter (c .before .before))
+add-t31 : tie.Need-add-t31
+add-t31 c = omega (arith, within (good-part (c .before .before .before)), shorter (c .before .before))
 
 -- a comma
 returns-4 : tie.Need-returns-4
@@ -191,7 +191,7 @@ returns-4 c =
     let d = c .before .before .before in
     let g = good-field d in
     let p = good-part d in
-    comma-takes (rec-of p) (walk-of p) (left p) (left-is p) (size g) (size-is g) (then d) (took d) (no-text (c .before .before)) (c .if2 .taken)
+    λ least. comma-takes (rec-of p) least (walk-of p) (left p) (left-is p) (size g) (size-is g) (then d) (took d) (no-text (c .before .before)) (c .if2 .taken)
 
 sub-blanks-len : tie.Need-sub-blanks-len
 sub-blanks-len c = omega (arith, shorter (c .before .before))
@@ -212,7 +212,7 @@ returns-5 c =
     let d = plain-of b .before in
     let g = good-field d in
     let p = good-part d in
-    stray-takes (rec-of p) (walk-of p) (left p) (left-is p) (size g) (size-is g) (then d) (took d) (no-text (plain-of b)) (b .before .before .if2 .left)
+    λ least. stray-takes (rec-of p) least (walk-of p) (left p) (left-is p) (size g) (size-is g) (then d) (took d) (no-text (plain-of b)) (b .before .before .if2 .left)
     (blanks-end b) (blanks-are b) _ (c .stop3 .ensures) (c .before .if3 .taken)
 
 add-t34 : tie.Need-add-t34
@@ -225,7 +225,7 @@ returns-6 c =
     let d = plain-of b .before in
     let g = good-field d in
     let p = good-part d in
-    slash-takes (rec-of p) (walk-of p) (left p) (left-is p) (size g) (size-is g) (then d) (took d) (no-text (plain-of b)) (b .before .before .if2 .left)
+    λ least. slash-takes (rec-of p) least (walk-of p) (left p) (left-is p) (size g) (size-is g) (then d) (took d) (no-text (plain-of b)) (b .before .before .if2 .left)
     (blanks-end b) (blanks-are b) _ (c .before-line2 .ensures) (c .before .if3 .left) (blanks-within b)
 
 pub field-here-spec : {M : Type 1} → statement M
@@ -237,12 +237,12 @@ field-here-spec =
     (λ c κs. search needs)
     (λ c. search needs)
     (λ c. search needs)
-    add-t19
+    add-t20
     (λ c κs. search needs)
     returns
     (λ c. search needs)
     (λ c. search needs)
-    part-take-field-end
+    part-take-yielded-end
     (λ c κs. search needs)
     (λ c. search needs)
     (λ c κs. search needs)
@@ -252,7 +252,7 @@ field-here-spec =
     returns-3
     add-f
     shared-slice-read-if2
-    add-t30
+    add-t31
     returns-4
     sub-blanks-len
     part-blanks-len-start

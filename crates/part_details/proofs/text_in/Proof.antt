@@ -28,7 +28,7 @@ abbrev Sought : Type 0
 Sought = tie.After-seek
 
 abbrev begun : Sought → tie.Start
-begun c = c .before .before .before .before
+begun c = c .before .before .before
 
 abbrev file-of : Sought → Bytes
 file-of c = begun c .args .file .now
@@ -65,7 +65,7 @@ found-in c = inDetail text (rec-of (sought-of c))
 tested : (c : Tested) → c .is-one-of .result ≡ just slash (found-in c .bytes)
 tested c =
     let s = sought-of c in
-    c .is-one-of .ensures ∙ ap (just slash) (spot-bytes text (rec-of s) _ _ _ (s .before .first-want .ensures) (s .seek .ensures .answer))
+    c .is-one-of .ensures ∙ ap (just slash) (spot-bytes text (rec-of s) _ _ (s .seek .ensures .answer))
 
 returns : tie.Need-returns
 returns c =
@@ -79,7 +79,7 @@ returns-2 : tie.Need-returns-2
 returns-2 c =
     let t = c .before in
     let s = sought-of t in
-    let found = spot-is text (rec-of s) _ (spotMeant (rec-of s) (s .seek .result)) (s .before .first-want .ensures) (s .seek .ensures .answer) in
+    let found = spot-is text (rec-of s) (spotMeant (rec-of s) (s .seek .result)) (s .seek .ensures .answer) in
     record {
       answer = some-piece (file-of s) (from-of s) (to-of s) _ _ (found-in t) found (begun s .pre .0) (fits s) (sym (tested t) ∙ c .if1 .left);
       inside = omega (arith, fits s, begun s .pre .0, begun s .pre .1);
@@ -92,7 +92,6 @@ text-in-spec =
     sub-rec
     part-rec-start
     part-rec-end
-    (λ c κs. search needs)
     (λ c κs. search needs)
     add-end
     (λ c. search needs)

@@ -1,7 +1,7 @@
 -- `bai2::handing::bai2_fields_at` meets its contract. Assumes nothing.
 use mathlib.Core.Path.{sym, ap, _∙_}
 use Rattle.part_fields.specs.declared.Fields.{Fields}
-use Rattle.part_fields.specs.FieldNumbers.{fieldsMeant}
+use Rattle.part_fields.specs.FieldAnswers.{fieldsMeant}
 use borrow.Author.Needs.{needs}
 use Rattle.bai2.proofs.handing.bai2_fields_at.Statement.{statement}
 use Rattle.bai2.proofs.handing.bai2_fields_at.Tie as tie

@@ -1,11 +1,11 @@
--- `part_fields::put_field` meets its contract. Assumes nothing.
+-- `find_walk::put_field` meets its contract. Assumes nothing.
 use Prim.Native.Nat.{_+_}
 use native.Mathlib.Omega.{arith}
 use lib.ListN.{set, length-set}
-use Rattle.part_fields.proofs.NumberLaws.{three-set}
+use Rattle.find_walk.proofs.PutLaws.{three-set}
 use borrow.Author.Needs.{needs}
-use Rattle.part_fields.proofs.put_field.Statement.{statement}
-use Rattle.part_fields.proofs.put_field.Tie as tie
+use Rattle.find_walk.proofs.put_field.Statement.{statement}
+use Rattle.find_walk.proofs.put_field.Tie as tie
 
 slice-write-out-2 : tie.Need-slice-write-out-2
 slice-write-out-2 c = let a = c .args in omega (arith, length-set (a .out .now) (a .at) (a .kind))

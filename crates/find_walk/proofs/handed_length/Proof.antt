@@ -1,10 +1,10 @@
--- `part_fields::handed_length` meets its contract. Assumes nothing.
+-- `find_walk::handed_length` meets its contract. Assumes nothing.
 use mathlib.Core.Path.{sym, _∙_}
 use mathlib.Core.Bool.{true, false}
-use Rattle.part_fields.proofs.NumberLaws.{plain-length, text-length}
+use Rattle.find_walk.proofs.PutLaws.{plain-length, text-length}
 use borrow.Author.Needs.{needs}
-use Rattle.part_fields.proofs.handed_length.Statement.{statement}
-use Rattle.part_fields.proofs.handed_length.Tie as tie
+use Rattle.find_walk.proofs.handed_length.Statement.{statement}
+use Rattle.find_walk.proofs.handed_length.Tie as tie
 
 returns : tie.Need-returns
 returns c = let a = c .before .before .args in plain-length (a .kind) (a .f .now) (c .if1 .taken)
