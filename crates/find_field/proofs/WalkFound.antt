@@ -1,8 +1,6 @@
 -- What the walk up to a field of a kind finds is what the search finds. Assumes nothing.
 use Prim.Native.Nat.{ℕ}
 use mathlib.Core.Path.{_≡_, refl, ap, _∙_}
-use mathlib.Core.Bool.{true, false}
-use lib.Dec.{eqb}
 use lib.ListN.{length}
 use Rattle.rules.specs.Bytes.{Bytes}
 use Rattle.rules.specs.Lines.{Code, Record, linesOf}

@@ -1,5 +1,5 @@
 -- What is promised of the next field, at each answer: in a line, before a line, and from either. Assumes nothing.
-use Prim.Native.Nat.{ℕ, zero, suc, _+_, _-_, _*_, _≤_, _<_}
+use Prim.Native.Nat.{ℕ, zero, suc, _+_, _-_, _≤_, _<_}
 use native.Mathlib.Omega.{arith}
 use mathlib.Core.Path.{_≡_, refl, sym, ap, subst, _∙_}
 use mathlib.Core.Bool.{true, false}
@@ -9,7 +9,7 @@ use lib.ListN.{length, take, drop, getD, length-take, length-drop}
 use lib.Seq.{slice, drop-drop}
 use Rattle.rules.specs.Bytes.{Bytes, slash}
 use Rattle.rules.specs.Cells.{cellsFrom, leadingBlanks}
-use Rattle.rules.specs.Grammar.{Kind, bad, good, takeNext, nextKind, isText, mayLack}
+use Rattle.rules.specs.Grammar.{Kind, bad, good, takeNext, nextKind, isText}
 use Rattle.base_quantities.specs.declared.Place.{Place}
 use Rattle.base_refusals.specs.declared.Refusal.{Refusal}
 use Rattle.read_lines.specs.LineLengths.{bodyLen, lineLen}
@@ -23,7 +23,7 @@ use Rattle.read_walk.proofs.LineParts.{part-front}
 use Rattle.find_next.specs.declared.Cursor.{Cursor}
 use Rattle.find_next.specs.declared.Next.{Next}
 use Rattle.find_next.specs.declared.Next.the-variants as next
-use Rattle.find_next.specs.FieldTrace.{Trace, yields, stopAt, fieldAt, traceCells, traceEnd}
+use Rattle.find_next.specs.FieldTrace.{Trace, stopAt, traceCells, traceEnd}
 use Rattle.find_next.specs.declared.Ahead.{Ahead}
 use Rattle.find_next.specs.declared.Ahead.the-variants as ahead
 use Rattle.find_next.specs.CursorMeaning.{ownLine, linesFrom, traceFrom, traceOf, nextMeant, Inside, leftFrom, leftOf, Onward, Takes, Ready, Ends, Enters, Steps}

@@ -8,7 +8,7 @@ use borrow.Author.Tests.{lt-ltb, le-ltb, ltb-true, ltb-false}
 use lib.Dec.{ltb}
 use lib.ListN.{length, take, drop, length-drop, drop-of-length-le}
 use Rattle.rules.specs.Bytes.{Bytes, sameBytes}
-use Rattle.rules.specs.Lines.{Line, sizeOf, linesOf, codeBytes, begins, continuation}
+use Rattle.rules.specs.Lines.{Line, sizeOf, linesOf, codeBytes, continuation}
 use Rattle.rules.proofs.Tests.{Known, holds, fails, known}
 use Rattle.read_lines.specs.LineLengths.{lineLen, firstLine, further, firstRecord}
 use Rattle.read_lines.proofs.LineLengthLaws.{first-of, line-some}

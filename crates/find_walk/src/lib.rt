@@ -87,7 +87,7 @@ fn put_next(
 }
 
 // The walk over the record of this code that starts there and has `least` bytes or more, up to a field of the kind with this number (0: none has it). The
-// numbers of the fields before it, three each, stand at the front of the slice if they all find room.
+// numbers of the fields before it, three each, are put at the front of the slice, as many as find room.
 pub fn walk_to(
     file: &[u8],
     start: Place,

@@ -1,15 +1,15 @@
 -- What the call answers: of a walk that was refused, of fields that find no room, of fields that are put into the slice; and of a record that is found. Assumes nothing.
-use Prim.Native.Nat.{ℕ, _+_, _-_, _*_, _≤_, _<_}
+use Prim.Native.Nat.{ℕ, _+_, _*_, _≤_, _<_}
 use native.Mathlib.Omega.{arith}
-use mathlib.Core.Path.{_≡_, refl, sym, ap, subst, _∙_}
+use mathlib.Core.Path.{_≡_, refl, sym, ap, _∙_}
 use mathlib.Core.Bool.{Bool, true, false}
-use mathlib.Core.List.{List, [], _++_}
+use mathlib.Core.List.{List, _++_}
 use mathlib.Core.Option.{none, some}
 use lib.Dec.{leb}
 use lib.ListN.{length, take, drop, length-drop, drop-of-length-le}
 use lib.Seq.{take-at}
 use Rattle.rules.specs.Bytes.{Bytes}
-use Rattle.rules.specs.Outcome.{Refusal, notRefused, Outcome, refused, fine, _>>=_, _>>_, check, moved}
+use Rattle.rules.specs.Outcome.{Refusal, notRefused, Outcome, refused, fine, _>>_, check, moved}
 use Rattle.rules.specs.Lines.{Code, codeOf, linesOf, recordsOf, fileRecords}
 use Rattle.rules.specs.Records.{Field}
 use Rattle.rules.specs.Verdict.{coded}

@@ -3,16 +3,16 @@ use Prim.Native.Nat.{ℕ, zero, suc, _+_, _-_, _≤_, _<_}
 use native.Mathlib.Omega.{arith}
 use mathlib.Core.Path.{_≡_, refl, sym, ap, subst, _∙_}
 use mathlib.Core.List.{List, [], _∷_}
-use mathlib.Core.Option.{Option, none, some}
+use mathlib.Core.Option.{none, some}
 use mathlib.Core.Bool.{true, false}
 use lib.ListN.{length, take, drop, getD, length-take, length-drop, drop-of-length-le}
 use lib.Seq.{drop-drop, length-take-le}
 use Rattle.rules.specs.Bytes.{Bytes, sameBytes}
-use Rattle.rules.specs.Outcome.{Outcome, refuse, fine, _>>=_, orRefused}
+use Rattle.rules.specs.Outcome.{refuse, fine, _>>=_}
 use Rattle.rules.specs.Lines.{Line, Code, fileHeader, groupHeader, accountHeader, detail, continuation, linesOf, codeBytes, codeIn, codeOf, Record, recordsOf, recordSize, fileRecords}
 use Rattle.rules.proofs.Tests.{same-eq}
 use Rattle.rules.specs.Verdict.{coded}
-use Rattle.rules.specs.HandedOut.{CodedRecord, firstCoded, recordAt, RecordAnswer, recordAnswer}
+use Rattle.rules.specs.HandedOut.{firstCoded, recordAt, recordAnswer}
 use Rattle.base_quantities.specs.declared.Records.{Records}
 use Rattle.base_codes.specs.declared.Code as code
 use Rattle.base_codes.specs.CodeMeaning.{codeMeant}
@@ -23,7 +23,7 @@ use Rattle.read_lines.proofs.LineLaws.{record-start, further-none}
 use Rattle.read_lines.proofs.OneRecord.{first-part, one-record, lines-size}
 use Rattle.part_records.specs.declared.Found.{Found}
 use Rattle.part_records.specs.declared.Found.the-variants as found
-use Rattle.part_records.specs.RecordsFound.{recordMeant, Finds}
+use Rattle.part_records.specs.RecordsFound.{Finds}
 
 module _ (file : Bytes) (start : ℕ) where
   abbrev there : Bytes

@@ -27,7 +27,7 @@ fn refuse(number: u64, place: Place) -> Found
     Found::Refused(Refusal { number, place })
 }
 
-// The code of the line that starts there, sought one after the other. (`read_lines::code_at` answers the same, and is the reader's alone: with a second caller
+// The code of the line that starts there: a detail's is sought first, then one after the other. (`read_lines::code_at` answers the same, and is the reader's alone: with a second caller
 // the compiler no longer draws it into the reader.)
 pub fn code_there(file: &[u8], start: Place) -> Coded
     ensures { λ r. ⌜ codeFound r ≡ codeOf (firstLine (drop (start .0) (now (file .entry)))) ⌝ }

@@ -1,11 +1,7 @@
 -- `find_next::before_record` meets its contract. Assumes nothing.
 use native.Mathlib.Omega.{arith}
-use mathlib.Core.Path.{_≡_, refl, sym, ap, subst, _∙_}
-use Rattle.rules.specs.Bytes.{Bytes}
-use Rattle.rules.specs.Lines.{linesOf}
-use Rattle.read_wanted.specs.Wants.{wantedOf}
+use mathlib.Core.Path.{sym, ap, subst, _∙_}
 use Rattle.find_next.specs.declared.Cursor.{Cursor}
-use Rattle.find_next.specs.FieldTrace.{traceLines}
 use Rattle.find_next.specs.CursorMeaning.{traceOf, Inside}
 use Rattle.find_next.proofs.CursorLaws.{trace-over}
 use borrow.Author.Needs.{needs}

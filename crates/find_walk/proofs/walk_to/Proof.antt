@@ -1,12 +1,12 @@
 -- `find_walk::walk_to` meets its contract. Assumes nothing.
-use Prim.Native.Nat.{ℕ, _+_, _-_, _≤_, _<_}
+use Prim.Native.Nat.{ℕ, _-_, _≤_}
 use native.Mathlib.Omega.{arith}
-use mathlib.Core.Path.{_≡_, refl, sym, ap, subst, _∙_}
+use mathlib.Core.Path.{_≡_, ap, subst, _∙_}
 use mathlib.Core.List.{List}
-use lib.ListN.{length, take, drop, length-drop}
-use lib.Seq.{slice, take-all}
+use lib.ListN.{length, drop, length-drop}
+use lib.Seq.{take-all}
 use Rattle.rules.specs.Bytes.{Bytes}
-use Rattle.rules.specs.Lines.{Code, linesOf}
+use Rattle.rules.specs.Lines.{linesOf}
 use Rattle.rules.specs.Grammar.{Kind}
 use Rattle.base_codes.specs.CodeMeaning.{codeMeant}
 use Rattle.find_next.specs.declared.Cursor.{Cursor}

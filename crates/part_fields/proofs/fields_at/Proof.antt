@@ -1,5 +1,5 @@
 -- `part_fields::fields_at` meets its contract. Assumes nothing.
-use mathlib.Core.Path.{_≡_, sym, ap, _∙_}
+use mathlib.Core.Path.{sym, ap, _∙_}
 use Rattle.base_codes.specs.CodeMeaning.{codeMeant}
 use Rattle.read_lines.specs.LineAnswers.{codeFound}
 use Rattle.part_fields.specs.declared.Fields.{Fields}
