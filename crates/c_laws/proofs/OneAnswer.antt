@@ -346,7 +346,7 @@ same-written x =
     ap (λ (w : Writer). record { answer = record { refusal = x .answer .refusal; length = x .answer .length; writer = w }; slice = x .slice })
     (same-writer (x .answer .writer))
 
--- write_calls::header, group, account, item, detail, end_account, end_group, end_file: each call on each state
+-- write_calls::header, group, account, item, detail, write_ends::end_account, end_group, end_file: each call on each state
 pub write-one : (w : writing.Writer) (call : writing.Call) (before : Bytes) (x y : Left Written)
     → writtenMeant (x .answer) (x .slice) ≡ writing.write w call before → writtenMeant (y .answer) (y .slice) ≡ writing.write w call before → x ≡ y
 write-one w call before =

@@ -139,7 +139,7 @@ pub extern "C" fn bai2_write_end_account(writer: Bai2Writer, out: &mut [u8]) -> 
     ensures { λ r. ⌜ replied r (now (out .exit)) ≡ replyTo writer rules.endAccount (now (out .entry)) ⌝ }
 {
     let w = c_writer::state_of(writer);
-    let r = write_calls::end_account(w, out);
+    let r = write_ends::end_account(w, out);
     c_writer::answered(writer, r)
 }
 
@@ -149,7 +149,7 @@ pub extern "C" fn bai2_write_end_group(writer: Bai2Writer, out: &mut [u8]) -> Ba
     ensures { λ r. ⌜ replied r (now (out .exit)) ≡ replyTo writer rules.endGroup (now (out .entry)) ⌝ }
 {
     let w = c_writer::state_of(writer);
-    let r = write_calls::end_group(w, out);
+    let r = write_ends::end_group(w, out);
     c_writer::answered(writer, r)
 }
 
@@ -159,6 +159,6 @@ pub extern "C" fn bai2_write_end_file(writer: Bai2Writer, out: &mut [u8]) -> Bai
     ensures { λ r. ⌜ replied r (now (out .exit)) ≡ replyTo writer rules.endFile (now (out .entry)) ⌝ }
 {
     let w = c_writer::state_of(writer);
-    let r = write_calls::end_file(w, out);
+    let r = write_ends::end_file(w, out);
     c_writer::answered(writer, r)
 }

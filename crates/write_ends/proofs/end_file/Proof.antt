@@ -1,10 +1,10 @@
 -- `end_file` meets its contract: the line that `end` commits is the rules' line. Assumes nothing.
 use mathlib.Core.Path.{_∙_}
-use Rattle.write_calls.proofs.CallLaws.{file-end-written}
+use Rattle.write_ends.proofs.EndLaws.{file-end-written}
 use Rattle.write_state.specs.WriterMeaning.{writerMeant}
 use borrow.Author.Needs.{needs}
-use Rattle.write_calls.proofs.end_file.Statement.{statement}
-use Rattle.write_calls.proofs.end_file.Tie as tie
+use Rattle.write_ends.proofs.end_file.Statement.{statement}
+use Rattle.write_ends.proofs.end_file.Tie as tie
 
 returns : tie.Need-returns
 returns c =

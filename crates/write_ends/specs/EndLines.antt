@@ -20,6 +20,6 @@ abbrev pub endLine : Code → Summary → ℕ → Outcome Sofar
 endLine c s n = lineIn c (fieldsOf c) (totalBytes (s .sum) ∷ decimal n ∷ decimal (min (s .records + 1) mostRecords) ∷ []) slash
 
 -- what the commit of that line answers; stands for `write` of `endGroup` and `endFile` (rules/specs/Writer.antt): joined by `group-end-written` and
--- `file-end-written` (proofs/CallLaws.antt)
+-- `file-end-written` (proofs/EndLaws.antt)
 unfoldable pub ended : Writer → Code → Summary → ℕ → Bytes → Written
 ended w c s n out = writtenBy w (committed w c (endLine c s n) zeroSum false (length out)) out

@@ -1,10 +1,10 @@
 -- `end_group` meets its contract: the line that `end` commits is the rules' line. Assumes nothing.
 use mathlib.Core.Path.{_∙_}
-use Rattle.write_calls.proofs.CallLaws.{group-end-written}
+use Rattle.write_ends.proofs.EndLaws.{group-end-written}
 use Rattle.write_state.specs.WriterMeaning.{writerMeant}
 use borrow.Author.Needs.{needs}
-use Rattle.write_calls.proofs.end_group.Statement.{statement}
-use Rattle.write_calls.proofs.end_group.Tie as tie
+use Rattle.write_ends.proofs.end_group.Statement.{statement}
+use Rattle.write_ends.proofs.end_group.Tie as tie
 
 returns : tie.Need-returns
 returns c =

@@ -1,10 +1,10 @@
 -- `end_account` meets its contract: its drafted line is committed as the rules say. Assumes nothing.
 use mathlib.Core.Path.{_∙_}
-use Rattle.write_calls.proofs.CallLaws.{account-end-written}
+use Rattle.write_ends.proofs.EndLaws.{account-end-written}
 use Rattle.write_state.specs.WriterMeaning.{writerMeant}
 use borrow.Author.Needs.{needs}
-use Rattle.write_calls.proofs.end_account.Statement.{statement}
-use Rattle.write_calls.proofs.end_account.Tie as tie
+use Rattle.write_ends.proofs.end_account.Statement.{statement}
+use Rattle.write_ends.proofs.end_account.Tie as tie
 
 returns : tie.Need-returns
 returns c =

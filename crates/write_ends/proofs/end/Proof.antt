@@ -2,11 +2,11 @@
 use mathlib.Core.Path.{_∙_}
 use Rattle.base_codes.specs.CodeMeaning.{codeMeant}
 use Rattle.base_totals.specs.SummaryMeaning.{summaryMeant}
-use Rattle.write_calls.proofs.CallLaws.{end-answers}
+use Rattle.write_ends.proofs.EndLaws.{end-answers}
 use Rattle.write_state.specs.WriterMeaning.{writerMeant}
 use borrow.Author.Needs.{needs}
-use Rattle.write_calls.proofs.end.Statement.{statement}
-use Rattle.write_calls.proofs.end.Tie as tie
+use Rattle.write_ends.proofs.end.Statement.{statement}
+use Rattle.write_ends.proofs.end.Tie as tie
 
 returns : tie.Need-returns
 returns c =
