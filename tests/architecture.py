@@ -310,7 +310,10 @@ def name_in(cell):
 
 
 def crate_of(name):
-    return name.split("::")[0] if "::" in name else "bai2"
+    """The crate of a function; of one for C, which is named without it, the one that has it."""
+    if "::" in name:
+        return name.split("::")[0]
+    return next((crate for crate in CRATES if name in public_functions(crate)), "any crate")
 
 
 @check

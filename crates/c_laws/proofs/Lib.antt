@@ -1,2 +1,3 @@
--- C's read-back.
+-- C's read-back, and one answer for each call.
 pub mod CTheorems
+pub mod OneAnswer

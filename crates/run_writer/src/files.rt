@@ -65,9 +65,9 @@ fn status_account(
 
 // The ends of account, group and file.
 fn end_all(w: Writer, out: &mut [u8; 4096]) -> Writer {
-    let w = after(write_calls::end_account(w, out));
-    let w = after(write_calls::end_group(w, out));
-    after(write_calls::end_file(w, out))
+    let w = after(write_ends::end_account(w, out));
+    let w = after(write_ends::end_group(w, out));
+    after(write_ends::end_file(w, out))
 }
 
 // A file of two groups with every call.
@@ -103,7 +103,7 @@ fn two_accounts(w: Writer, out: &mut [u8; 4096]) -> Writer {
     let w = after(write_calls::group(w, b"", b"BANK A", b"1", b"240228", b"", b"USD", b"", out));
     let w = without_items(w, out);
     let w = with_items(w, out);
-    after(write_calls::end_group(w, out))
+    after(write_ends::end_group(w, out))
 }
 
 // An account without an item, and a detail without an amount.
@@ -127,7 +127,7 @@ fn without_items(w: Writer, out: &mut [u8; 4096]) -> Writer {
         b"PLEASE CALL 9/5, ROOM 7",
         out,
     ));
-    after(write_calls::end_account(w, out))
+    after(write_ends::end_account(w, out))
 }
 
 // An account with three items, a credit and a debit.
@@ -142,5 +142,5 @@ fn with_items(w: Writer, out: &mut [u8; 4096]) -> Writer {
 fn credit_and_debit(w: Writer, out: &mut [u8; 4096]) -> Writer {
     let w = after(write_calls::detail(w, b"165", plus(300_000), b"DD1620", b"REF 7", b"", out));
     let w = after(write_calls::detail(w, b"475", plus(50_000), b"", b"", b"CHECK 000123", out));
-    after(write_calls::end_account(w, out))
+    after(write_ends::end_account(w, out))
 }

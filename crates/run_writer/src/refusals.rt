@@ -65,13 +65,13 @@ fn short_detail(w: Writer, type_code: &[u8], amount: MaybeAmount, out: &mut [u8;
 pub fn out_of_turn(out: &mut [u8; 4096]) {
     print_answer(
         b"end of a file that was not begun",
-        write_calls::end_file(Writer::new(), out),
+        write_ends::end_file(Writer::new(), out),
     );
     let w = in_account(out);
     try_header(b"second header", w, b"A", b"240229", out);
     print_answer(
         b"end of a group with an open account",
-        write_calls::end_group(w, out),
+        write_ends::end_group(w, out),
     );
     try_item(b"item after an account with none", w, out);
     after_a_detail(w, out);
@@ -81,7 +81,7 @@ pub fn out_of_turn(out: &mut [u8; 4096]) {
 fn after_a_detail(w: Writer, out: &mut [u8; 4096]) {
     let w = short_detail(w, b"165", plus(1), out);
     try_item(b"item after a detail", w, out);
-    let w = after(write_calls::end_account(w, out));
+    let w = after(write_ends::end_account(w, out));
     try_detail(b"detail after its account", w, b"165", plus(1), b"", out);
     print_file(w, out);
 }
@@ -127,8 +127,8 @@ pub fn too_much(out: &mut [u8; 4096]) {
     let mut short = [0u8; 10];
     print_answer(
         b"slice of 10 bytes",
-        write_calls::end_account(w, &mut short[0..10]),
+        write_ends::end_account(w, &mut short[0..10]),
     );
-    let w = after(write_calls::end_account(w, out));
+    let w = after(write_ends::end_account(w, out));
     print_file(w, out);
 }

@@ -1,3 +1,2 @@
--- What the calls are given, in the rules' terms, and the lines that end a group and the file.
+-- What the calls are given, in the rules' terms.
 pub mod ItemMeaning
-pub mod EndLines

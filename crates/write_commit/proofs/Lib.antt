@@ -2,3 +2,4 @@
 pub mod RoomLaws
 pub mod StateSums
 pub mod CommitLaws
+pub mod LinesCommitted

@@ -34,7 +34,7 @@ roomFor w sum n room = do
   hasRoom (w .size + n) room
 
 -- 19; then 20, where the draft is refused; then 10, 18, 15. Stands for `writeLine` (rules/specs/Writer.antt), and with it the two above:
--- joined by `committed-is` (write_calls/proofs/CallLaws.antt)
+-- joined by `committed-is` (proofs/LinesCommitted.antt)
 unfoldable pub committed : Writer → Code → Outcome Sofar → Sum → Bool → ℕ → Outcome Entry
 committed w c o sum items room = do
   check (sound w && inTurn c (w .phase) (w .items)) 19 0

@@ -9,7 +9,7 @@ use Rattle.write_line.specs.DraftMeaning.{Sofar, begun, addedAll}
 use Rattle.write_line.specs.DrawnLine.{Drawn, codeDrawn, allDrawn}
 
 -- a code with these kinds wanted, and fields with a comma after each but the last, which has this mark; stands for `kindsAfter` and `bodyOf` of a line
--- that a slash ends (rules/specs/Writer.antt): joined by `slash-drafts` (write_calls/proofs/CallLaws.antt)
+-- that a slash ends (rules/specs/Writer.antt): joined by `slash-drafts` (write_commit/proofs/LinesCommitted.antt)
 abbrev pub lineIn : Code → List Kind → List Bytes → ℕ → Outcome Sofar
 lineIn c ks fs last = addedAll fs last (begun c ks)
 

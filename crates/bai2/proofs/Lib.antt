@@ -1,6 +1,0 @@
--- Laws that belong to no one call.
-pub mod TotalSigns
-pub mod ReadFigures
-pub mod DetailFigures
-pub mod WriterReplies
-pub mod OneAnswer

@@ -1,0 +1,4 @@
+-- Laws that belong to no one call.
+pub mod TotalSigns
+pub mod ReadFigures
+pub mod DetailFigures

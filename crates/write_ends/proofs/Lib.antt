@@ -1,0 +1,2 @@
+-- Facts that the proofs of the functions hand over.
+pub mod EndLaws

@@ -1,0 +1,2 @@
+-- The lines that end a group and the file.
+pub mod EndLines
