@@ -201,6 +201,19 @@ typedef struct {
 bai2_fields bai2_fields_at(const uint8_t *file, size_t file_length, uint64_t start,
                            uint64_t *out, size_t out_length);
 
+/* ---- Type codes ---- */
+
+/* What the uniform list of BAI2's own specification says of a type code: whether it is listed; whether it
+   is a status, a summary, a detail (summary and detail where it is printed as both); 0 or 1 each. `side`:
+   0 neither, 1 credit, 2 debit. All are 0 for a code that is not listed, as is any number over 999. The
+   list only tells what a code is for: the reader and the writer go by the ranges that bai2_write_account
+   and bai2_write_detail name, and take a code inside them that is not listed as well. */
+typedef struct {
+    uint64_t listed, status, summary, detail, side;
+} bai2_code;
+
+bai2_code bai2_code_of(uint64_t code);
+
 /* ---- Splitting and combining ---- */
 
 typedef struct {

@@ -12,6 +12,12 @@ enum {
     GROWTH = 4
 };
 
+/* A C string as a slice. */
+slice slice_of(const char *text)
+{
+    return (slice){(const uint8_t *)text, strlen(text)};
+}
+
 /* The part of a slice that has `length` bytes from `start` on, as far as the slice reaches. */
 slice part_of(slice whole, size_t start, size_t length)
 {

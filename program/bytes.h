@@ -20,6 +20,7 @@ typedef struct {
     size_t start, end, next;
 } line;
 
+slice slice_of(const char *text);
 slice part_of(slice whole, size_t start, size_t length);
 bool same_text(slice s, const char *text);
 bool contains(slice hay, slice needle);

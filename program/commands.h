@@ -25,5 +25,6 @@ int split_command(const arguments *a);
 int combine_command(const arguments *a);
 int check_command(const arguments *a);
 int explain_command(const arguments *a);
+int codes_command(const arguments *a);
 
 #endif

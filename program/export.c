@@ -8,7 +8,7 @@
 #include <inttypes.h>
 
 #include "codes.h"
-#include "fields.h"
+#include "record.h"
 
 /* A record's code (98 and 99 are those of no other when divided by 64), or a field's kind, as a bit. */
 #define CODE(code) (UINT64_C(1) << (code) % 64)
@@ -53,6 +53,7 @@ static const column columns[] = {
     {"currency", CODE(2) | CODE(3), KIND(CURRENCY)},
     {"modifier", CODE(2), KIND(MODIFIER)},
     {"type", TYPED, KIND(TYPE) | KIND(FURTHER_TYPE) | KIND(DETAIL_TYPE)},
+    {"type_name", TYPED, 0}, /* comes with the type */
     {"amount", TYPED, KIND(AMOUNT) | KIND(STATUS_AMOUNT) | KIND(NOTHING)},
     {"item_count", CODE(3), KIND(ITEM_COUNT) | KIND(NOTHING)},
     {"funds", TYPED, KIND(FUNDS) | KIND(NOTHING)},
@@ -132,6 +133,13 @@ static size_t put_pairs(walk *w, size_t c, size_t i, size_t end)
     return i;
 }
 
+/* Writes a type, and its name in the column after it. */
+static void put_type(walk *w, size_t c, slice type)
+{
+    put_text(&w->sheet, c, type);
+    put_text(&w->sheet, c + 1, slice_of(type_in_words(type)));
+}
+
 /* Writes the field of this index, and those after it that stand in the same list; answers the index after
    them, or this one where no column takes the field. */
 static size_t put_field(walk *w, size_t i, size_t end)
@@ -143,6 +151,9 @@ static size_t put_field(walk *w, size_t i, size_t end)
     switch (kind) {
     case BAI2_FIELD_SPLIT_AMOUNT: case BAI2_FIELD_TEXT: return put_list(w, c, i, end);
     case BAI2_FIELD_DAYS: return put_pairs(w, c, i, end);
+    case BAI2_FIELD_TYPE: case BAI2_FIELD_FURTHER_TYPE: case BAI2_FIELD_DETAIL_TYPE:
+        put_type(w, c, field_at(&w->fields, i));
+        return i + 1;
     default: put_text(&w->sheet, c, field_at(&w->fields, i)); return i + 1;
     }
 }

@@ -32,6 +32,7 @@ static const command commands[] = {
     {"split", split_command, 2, 2, OUTPUT, "[-o OUT] NAME FILE", "only the groups of one receiver"},
     {"combine", combine_command, 2, 2, OUTPUT, "[-o OUT] A B", "the groups of two files in one"},
     {"explain", explain_command, 0, 1, NO_OPTION, "[NUMBER]", "what a refusal means, and what to do"},
+    {"codes", codes_command, 0, (size_t)-1, NO_OPTION, "[CODE..]", "what type codes stand for"},
 };
 enum { COMMANDS = sizeof commands / sizeof commands[0] };
 

@@ -3,6 +3,8 @@
 
 #include <string.h>
 
+#include "type_names.h"
+
 enum { DIGITS = 18 };
 
 /* What a 01 says. */
@@ -183,6 +185,12 @@ bool put_funds_part(char room[FUNDS_ROOM], const fields *f, const funds *u, size
         snprintf(room, FUNDS_ROOM, "in %u day%s: %s", days, days == 1 ? "" : "s", amount);
     }
     return true;
+}
+
+/* A type's name, or that it is unlisted. */
+const char *type_in_words(slice type)
+{
+    return type_name(number_of(type));
 }
 
 /* A group's status in words (source document 000). */

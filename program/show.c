@@ -11,7 +11,7 @@ typedef enum { AMOUNT, COUNT, FUNDS, BANK_REFERENCE, CUSTOMER_REFERENCE, TEXT, C
 static const char *const column_names[COLUMNS] = {
     "amount", "count", "funds", "bank reference", "customer reference", "text"};
 
-enum { TYPE_INDENT = 4, LEAST_LABEL = 14, LABEL_ROOM = 40 };
+enum { TYPE_INDENT = 4, NAME_INDENT = 9 /* after the type and two blanks */, LABEL_ROOM = 40 };
 
 /* One row of an account's table. */
 typedef struct {
@@ -19,18 +19,13 @@ typedef struct {
     char amount[AMOUNT_ROOM], count[AMOUNT_ROOM], funds[FUNDS_ROOM];
 } row;
 
-/* The report's layout: column widths, 0 for a column that is empty in the whole file. */
+/* The report's layout: the width of the labels that rows begin with, a type and its name or a total's
+   words; and column widths, 0 for a column that is empty in the whole file. */
 typedef struct {
     FILE *to;
     size_t label;
     size_t widths[COLUMNS];
 } layout;
-
-/* A C string as a slice. */
-static slice slice_of(const char *text)
-{
-    return (slice){(const uint8_t *)text, strlen(text)};
-}
 
 /* A count and its word, with an s where there is not exactly one. */
 static void put_counted(FILE *to, uint64_t count, const char *word)
@@ -69,7 +64,15 @@ static void widen(layout *l, const row *r)
     }
 }
 
-/* Widens the columns for the record's items, or its detail with the first piece of its text. */
+/* Widens the labels so that a type with its name fits. */
+static void widen_label(layout *l, slice type)
+{
+    size_t needed = NAME_INDENT + strlen(type_in_words(type));
+    if (needed > l->label)
+        l->label = needed;
+}
+
+/* Widens labels and columns for the record's items, or its detail with the first piece of its text. */
 static void measure_entries(layout *l, const fields *f)
 {
     row r;
@@ -78,6 +81,7 @@ static void measure_entries(layout *l, const fields *f)
     for (entry e; next_entry(f, &at, &e);) {
         next_piece(f, &at, &piece);
         entry_row(&r, &e, piece);
+        widen_label(l, e.type);
         widen(l, &r);
     }
 }
@@ -104,8 +108,7 @@ static void measure_record(layout *l, record_code code, const fields *f)
 static layout layout_for(FILE *to, const outline *o, fields *f)
 {
     layout l = {.to = to};
-    int label = snprintf(NULL, 0, "  group %" PRIu64 " total", o->summary.groups);
-    l.label = label > LEAST_LABEL ? (size_t)label : LEAST_LABEL;
+    l.label = (size_t)snprintf(NULL, 0, "  group %" PRIu64 " total", o->summary.groups);
     for (size_t i = 0; i < o->count; i++) {
         read_fields(f, o->records[i].start);
         measure_record(&l, o->records[i].code, f);
@@ -113,11 +116,10 @@ static layout layout_for(FILE *to, const outline *o, fields *f)
     return l;
 }
 
-/* Writes a row: its label, then each column; nothing after the last cell that has something. */
-static void put_row(const layout *l, slice label, const row *r)
+/* Writes a row's columns after a label of this length; nothing after the last cell that has something. */
+static void put_cells(const layout *l, size_t label, const row *r)
 {
-    fprintf(l->to, "%-*.*s", (int)l->label, SLICE(label));
-    size_t gap = 0;
+    size_t gap = l->label - label;
     for (column c = AMOUNT; c < COLUMNS; c++) {
         if (l->widths[c] == 0)
             continue;
@@ -134,6 +136,13 @@ static void put_row(const layout *l, slice label, const row *r)
     fputc('\n', l->to);
 }
 
+/* Writes a row that begins with these words. */
+static void put_row(const layout *l, const char *label, const row *r)
+{
+    fputs(label, l->to);
+    put_cells(l, strlen(label), r);
+}
+
 /* Writes the columns' names. */
 static void put_names(const layout *l)
 {
@@ -141,7 +150,7 @@ static void put_names(const layout *l)
     for (column c = AMOUNT; c < COLUMNS; c++)
         if (l->widths[c] > 0)
             r.cells[c] = slice_of(column_names[c]);
-    put_row(l, slice_of("    type"), &r);
+    put_row(l, "    type", &r);
 }
 
 /* Writes a row that has only one cell. */
@@ -149,7 +158,7 @@ static void put_cell_row(const layout *l, column c, slice cell)
 {
     row r = {0};
     r.cells[c] = cell;
-    put_row(l, slice_of(""), &r);
+    put_row(l, "", &r);
 }
 
 /* Writes the amounts of funds that come at several times, a row each. */
@@ -160,12 +169,12 @@ static void put_funds_rows(const layout *l, const fields *f, const funds *u)
         put_cell_row(l, FUNDS, slice_of(words));
 }
 
-/* Writes a row that begins with a type. */
+/* Writes a row that begins with a type and its name. */
 static void put_typed_row(const layout *l, slice type, const row *r)
 {
-    char label[LABEL_ROOM];
-    snprintf(label, sizeof label, "%*s%.*s", TYPE_INDENT, "", SLICE(type));
-    put_row(l, slice_of(label), r);
+    const char *name = type_in_words(type);
+    fprintf(l->to, "%*s%-*.*s%s", TYPE_INDENT, "", NAME_INDENT - TYPE_INDENT, SLICE(type), name);
+    put_cells(l, NAME_INDENT + strlen(name), r);
 }
 
 /* Writes the record's items, or its detail: for each its row, further pieces of its text, and its

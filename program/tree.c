@@ -176,13 +176,25 @@ size_t row_above(const tree *t, size_t row)
     return row_of(t, t->rows[row].kind <= DETAIL_ROW ? record_above(t->outline, record) : record);
 }
 
-/* Whether the needle stands in a group's, account's or detail's record, or in its trailer. */
-static bool matches(const outline *o, size_t i, slice needle)
+/* Whether the needle stands in the name of a type that the record has. */
+static bool names_match(const fields *f, slice needle)
 {
+    size_t at = 0;
+    for (entry e; next_entry(f, &at, &e);)
+        if (contains(slice_of(type_in_words(e.type)), needle))
+            return true;
+    return false;
+}
+
+/* Whether the needle stands in a group's, account's or detail's record, in the names of its types, or in
+   its trailer. */
+static bool matches(tree *t, size_t i, slice needle)
+{
+    const outline *o = t->outline;
     record_code code = o->records[i].code;
     if (code != GROUP_HEADER && code != ACCOUNT_HEADER && code != DETAIL)
         return false;
-    if (contains(bytes_of(o, i), needle))
+    if (contains(bytes_of(o, i), needle) || names_match(fields_of(t, i), needle))
         return true;
     return code != DETAIL && contains(bytes_of(o, o->records[i].closing), needle);
 }
@@ -208,7 +220,7 @@ bool find_in_tree(tree *t, size_t *row, slice needle)
     size_t from = *row < t->count ? t->rows[*row].record : 0;
     for (size_t step = 1; step <= count; step++) {
         size_t i = (from + step) % count;
-        if (!matches(t->outline, i, needle))
+        if (!matches(t, i, needle))
             continue;
         reveal(t, i);
         *row = row_of(t, i);

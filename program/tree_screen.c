@@ -24,7 +24,7 @@ static void put_group_label(char *label, const tree_row *row, const fields *f)
     group_header h = group_header_of(f);
     char day[DAY_ROOM];
     if (h.receiver.length == 0)
-        h.receiver = (slice){(const uint8_t *)"(none)", 6};
+        h.receiver = slice_of("(none)");
     snprintf(label, LABEL_ROOM, "Group %" PRIu32 "  receiver %.*s  originator %.*s  %s", row->number + 1,
              SLICE(h.receiver), SLICE(h.originator), put_day(day, h.date, h.time));
 }
@@ -36,7 +36,7 @@ static void put_account_label(char *label, const fields *f)
     snprintf(label, LABEL_ROOM, "Account %.*s  %.*s", SLICE(h.number), SLICE(h.currency));
 }
 
-/* Words and amount for a detail's row: its type, and its text or else a reference. */
+/* Words and amount for a detail's row: its type with its name, and its text or else a reference. */
 static void put_detail_label(char *label, char amount[AMOUNT_ROOM], const fields *f)
 {
     entry e;
@@ -45,8 +45,7 @@ static void put_detail_label(char *label, char amount[AMOUNT_ROOM], const fields
     next_entry(f, &at, &e);
     if (!next_piece(f, &at, &words))
         words = e.bank_reference.length > 0 ? e.bank_reference : e.customer_reference;
-    words = part_of(words, 0, LABEL_ROOM - 16);
-    snprintf(label, LABEL_ROOM, "%.*s  %.*s", SLICE(e.type), SLICE(words));
+    snprintf(label, LABEL_ROOM, "%.*s  %s  %.*s", SLICE(e.type), type_in_words(e.type), SLICE(words));
     put_amount(amount, e.amount);
 }
 
@@ -56,7 +55,7 @@ static void put_item_label(char *label, char amount[AMOUNT_ROOM], const tree_row
     entry e;
     size_t at = row->number;
     next_entry(f, &at, &e);
-    size_t used = (size_t)snprintf(label, LABEL_ROOM, "%.*s", SLICE(e.type));
+    size_t used = (size_t)snprintf(label, LABEL_ROOM, "%.*s  %s", SLICE(e.type), type_in_words(e.type));
     if (e.count.length > 0)
         used += (size_t)snprintf(label + used, LABEL_ROOM - used, "  count %.*s", SLICE(e.count));
     char words[FUNDS_ROOM];

@@ -60,7 +60,7 @@ static void search(const view *v, dialog *d)
 {
     if (d->needle[0] == '\0')
         return;
-    if (!v->find(v->state, (slice){(const uint8_t *)d->needle, strlen(d->needle)}))
+    if (!v->find(v->state, slice_of(d->needle)))
         snprintf(d->message, sizeof d->message, "not found: %s", d->needle);
 }
 

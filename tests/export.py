@@ -1,20 +1,31 @@
 #!/usr/bin/env python3
 """export.py BAI2 FILE..: whether `BAI2 show --json` and `--csv` of each accepted file are what a cut of the file made here,
-from the rules alone, has. Prints the first difference of each file; status 1 where there is one.
+from the rules alone, has; the names of types are those of outside/uniform_codes.txt. Prints the first difference of each
+file; status 1 where there is one.
 export.py bytes FILE: whether FILE, written by a sheet with every byte, reads back (see tests/export.test)."""
 import csv
 import io
 import json
+import os
 import subprocess
 import sys
 
 HEADER = ("record,place,group,account,item,detail,account_number,sender,receiver,ultimate_receiver,originator,status,date,"
-          "time,file_number,physical_length,block_size,version,currency,modifier,type,amount,item_count,funds,"
-          "split_amounts,value_date,value_time,pair_count,pairs,bank_reference,customer_reference,text,total,accounts,"
-          "groups,records").split(",")
+          "time,file_number,physical_length,block_size,version,currency,modifier,type,type_name,amount,item_count,"
+          "funds,split_amounts,value_date,value_time,pair_count,pairs,bank_reference,customer_reference,text,total,"
+          "accounts,groups,records").split(",")
 NAMES = {"01": "sender receiver date time file_number physical_length block_size version".split(),
          "02": "ultimate_receiver originator status date time currency modifier".split(),
          "49": "total records".split(), "98": "total accounts records".split(), "99": "total groups records".split()}
+
+
+def listed_names():
+    """The name of each listed type, from a list that was taken from the specification apart from the program's."""
+    with open(os.path.join(os.path.dirname(os.path.abspath(__file__)), "outside", "uniform_codes.txt"), encoding="ascii") as file:
+        return {code: name for code, _, _, name in (line.rstrip("\n").split(" ", 3) for line in file)}
+
+
+LISTED = listed_names()
 
 
 class Cut:
@@ -47,6 +58,11 @@ class Cut:
         """The pieces of text to the record's end."""
         found = [line[self.column if i == 0 else 3:].rstrip(" ") for i, (_, line) in enumerate(self.lines[self.at:])]
         return [] if found == ["/"] else found
+
+    def typed(self):
+        """A type with its name."""
+        code = self.field()
+        return {"type": code, "type_name": LISTED.get(code, "unlisted")}
 
     def funds(self):
         """Funds with what follows them."""
@@ -81,7 +97,7 @@ def items_of(cut, head):
     number = 0
     while cut.more():
         place = cut.place()
-        item = {"type": cut.field(), "amount": cut.field(), "item_count": cut.field(), **cut.funds()}
+        item = {**cut.typed(), "amount": cut.field(), "item_count": cut.field(), **cut.funds()}
         if item["type"]:
             yield {**head, "place": place, "item": number, **item}
             number += 1
@@ -107,7 +123,7 @@ def lines_of(data):
             yield from items_of(cut, head)
         elif code == "16":
             detail += 1
-            yield {**head, "detail": detail, "type": cut.field(), "amount": cut.field(), **cut.funds(),
+            yield {**head, "detail": detail, **cut.typed(), "amount": cut.field(), **cut.funds(),
                    "bank_reference": cut.field(), "customer_reference": cut.field(), "text": cut.pieces()}
         else:
             yield {**head, **{field: cut.field() for field in NAMES[code]}}

@@ -30,14 +30,10 @@ builds() {
 
 # Builds the independent implementation under the library's names: stand_in COMPILER ARCHIVE [FLAG..].
 stand_in() {
-    local compiler=$1 archive=$2 source objects=()
+    local compiler=$1 archive=$2
     shift 2
-    mkdir -p "$archive.objects"
-    for source in "$oracle"/oracle_*.c "$oracle/shim.c"; do
-        objects+=("$archive.objects/$(basename "$source" .c).o")
-        $compiler -O2 -std=c11 -I"$root/include" -I"$oracle" "$@" -c -o "${objects[-1]}" "$source" || return 1
-    done
-    ar rcs "$archive" "${objects[@]}"
+    make -s --no-print-directory -C "$oracle" BUILD="$archive.objects" CC="$compiler" CFLAGS="-O2 -std=c11 $*" stand-in &&
+        mv "$archive.objects/libstandin.a" "$archive"
 }
 
 # Sets $native to the variables of a native build, which sanitizers, valgrind, fuzzer and preloaded libraries need.

@@ -598,6 +598,13 @@ accepted("item_types.bai", account(
     b"03,0975312468,USD,010,-555,,/", b"88,001,1,,/", b"88,099,2,,/", b"88,100,3,,/", b"88,400,4,,/",
     b"88,101,5,,/", b"88,399,6,,/", b"88,401,7,,/", b"88,799,8,,/", b"88,900,9,,/", b"88,999,10,,/"),
     1000, 1, 1, 1, 17)
+# The uniform list binds no file: 002, 102 and 925 are in the ranges and not listed; -505, 2 and 3 are
+# -500. 701 is listed as a status, but in the ranges a summary, without a minus (105), or a detail.
+accepted("unlisted_items.bai", account(b"03,0975312468,USD,002,-505,,/", b"88,102,2,,/", b"88,925,3,,/"),
+         1000, 1, 1, 1, 9)
+accepted("unlisted_detail.bai", detail(b"16,925,1500,1,DD1620,,DEALER PAYMENTS"), 1000, 1, 1, 1, 7)
+refused("loan_status_minus.bai", k1(line3=b"03,0975312468,USD,701,-500,,/"), 8, 105, b"-500,")
+accepted("loan_status_detail.bai", detail(b"16,701,1500,1,DD1620,,DEALER PAYMENTS"), 1000, 1, 1, 1, 7)
 # A status item: count (110, after "-500," at 105) and funds (111) must be empty.
 refused("status_count.bai", k1(line3=b"03,0975312468,USD,010,-500,1,/"), 8, 110, b"1,/")
 refused("status_funds.bai", k1(line3=b"03,0975312468,USD,010,-500,,Z/"), 8, 111, b"Z/")

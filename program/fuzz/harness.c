@@ -40,7 +40,9 @@ static void press_and_draw(const view *v, FILE *to, size_t which)
         v->press(v->state, &c, keys[i]);
         v->draw(v->state, &c);
     }
-    v->find(v->state, (slice){(const uint8_t *)"1", 1});
+    v->find(v->state, slice_of("1"));
+    v->draw(v->state, &c);
+    v->find(v->state, slice_of("credit")); /* which stands in names of types */
     v->draw(v->state, &c);
 }
 

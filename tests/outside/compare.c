@@ -1,9 +1,9 @@
-/* The harness: asks the oracle and the library the same about generated files.
-     compare read|split|combine|parts|writer|records N SEED [CORPUS]
+/* The harness: asks the oracle and the library the same about generated files, and about type codes.
+     compare read|split|combine|parts|writer|records|codes N SEED [CORPUS]
      compare big [CORPUS]
      compare files FILE...
    At the first difference it prints one line, keeps the input in the folder CORPUS, and ends with
-   status 1. Otherwise the last line says how many files, or how many starts of records, were asked
+   status 1. Otherwise the last line says how many files, starts of records or numbers were asked
    about. */
 #include <inttypes.h>
 #include <stdio.h>
@@ -242,7 +242,7 @@ static int compare_files(int count, char **paths)
 /* Says how to call the program. */
 static int usage(void)
 {
-    fputs("usage: compare read|split|combine|parts|writer|records N SEED [CORPUS]\n"
+    fputs("usage: compare read|split|combine|parts|writer|records|codes N SEED [CORPUS]\n"
           "       compare big [CORPUS]\n"
           "       compare files FILE...\n", stderr);
     return 2;
@@ -259,6 +259,7 @@ int main(int count, char **arguments)
     file_memory[0] = guarded_of(LONGEST_FILE + 4096);
     file_memory[1] = guarded_of(LONGEST_FILE + 4096);
     name_memory = guarded_of(4096);
+    catch_crashes();
     if (count >= 3 && strcmp(arguments[1], "files") == 0)
         return compare_files(count - 2, arguments + 2);
     if (count >= 2 && count <= 3 && strcmp(arguments[1], "big") == 0) {
@@ -272,6 +273,8 @@ int main(int count, char **arguments)
     const char *corpus = count == 5 ? arguments[4] : NULL;
     if (strcmp(arguments[1], "records") == 0)
         return compare_records(asked, seed, corpus);
+    if (strcmp(arguments[1], "codes") == 0)
+        return compare_codes(asked, seed);
     for (size_t i = 0; i < sizeof modes / sizeof *modes; i++)
         if (strcmp(arguments[1], modes[i].name) == 0)
             return compare_many(modes[i].name, modes[i].compare, asked, seed, corpus);

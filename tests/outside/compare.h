@@ -21,6 +21,7 @@ typedef struct {
     __typeof__(bai2_detail_of) *detail_of;
     __typeof__(bai2_record_at) *record_at;
     __typeof__(bai2_fields_at) *fields_at;
+    __typeof__(bai2_code_of) *code_of;
     __typeof__(bai2_split) *split;
     __typeof__(bai2_combine) *combine;
     __typeof__(bai2_writer_new) *writer_new;
@@ -43,7 +44,9 @@ typedef struct {
 } slice;
 
 /* compare_ask.c */
+void catch_crashes(void);
 void name_question(const char *mode, uint64_t seed, uint64_t index, const char *corpus);
+void name_code(uint64_t seed, uint64_t code);
 void name_inputs(slice first, slice second);
 slice lend(const guarded *g, const uint8_t *bytes, size_t length);
 
@@ -62,10 +65,12 @@ bai2_combined ask_combine(slice a, slice b, size_t out_length);
 const uint8_t *last_result(void);
 bai2_record ask_record(slice file, uint64_t start);
 bai2_fields ask_fields(slice file, uint64_t start, size_t out_length);
+bai2_code ask_code(uint64_t code);
 
-/* compare_records.c, compare_writer.c, compare_big.c */
+/* compare_records.c, compare_codes.c, compare_writer.c, compare_big.c */
 uint64_t ask_starts(dice *d, slice file, bai2_summary verdict, uint64_t *numbers);
 void print_kinds(void);
+int compare_codes(uint64_t count, uint64_t seed);
 void compare_writer(dice *d, uint64_t *numbers);
 uint64_t compare_big(void);
 

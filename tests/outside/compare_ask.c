@@ -13,14 +13,14 @@
 
 const side oracle = {
     oracle_read, oracle_group, oracle_account, oracle_detail_of, oracle_record_at, oracle_fields_at,
-    oracle_split, oracle_combine,
+    oracle_code_of, oracle_split, oracle_combine,
     oracle_writer_new, oracle_write_header, oracle_write_group, oracle_write_account,
     oracle_write_item, oracle_write_detail, oracle_write_end_account, oracle_write_end_group,
     oracle_write_end_file};
 
 const side library = {
     bai2_read, bai2_group, bai2_account, bai2_detail_of, bai2_record_at, bai2_fields_at,
-    bai2_split, bai2_combine,
+    bai2_code_of, bai2_split, bai2_combine,
     bai2_writer_new, bai2_write_header, bai2_write_group, bai2_write_account,
     bai2_write_item, bai2_write_detail, bai2_write_end_account, bai2_write_end_group,
     bai2_write_end_file};
@@ -68,6 +68,13 @@ static void on_crash(int number)
     _exit(1);
 }
 
+/* Has a call that crashes told. */
+void catch_crashes(void)
+{
+    signal(SIGSEGV, on_crash);
+    signal(SIGBUS, on_crash);
+}
+
 /* Notes which file is asked about, and where it would be kept. */
 void name_question(const char *mode, uint64_t seed, uint64_t index, const char *corpus)
 {
@@ -79,8 +86,12 @@ void name_question(const char *mode, uint64_t seed, uint64_t index, const char *
         snprintf(second_path, sizeof second_path, "%s/%s-%" PRIu64 "-%" PRIu64 "-b.bai", corpus, mode,
                  seed, index);
     }
-    signal(SIGSEGV, on_crash);
-    signal(SIGBUS, on_crash);
+}
+
+/* Notes which code is asked about; nothing would be kept. */
+void name_code(uint64_t seed, uint64_t code)
+{
+    snprintf(question, sizeof question, "compare codes: seed %" PRIu64 ", code %" PRIu64, seed, code);
 }
 
 /* Notes the inputs that would be kept. */
@@ -295,5 +306,14 @@ bai2_fields ask_fields(slice file, uint64_t start, size_t out_length)
     same_outputs("fields", one_out, other_out, out_length * sizeof(uint64_t),
                  3 * (size_t)one.count * sizeof(uint64_t));
     result = one_out;
+    return one;
+}
+
+/* Asks both about a type code; the oracle's answer. */
+bai2_code ask_code(uint64_t code)
+{
+    bai2_code one = oracle.code_of(code);
+    bai2_code other = library.code_of(code);
+    SAME("code", one, other);
     return one;
 }

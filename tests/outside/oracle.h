@@ -1,5 +1,6 @@
 /* The oracle: the calls of include/bai2.h once more, under other names, in plain C. It is written
-   from document 01 alone and shares nothing with the library that it is compared with. */
+   from document 01 and the list of document 000 alone and shares nothing with the library that it is
+   compared with. */
 #ifndef ORACLE_H
 #define ORACLE_H
 
@@ -18,6 +19,8 @@ bai2_record oracle_record_at(const uint8_t *file, size_t file_length, uint64_t s
 
 bai2_fields oracle_fields_at(const uint8_t *file, size_t file_length, uint64_t start,
                              uint64_t *out, size_t out_length);
+
+bai2_code oracle_code_of(uint64_t code);
 
 bai2_answer oracle_split(const uint8_t *name, size_t name_length,
                          const uint8_t *file, size_t file_length,

@@ -2,7 +2,8 @@
    tested. Each -D switch plants one bug that the harness must find:
    BUG_88_NOT_COUNTED, BUG_DEBIT_SUBTRACTED, BUG_TEXT_CUT, BUG_ZERO_DROPPED, BUG_PLACE_OFF,
    BUG_BYTE_BEHIND, BUG_REFUSED_MOVES; of records and fields BUG_88_NOT_A_LINE, BUG_PIECE_CUT,
-   BUG_PLACE_IN_RECORD, BUG_FAULT_IN_RECORD, BUG_NO_ROOM_WRITES, BUG_START_CUT.
+   BUG_PLACE_IN_RECORD, BUG_FAULT_IN_RECORD, BUG_NO_ROOM_WRITES, BUG_START_CUT; of type codes
+   BUG_LEVEL_CHANGED, BUG_CODE_CUT.
    With STAND_IN defined as a weak attribute it answers only the calls that the library lacks. */
 #include <stdlib.h>
 #include <string.h>
@@ -115,6 +116,20 @@ STAND_IN bai2_fields bai2_fields_at(const uint8_t *file, size_t file_length, uin
         out[0] = 0;
 #endif
     return f;
+}
+
+/* As the oracle, with a bug where one is planted. */
+STAND_IN bai2_code bai2_code_of(uint64_t code)
+{
+#ifdef BUG_CODE_CUT
+    code = (uint32_t)code;
+#endif
+    bai2_code c = oracle_code_of(code);
+#ifdef BUG_LEVEL_CHANGED
+    if (code == 699)
+        c.summary = 1;
+#endif
+    return c;
 }
 
 /* As the oracle, with a bug where one is planted. */

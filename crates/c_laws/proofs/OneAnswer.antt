@@ -13,6 +13,7 @@ use Rattle.rules.specs.Outcome as outcome
 use Rattle.rules.specs.Totals as totals
 use Rattle.rules.specs.Verdict.{judge}
 use Rattle.rules.specs.Parts.{headerIn, groupsIn, sizeOfAll}
+use Rattle.rules.specs.CodeList.{isStatus, isSummary, Entry, unlisted, NA, CR, DB, entryOf}
 use Rattle.rules.specs.Answers as rules
 use Rattle.rules.specs.Combine as combine
 use Rattle.rules.specs.Split.{split}
@@ -24,6 +25,9 @@ use Rattle.laws_handing.proofs.FieldsTold.{fields-told}
 use Rattle.base_codes.specs.declared.Code.{Code}
 use Rattle.base_codes.specs.declared.Code.the-variants as codes
 use Rattle.base_quantities.specs.QuantityMeanings.{unitsOf}
+use Rattle.name_codes.specs.declared.CodeClass.{CodeClass}
+use Rattle.name_codes.specs.declared.CodeClass.the-variants as classes
+use Rattle.name_codes.specs.ClassMeaning.{classMeant}
 use Rattle.base_totals.specs.declared.Summary.{Summary}
 use Rattle.read_file.specs.declared.Verdict.{Verdict}
 use Rattle.read_file.specs.declared.Verdict.the-variants.{Accepted, Refused}
@@ -60,9 +64,11 @@ use Rattle.c_reading.specs.declared.cutting.Bai2Part.{Bai2Part}
 use Rattle.c_reading.specs.declared.cutting.Bai2Detail.{Bai2Detail}
 use Rattle.c_reading.specs.declared.handing.Bai2Record.{Bai2Record}
 use Rattle.c_reading.specs.declared.handing.Bai2Fields.{Bai2Fields}
+use Rattle.c_naming.specs.declared.Bai2Code.{Bai2Code}
 use Rattle.c_writer.specs.declared.Bai2Writer.{Bai2Writer}
 use Rattle.c_writer.specs.declared.Bai2Written.{Bai2Written}
 use Rattle.c_reading.specs.CAnswers.{SummaryFigures, summaryFigures, readMeant, partMeant, isGiven, orZero, recordFigures, fieldsFigures}
+use Rattle.c_naming.specs.CNamed.{codeMeant}
 use Rattle.c_joining.specs.CJoined.{splitMeant, combineMeant}
 use Rattle.c_writer.specs.WriterFigures.{numbersOf, Reply, replied, replyTo}
 
@@ -301,6 +307,34 @@ c-fields-one file start before =
     one-answer (λ (x : Left Bai2Fields). fieldsFigures (x .answer) (x .slice))
     (λ (m : FieldsAnswer). record { answer = record { number = m .refusal .number; place = m .refusal .place; count = m .count }; slice = m .out })
     (λ x. refl) (fieldsOfRecord file start before)
+
+-- ---- type codes
+
+abbrev classFrom : Entry → CodeClass
+classFrom unlisted = classes.Unlisted
+classFrom (NA l) = cond (isStatus l) classes.Status classes.NonMonetary
+classFrom (CR l) = cond (isSummary l) classes.CreditSummary classes.CreditDetail
+classFrom (DB l) = cond (isSummary l) classes.DebitSummary classes.DebitDetail
+
+same-class : (x : CodeClass) → classFrom (classMeant x) ≡ x
+same-class classes.Unlisted = refl
+same-class classes.Status = refl
+same-class classes.CreditSummary = refl
+same-class classes.CreditDetail = refl
+same-class classes.DebitSummary = refl
+same-class classes.DebitDetail = refl
+same-class classes.NonMonetary = refl
+
+-- name_codes::code_class
+pub class-one : (code : ℕ) (x y : CodeClass) → classMeant x ≡ entryOf code → classMeant y ≡ entryOf code → x ≡ y
+class-one code = one-answer classMeant classFrom same-class (entryOf code)
+
+-- bai2_code_of
+pub c-code-one : (code : ℕ) (x y : Bai2Code) → codeMeant x ≡ rules.codeAnswer code → codeMeant y ≡ rules.codeAnswer code → x ≡ y
+c-code-one code =
+    one-answer codeMeant
+    (λ (m : rules.CodeAnswer). record { listed = m .listed; status = m .status; summary = m .summary; detail = m .detail; side = m .side })
+    (λ x. refl) (rules.codeAnswer code)
 
 -- ---- writing
 

@@ -1,11 +1,14 @@
 -- Document 01, "A refusal returns its number and place, length 0, and an empty part where a part is asked": what the calls that hand out parts
--- answer; where refused, every other number is 0. What combine and split answer is in `Combine`, the writer in `Writer`. Assumes nothing.
+-- answer; where refused, every other number is 0. What combine and split answer is in `Combine`, the writer in `Writer`. And what a call about a type
+-- code answers, which nothing refuses. Assumes nothing.
 use Prim.Native.Nat.{ℕ}
+use mathlib.Core.Bool.{Bool, true, false}
 use mathlib.Core.List.{[]}
 use mathlib.Core.Option.{Option, none}
 use lib.ListN.{length}
 use Rattle.rules.specs.Bytes.{Bytes}
 use Rattle.rules.specs.Outcome.{Refusal, Outcome, orElse, refusalOf}
+use Rattle.rules.specs.CodeList.{Level, isStatus, isSummary, isDetail, Entry, unlisted, NA, CR, DB, entryOf}
 use Rattle.rules.specs.Parts.{Placed, groupAt, accountAt, partBytes, Detail, detailAt}
 
 -- a part of the file: where it starts, and its length
@@ -47,3 +50,27 @@ detailAnswer o =
 
 unfoldable pub detailOfFile : Bytes → ℕ → ℕ → ℕ → DetailAnswer
 detailOfFile file g a d = detailAnswer (detailAt file g a d)
+
+-- what the uniform list says of a type code: 1 or 0 for listed, status, summary and detail; the side, 0 neither, 1 credit, 2 debit; unlisted, all 0
+pub record CodeAnswer : Type 0 where
+  pub listed : ℕ
+  pub status : ℕ
+  pub summary : ℕ
+  pub detail : ℕ
+  pub side : ℕ
+
+abbrev pub oneIf : Bool → ℕ
+oneIf true = 1
+oneIf false = 0
+
+abbrev pub listedAs : Level → ℕ → CodeAnswer
+listedAs l side = record { listed = 1; status = oneIf (isStatus l); summary = oneIf (isSummary l); detail = oneIf (isDetail l); side = side }
+
+unfoldable pub codeFigures : Entry → CodeAnswer
+codeFigures unlisted = record { listed = 0; status = 0; summary = 0; detail = 0; side = 0 }
+codeFigures (NA l) = listedAs l 0
+codeFigures (CR l) = listedAs l 1
+codeFigures (DB l) = listedAs l 2
+
+unfoldable pub codeAnswer : ℕ → CodeAnswer
+codeAnswer code = codeFigures (entryOf code)

@@ -1,4 +1,4 @@
--- Document 01 as definitions that compute, section by section. Read in this order.
+-- Documents 01 and 02 as definitions that compute, section by section. Read in this order.
 pub mod Limits
 pub mod Bytes
 pub mod Outcome
@@ -7,6 +7,8 @@ pub mod Cells
 pub mod Numbers
 pub mod Dates
 pub mod TypeCodes
+pub mod CodeList
+pub mod CodeRule
 pub mod Grammar
 pub mod Records
 pub mod Totals
