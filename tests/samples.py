@@ -1,9 +1,9 @@
 #!/usr/bin/env python3
 """samples.py FOLDER: writes the samples of crate `run_samples` into FOLDER: data/, args and stdout.
 
-Each expected answer is worked out by hand from document 01, in the comment above its sample. For a
-refusal the sample also names the bytes that stand at the place, and the script stops where they
-don't: a slip in counting can't stay. Nothing here reads BAI2; nothing here computes an answer.
+Each expected answer is worked out by hand from documents 01 and 02, in the comment above its sample.
+For a refusal the sample also names the bytes that stand at the place, and the script stops where
+they don't: a slip in counting can't stay. Nothing here reads BAI2; nothing here computes an answer.
 
 Left out: refusal 2 needs a file over 16 MiB (the harness builds it), 14 can't be reached (the bound
 of 10 is met first)."""
@@ -86,11 +86,11 @@ def detail(row, *more):
                  b"99,1000,1,%d/" % (7 + n))
 
 
-def account(row, *more):
-    """K1 with another 03 (with 88s after it) worth -500, so that all totals stay."""
+def account(row, *more, total=1000):
+    """K1 with another 03 (with 88s after it); worth -500, so that all totals stay, unless they are given."""
     n = len(more)
-    return lines(*K1[:2], row, *more, K1[3], b"49,1000,%d/" % (3 + n),
-                 b"98,1000,1,%d/" % (5 + n), b"99,1000,1,%d/" % (7 + n))
+    return lines(*K1[:2], row, *more, K1[3], b"49,%d,%d/" % (total, 3 + n),
+                 b"98,%d,1,%d/" % (total, 5 + n), b"99,%d,1,%d/" % (total, 7 + n))
 
 
 # ---- K1 and line ends ----
@@ -683,6 +683,49 @@ refused("funds_d_too_few.bai", detail(b"16,165,1500,D,2,0,5,B,C,/"), 8, 133, b"B
 # 999 pairs "0,1" on 88s of their own, references and no text on one more: 1,000 lines beside K1's 7.
 accepted("funds_d_999.bai", detail(b"16,165,1500,D,999/", *[b"88,0,1/"] * 999, b"88,,,/"),
          1000, 1, 1, 1, 1007)
+
+# ---- 2026-02: 900 to 919 are status codes ----
+
+# Good as a first item (the 16 adds 1500), and as a further item on an 88 (K1's own -500 too, one line
+# more): a minus, a plus, no sign, no amount; the first and the last of them.
+for name, item, first, further in (
+        ("900_minus", b"900,-500,,", 1000, 500), ("905_minus", b"905,-500,,", 1000, 500),
+        ("905_plus", b"905,+500,,", 2000, 1500), ("905_no_sign", b"905,500,,", 2000, 1500),
+        ("905_no_amount", b"905,,,", 1500, 1000), ("919_minus", b"919,-500,,", 1000, 500)):
+    accepted(f"status_{name}.bai", account(b"03,0975312468,USD," + item + b"/", total=first),
+             first, 1, 1, 1, 7)
+    accepted(f"status_{name}_further.bai", account(K1[2], b"88," + item + b"/", total=further),
+             further, 1, 1, 1, 8)
+# 920 is a summary as before, with count and funds, in both places; and a detail.
+accepted("summary_920.bai", account(b"03,0975312468,USD,920,500,3,V,040620,0200/", total=2000),
+         2000, 1, 1, 1, 7)
+accepted("summary_920_further.bai", account(K1[2], b"88,920,+500,3,0/", total=1500), 1500, 1, 1, 1, 8)
+accepted("detail_920.bai", detail(b"16,920,1500,0,DD1620,,DEALER PAYMENTS"), 1000, 1, 1, 1, 7)
+# Wrong as a first item: in the 03 the type is at 101, the amount at 105, the count after "-500," at
+# 110, the funds at 111. On an 88 at 113 the type is at 116, so each place is 15 further on.
+for name, item, place, found in (
+        ("status_905_count", b"905,-500,1,", 110, b"1,/"),
+        ("status_905_count_0", b"905,-500,0,", 110, b"0,/"),
+        ("status_905_funds_0", b"905,-500,,0", 111, b"0/"),
+        ("status_905_funds_v", b"905,-500,,V,040620,0200", 111, b"V,04"),
+        ("status_900_count", b"900,,7,", 106, b"7,/"), ("status_919_funds", b"919,-500,,Z", 111, b"Z/"),
+        ("summary_920_minus", b"920,-500,,", 105, b"-500,"),
+        ("summary_999_minus", b"999,-500,,", 105, b"-500,")):
+    refused(f"{name}.bai", account(b"03,0975312468,USD," + item + b"/"), 8, place, found)
+    refused(f"{name}_further.bai", account(K1[2], b"88," + item + b"/"), 8, place + 15, found)
+# The same behind another item on its line: after "010,-400,,," at 101 the type is at 112, the count
+# after "905,-100," at 121; -400 and -100 are -500.
+accepted("status_905_same_line.bai", account(b"03,0975312468,USD,010,-400,,,905,-100,,/"), 1000, 1, 1, 1, 7)
+refused("status_905_same_line_count.bai", account(b"03,0975312468,USD,010,-400,,,905,-100,1,/"),
+        8, 121, b"1,/")
+refused("item_type_899_further.bai", account(K1[2], b"88,899,500,,/"), 8, 116, b"899,")
+# In a 16 the type itself is wrong (116), whatever stands behind it; 920's minus is at 120.
+for name, row in (
+        ("899", b"899,1500,1"), ("900", b"900,1500,1"), ("905", b"905,1500,1"), ("905_minus", b"905,-1500,1"),
+        ("905_plus", b"905,+1500,1"), ("905_no_amount", b"905,,"), ("905_funds_0", b"905,1500,0"),
+        ("905_funds_v", b"905,1500,V,040620,0200"), ("919", b"919,1500,1")):
+    refused(f"detail_{name}.bai", detail(b"16," + row + b",DD1620,,DEALER PAYMENTS"), 8, 116, row[:3] + b",")
+refused("detail_920_minus.bai", detail(b"16,920,-1500,0,DD1620,,DEALER PAYMENTS"), 8, 120, b"-1500,")
 
 # ---- Long continuations ----
 
