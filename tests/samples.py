@@ -727,6 +727,50 @@ for name, row in (
     refused(f"detail_{name}.bai", detail(b"16," + row + b",DD1620,,DEALER PAYMENTS"), 8, 116, row[:3] + b",")
 refused("detail_920_minus.bai", detail(b"16,920,-1500,0,DD1620,,DEALER PAYMENTS"), 8, 120, b"-1500,")
 
+
+def after_short_headers(*rows):
+    """A 01 of 26 bytes and a 02 of 20, then the rows: the 03 is at 46, its type at 52, its amount at 56."""
+    return lines(b"01,A,B,040621,0200,1,,,2/", b"02,R,O,1,040620,,,/", *rows)
+
+
+# The next ten, with their answers, were worked out by somebody who had the two documents alone.
+# -0 + 700 + none in the 03, 300 in the 16; 8 lines.
+accepted("customised_mixed.bai", after_short_headers(
+    b"03,X,,900,-0,,,905,+700,,/", b"88,919,,,/", b"16,920,+300,0,,,/",
+    b"49,1000,4/", b"98,1000,1,6/", b"99,1000,1,8/"), 1000, 1, 1, 1, 8)
+# Items broken inside, the 920 also between the pairs of its D: -250 + 40, the pairs left out.
+accepted("customised_broken.bai", after_short_headers(
+    b"03,X,,905/", b"88,-250/", b"88,,/", b"88,920,+40/", b"88,2,D,2,0,10/", b"88,1,30/",
+    b"49,-210,7/", b"98,-210,1,9/", b"99,-210,1,11/"), -210, 1, 1, 0, 11)
+# All kinds of funds with 920 to 925 and 999, S over two lines in the 03 and in the 16; then a status:
+# 1 + 2 + 3 + 4 + 5 - 15.
+accepted("customised_all_funds.bai", after_short_headers(
+    b"03,X,,920,1,1,0,921,2,,1,922,+3,999999999,2/", b"88,999,,,Z,923,4,0,S,,5/",
+    b"88,,924,5,,V,040620,2400,925,,,D,1,007,000000000000000009,919,-15,,/",
+    b"16,999,0,S,1/", b"88,,2,BR,,TXT/,  ", b"49,0,6/", b"98,0,1,8/", b"99,0,1,10/"), 0, 1, 1, 1, 10)
+# A 16 over five lines, V without a time; the 905 is text.
+accepted("detail_920_over_88s.bai", after_short_headers(
+    b"03,X,,,,,/", b"16,920/", b"88,+9,V/", b"88,040620,/", b"88,BANK,CUST/", b"88,TEXT 905,-0/",
+    b"49,9,7/", b"98,9,1,9/", b"99,9,1,11/"), 9, 1, 1, 1, 11)
+# The count is the first field of the 88 at 60, so at 63; the funds after it are not reached.
+refused("status_905_count_on_88.bai", after_short_headers(
+    b"03,X,,905,-1/", b"88,5,1/", b"49,-1,3/", b"98,-1,1,5/", b"99,-1,1,7/"), 8, 63, b"5,1/")
+# Lines of 15 and 12 bytes before the 88 at 73, whose first field is the funds.
+refused("status_919_funds_s_on_88.bai", after_short_headers(
+    b"03,X,,010,5,,/", b"88,919,-5,/", b"88,S,1,2,3/", b"49,0,4/", b"98,0,1,6/", b"99,0,1,8/"), 8, 76, b"S,1,")
+# D is at 60, behind "919,+1,,".
+refused("status_919_funds_d.bai", after_short_headers(
+    b"03,X,,919,+1,,D,1,0,5/", b"49,1,2/", b"98,1,1,4/", b"99,1,1,6/"), 8, 60, b"D,1,")
+# -0 is good with 919, and with 920 a minus: "919,-0,,,920," is before it.
+refused("summary_920_minus_0.bai", after_short_headers(
+    b"03,X,,919,-0,,,920,-0,1,2/", b"49,0,2/", b"98,0,1,4/", b"99,0,1,6/"), 8, 65, b"-0,1")
+# The 88 is at 60.
+refused("item_type_899_after_900.bai", after_short_headers(
+    b"03,X,,900,,,/", b"88,899,,,Z/", b"49,0,3/", b"98,0,1,5/", b"99,0,1,7/"), 8, 63, b"899,")
+# The type, at 65, is judged before the byte after its slash.
+refused("detail_905_byte_after_slash.bai", after_short_headers(
+    b"03,X,,905,-3,,/", b"16,905/X", b"88,3,,,,/", b"49,0,4/", b"98,0,1,6/", b"99,0,1,8/"), 8, 65, b"905/X")
+
 # ---- Long continuations ----
 
 # Every record broken at every field: 01 in 8 lines, 02 in 7, 03 in 6, 16 in 6 (the text is on the
