@@ -302,9 +302,9 @@ bai2_written bai2_write_group(bai2_writer writer,
                               uint8_t *out, size_t out_length);
 
 /* An account with its first item, or with none where item_given is 0. account: a name. currency.
-   type: 001 to 099, a status, whose amount may be negative and which has no count; or 100 to 799 or
-   900 to 999, a summary, whose amount is not negative. An item of empty type without amount and count
-   is none. */
+   type: 001 to 099 or 900 to 919, a status, whose amount may be negative and which has no count; or 100
+   to 799 or 920 to 999, a summary, whose amount is not negative. An item of empty type without amount
+   and count is none. */
 bai2_written bai2_write_account(bai2_writer writer,
                                 const uint8_t *account, size_t account_length,
                                 const uint8_t *currency, size_t currency_length,
@@ -322,7 +322,7 @@ bai2_written bai2_write_item(bai2_writer writer,
                              uint64_t count_given, uint64_t count,
                              uint8_t *out, size_t out_length);
 
-/* type: 101 to 399, 401 to 799 or 900 to 999, whose amount is not negative; or 890, which has no
+/* type: 101 to 399, 401 to 799 or 920 to 999, whose amount is not negative; or 890, which has no
    amount. bank_reference and customer_reference: references. text. */
 bai2_written bai2_write_detail(bai2_writer writer,
                                const uint8_t *type, size_t type_length,

@@ -49,8 +49,9 @@ static const explanation explanations[REFUSALS + 1] = {
         "length, block size, version. 02: receiver, originator, status, date, time, currency, "
         "modifier. 03: account, currency, then type, amount, item count, funds for each item. "
         "16: type, amount, funds, bank reference, customer reference, text. 49: total, records. "
-        "98: total, accounts, records. 99: total, groups, records. Ask 'bai2 codes TYPE' about a "
-        "type. Show the line to the sender."},
+        "98: total, accounts, records. 99: total, groups, records. Types 001 to 099 and 900 to 919 "
+        "are status codes: they stand in a 03 alone, their amount may have a minus, and their item "
+        "count and funds are empty. Ask 'bai2 codes TYPE' about a type. Show the line to the sender."},
     [BAI2_WRONG_VERSION] = {
         "not version 2",
         "The last field of the 01 record names the version of the format. Only version 2 is read.",

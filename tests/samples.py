@@ -1,9 +1,9 @@
 #!/usr/bin/env python3
 """samples.py FOLDER: writes the samples of crate `run_samples` into FOLDER: data/, args and stdout.
 
-Each expected answer is worked out by hand from document 01, in the comment above its sample. For a
-refusal the sample also names the bytes that stand at the place, and the script stops where they
-don't: a slip in counting can't stay. Nothing here reads BAI2; nothing here computes an answer.
+Each expected answer is worked out by hand from documents 01 and 02, in the comment above its sample.
+For a refusal the sample also names the bytes that stand at the place, and the script stops where
+they don't: a slip in counting can't stay. Nothing here reads BAI2; nothing here computes an answer.
 
 Left out: refusal 2 needs a file over 16 MiB (the harness builds it), 14 can't be reached (the bound
 of 10 is met first)."""
@@ -86,11 +86,11 @@ def detail(row, *more):
                  b"99,1000,1,%d/" % (7 + n))
 
 
-def account(row, *more):
-    """K1 with another 03 (with 88s after it) worth -500, so that all totals stay."""
+def account(row, *more, total=1000):
+    """K1 with another 03 (with 88s after it); worth -500, so that all totals stay, unless they are given."""
     n = len(more)
-    return lines(*K1[:2], row, *more, K1[3], b"49,1000,%d/" % (3 + n),
-                 b"98,1000,1,%d/" % (5 + n), b"99,1000,1,%d/" % (7 + n))
+    return lines(*K1[:2], row, *more, K1[3], b"49,%d,%d/" % (total, 3 + n),
+                 b"98,%d,1,%d/" % (total, 5 + n), b"99,%d,1,%d/" % (total, 7 + n))
 
 
 # ---- K1 and line ends ----
@@ -683,6 +683,93 @@ refused("funds_d_too_few.bai", detail(b"16,165,1500,D,2,0,5,B,C,/"), 8, 133, b"B
 # 999 pairs "0,1" on 88s of their own, references and no text on one more: 1,000 lines beside K1's 7.
 accepted("funds_d_999.bai", detail(b"16,165,1500,D,999/", *[b"88,0,1/"] * 999, b"88,,,/"),
          1000, 1, 1, 1, 1007)
+
+# ---- 2026-02: 900 to 919 are status codes ----
+
+# Good as a first item (the 16 adds 1500), and as a further item on an 88 (K1's own -500 too, one line
+# more): a minus, a plus, no sign, no amount; the first and the last of them.
+for name, item, first, further in (
+        ("900_minus", b"900,-500,,", 1000, 500), ("905_minus", b"905,-500,,", 1000, 500),
+        ("905_plus", b"905,+500,,", 2000, 1500), ("905_no_sign", b"905,500,,", 2000, 1500),
+        ("905_no_amount", b"905,,,", 1500, 1000), ("919_minus", b"919,-500,,", 1000, 500)):
+    accepted(f"status_{name}.bai", account(b"03,0975312468,USD," + item + b"/", total=first),
+             first, 1, 1, 1, 7)
+    accepted(f"status_{name}_further.bai", account(K1[2], b"88," + item + b"/", total=further),
+             further, 1, 1, 1, 8)
+# 920 is a summary as before, with count and funds, in both places; and a detail.
+accepted("summary_920.bai", account(b"03,0975312468,USD,920,500,3,V,040620,0200/", total=2000),
+         2000, 1, 1, 1, 7)
+accepted("summary_920_further.bai", account(K1[2], b"88,920,+500,3,0/", total=1500), 1500, 1, 1, 1, 8)
+accepted("detail_920.bai", detail(b"16,920,1500,0,DD1620,,DEALER PAYMENTS"), 1000, 1, 1, 1, 7)
+# Wrong as a first item: in the 03 the type is at 101, the amount at 105, the count after "-500," at
+# 110, the funds at 111. On an 88 at 113 the type is at 116, so each place is 15 further on.
+for name, item, place, found in (
+        ("status_905_count", b"905,-500,1,", 110, b"1,/"),
+        ("status_905_count_0", b"905,-500,0,", 110, b"0,/"),
+        ("status_905_funds_0", b"905,-500,,0", 111, b"0/"),
+        ("status_905_funds_v", b"905,-500,,V,040620,0200", 111, b"V,04"),
+        ("status_900_count", b"900,,7,", 106, b"7,/"), ("status_919_funds", b"919,-500,,Z", 111, b"Z/"),
+        ("summary_920_minus", b"920,-500,,", 105, b"-500,"),
+        ("summary_999_minus", b"999,-500,,", 105, b"-500,")):
+    refused(f"{name}.bai", account(b"03,0975312468,USD," + item + b"/"), 8, place, found)
+    refused(f"{name}_further.bai", account(K1[2], b"88," + item + b"/"), 8, place + 15, found)
+# The same behind another item on its line: after "010,-400,,," at 101 the type is at 112, the count
+# after "905,-100," at 121; -400 and -100 are -500.
+accepted("status_905_same_line.bai", account(b"03,0975312468,USD,010,-400,,,905,-100,,/"), 1000, 1, 1, 1, 7)
+refused("status_905_same_line_count.bai", account(b"03,0975312468,USD,010,-400,,,905,-100,1,/"),
+        8, 121, b"1,/")
+refused("item_type_899_further.bai", account(K1[2], b"88,899,500,,/"), 8, 116, b"899,")
+# In a 16 the type itself is wrong (116), whatever stands behind it; 920's minus is at 120.
+for name, row in (
+        ("899", b"899,1500,1"), ("900", b"900,1500,1"), ("905", b"905,1500,1"), ("905_minus", b"905,-1500,1"),
+        ("905_plus", b"905,+1500,1"), ("905_no_amount", b"905,,"), ("905_funds_0", b"905,1500,0"),
+        ("905_funds_v", b"905,1500,V,040620,0200"), ("919", b"919,1500,1")):
+    refused(f"detail_{name}.bai", detail(b"16," + row + b",DD1620,,DEALER PAYMENTS"), 8, 116, row[:3] + b",")
+refused("detail_920_minus.bai", detail(b"16,920,-1500,0,DD1620,,DEALER PAYMENTS"), 8, 120, b"-1500,")
+
+
+def after_short_headers(*rows):
+    """A 01 of 26 bytes and a 02 of 20, then the rows: the 03 is at 46, its type at 52, its amount at 56."""
+    return lines(b"01,A,B,040621,0200,1,,,2/", b"02,R,O,1,040620,,,/", *rows)
+
+
+# The next ten, with their answers, were worked out by somebody who had the two documents alone.
+# -0 + 700 + none in the 03, 300 in the 16; 8 lines.
+accepted("customised_mixed.bai", after_short_headers(
+    b"03,X,,900,-0,,,905,+700,,/", b"88,919,,,/", b"16,920,+300,0,,,/",
+    b"49,1000,4/", b"98,1000,1,6/", b"99,1000,1,8/"), 1000, 1, 1, 1, 8)
+# Items broken inside, the 920 also between the pairs of its D: -250 + 40, the pairs left out.
+accepted("customised_broken.bai", after_short_headers(
+    b"03,X,,905/", b"88,-250/", b"88,,/", b"88,920,+40/", b"88,2,D,2,0,10/", b"88,1,30/",
+    b"49,-210,7/", b"98,-210,1,9/", b"99,-210,1,11/"), -210, 1, 1, 0, 11)
+# All kinds of funds with 920 to 925 and 999, S over two lines in the 03 and in the 16; then a status:
+# 1 + 2 + 3 + 4 + 5 - 15.
+accepted("customised_all_funds.bai", after_short_headers(
+    b"03,X,,920,1,1,0,921,2,,1,922,+3,999999999,2/", b"88,999,,,Z,923,4,0,S,,5/",
+    b"88,,924,5,,V,040620,2400,925,,,D,1,007,000000000000000009,919,-15,,/",
+    b"16,999,0,S,1/", b"88,,2,BR,,TXT/,  ", b"49,0,6/", b"98,0,1,8/", b"99,0,1,10/"), 0, 1, 1, 1, 10)
+# A 16 over five lines, V without a time; the 905 is text.
+accepted("detail_920_over_88s.bai", after_short_headers(
+    b"03,X,,,,,/", b"16,920/", b"88,+9,V/", b"88,040620,/", b"88,BANK,CUST/", b"88,TEXT 905,-0/",
+    b"49,9,7/", b"98,9,1,9/", b"99,9,1,11/"), 9, 1, 1, 1, 11)
+# The count is the first field of the 88 at 60, so at 63; the funds after it are not reached.
+refused("status_905_count_on_88.bai", after_short_headers(
+    b"03,X,,905,-1/", b"88,5,1/", b"49,-1,3/", b"98,-1,1,5/", b"99,-1,1,7/"), 8, 63, b"5,1/")
+# Lines of 15 and 12 bytes before the 88 at 73, whose first field is the funds.
+refused("status_919_funds_s_on_88.bai", after_short_headers(
+    b"03,X,,010,5,,/", b"88,919,-5,/", b"88,S,1,2,3/", b"49,0,4/", b"98,0,1,6/", b"99,0,1,8/"), 8, 76, b"S,1,")
+# D is at 60, behind "919,+1,,".
+refused("status_919_funds_d.bai", after_short_headers(
+    b"03,X,,919,+1,,D,1,0,5/", b"49,1,2/", b"98,1,1,4/", b"99,1,1,6/"), 8, 60, b"D,1,")
+# -0 is good with 919, and with 920 a minus: "919,-0,,,920," is before it.
+refused("summary_920_minus_0.bai", after_short_headers(
+    b"03,X,,919,-0,,,920,-0,1,2/", b"49,0,2/", b"98,0,1,4/", b"99,0,1,6/"), 8, 65, b"-0,1")
+# The 88 is at 60.
+refused("item_type_899_after_900.bai", after_short_headers(
+    b"03,X,,900,,,/", b"88,899,,,Z/", b"49,0,3/", b"98,0,1,5/", b"99,0,1,7/"), 8, 63, b"899,")
+# The type, at 65, is judged before the byte after its slash.
+refused("detail_905_byte_after_slash.bai", after_short_headers(
+    b"03,X,,905,-3,,/", b"16,905/X", b"88,3,,,,/", b"49,0,4/", b"98,0,1,6/", b"99,0,1,8/"), 8, 65, b"905/X")
 
 # ---- Long continuations ----
 

@@ -1,5 +1,5 @@
 /* The harness: asks the oracle and the library the same about generated files, and about type codes.
-     compare read|split|combine|parts|writer|records|codes N SEED [CORPUS]
+     compare read|customised|split|combine|parts|writer|records|codes N SEED [CORPUS]
      compare big [CORPUS]
      compare files FILE...
    At the first difference it prints one line, keeps the input in the folder CORPUS, and ends with
@@ -39,6 +39,17 @@ static void compare_read(dice *d)
 {
     some_file(d, 0, 0);
     numbers[verdict.number]++;
+}
+
+/* Reads one file with many types of 890 to 930, and asks for its records and fields; only the answers
+   to reading are counted. */
+static void compare_customised(dice *d)
+{
+    uint64_t of_starts[NUMBERS] = {0};
+    d->customised = true;
+    slice file = some_file(d, 0, 0);
+    numbers[verdict.number]++;
+    ask_starts(d, file, verdict, of_starts);
 }
 
 /* Asks for parts of one file. */
@@ -173,23 +184,41 @@ static void print_numbers(void)
     printf("   all %7" PRIu64 "\n", all);
 }
 
-/* The random numbers for one file of a mode; notes which file it is. */
-static dice dice_for(const char *mode, uint64_t seed, uint64_t index, const char *corpus)
+/* Prints how many customised types there were, and how often each refusal was given. */
+static void print_customised(void)
 {
-    name_question(mode, seed, index, corpus);
+    print_types();
+    print_numbers();
+}
+
+/* A mode that asks about generated files one by one. */
+typedef struct {
+    const char *name;
+    void (*compare)(dice *);
+    void (*print)(void); /* prints what was counted */
+} mode;
+
+static const mode modes[] = {
+    {"read", compare_read, print_numbers}, {"customised", compare_customised, print_customised},
+    {"split", compare_split, print_numbers}, {"combine", compare_combine, print_numbers},
+    {"parts", compare_parts, print_numbers}, {"writer", compare_one_writer, print_numbers}};
+
+/* The random numbers for one file of a mode; notes which file it is. */
+static dice dice_for(const char *name, uint64_t seed, uint64_t index, const char *corpus)
+{
+    name_question(name, seed, index, corpus);
     return dice_of(seed * UINT64_C(1000003) + index);
 }
 
 /* Compares N generated files in one mode. */
-static int compare_many(const char *mode, void (*compare)(dice *), uint64_t count, uint64_t seed,
-                        const char *corpus)
+static int compare_many(const mode *m, uint64_t count, uint64_t seed, const char *corpus)
 {
     for (uint64_t i = 0; i < count; i++) {
-        dice d = dice_for(mode, seed, i, corpus);
-        compare(&d);
+        dice d = dice_for(m->name, seed, i, corpus);
+        m->compare(&d);
     }
-    print_numbers();
-    printf("compare %s: %" PRIu64 " files, 0 differences\n", mode, count);
+    m->print();
+    printf("compare %s: %" PRIu64 " files, 0 differences\n", m->name, count);
     return 0;
 }
 
@@ -242,7 +271,7 @@ static int compare_files(int count, char **paths)
 /* Says how to call the program. */
 static int usage(void)
 {
-    fputs("usage: compare read|split|combine|parts|writer|records|codes N SEED [CORPUS]\n"
+    fputs("usage: compare read|customised|split|combine|parts|writer|records|codes N SEED [CORPUS]\n"
           "       compare big [CORPUS]\n"
           "       compare files FILE...\n", stderr);
     return 2;
@@ -251,11 +280,6 @@ static int usage(void)
 /* Chooses the mode. */
 int main(int count, char **arguments)
 {
-    static const struct {
-        const char *name;
-        void (*compare)(dice *);
-    } modes[] = {{"read", compare_read}, {"split", compare_split}, {"combine", compare_combine},
-                 {"parts", compare_parts}, {"writer", compare_one_writer}};
     file_memory[0] = guarded_of(LONGEST_FILE + 4096);
     file_memory[1] = guarded_of(LONGEST_FILE + 4096);
     name_memory = guarded_of(4096);
@@ -277,6 +301,6 @@ int main(int count, char **arguments)
         return compare_codes(asked, seed);
     for (size_t i = 0; i < sizeof modes / sizeof *modes; i++)
         if (strcmp(arguments[1], modes[i].name) == 0)
-            return compare_many(modes[i].name, modes[i].compare, asked, seed, corpus);
+            return compare_many(&modes[i], asked, seed, corpus);
     return usage();
 }

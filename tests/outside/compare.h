@@ -70,6 +70,7 @@ bai2_code ask_code(uint64_t code);
 /* compare_records.c, compare_codes.c, compare_writer.c, compare_big.c */
 uint64_t ask_starts(dice *d, slice file, bai2_summary verdict, uint64_t *numbers);
 void print_kinds(void);
+void print_types(void);
 int compare_codes(uint64_t count, uint64_t seed);
 void compare_writer(dice *d, uint64_t *numbers);
 uint64_t compare_big(void);

@@ -1,5 +1,6 @@
 /* Asks for records and fields from many starts of a file: each line, codes inside lines, anywhere, the
    end and far past it; into slices of several lengths. */
+#include <ctype.h>
 #include <inttypes.h>
 #include <stdio.h>
 #include <string.h>
@@ -10,13 +11,25 @@ enum { SMALL = 2000, MOST_NUMBERS = LONGEST_OUTPUT / 8 };
 
 static uint64_t asked; /* starts of this file */
 static uint64_t handed[BAI2_FIELD_NOTHING + 1]; /* how often each kind of field was handed out */
+static uint64_t types[2][2]; /* how many of 900 to 919, of 920 to 999 were met: in 03s, in 16s */
 
-/* Counts the fields that the oracle handed out last by their kinds. */
-static void count_kinds(uint64_t count)
+/* Counts a field in a type's place, which a comma or slash ends, where it is one of 900 to 999. */
+static void count_type(const uint8_t *field, bool in_detail)
+{
+    if (field[0] == '9' && isdigit(field[1]) && isdigit(field[2]) && (field[3] == ',' || field[3] == '/'))
+        types[field[1] >= '2'][in_detail]++;
+}
+
+/* Counts the fields that the oracle handed out last by their kinds, and the types among them. */
+static void count_kinds(slice file, uint64_t count)
 {
     const uint64_t *numbers = (const uint64_t *)(const void *)last_result();
-    for (uint64_t i = 0; i < count; i++)
-        handed[numbers[3 * i]]++;
+    for (uint64_t i = 0; i < count; i++) {
+        uint64_t kind = numbers[3 * i];
+        handed[kind]++;
+        if (kind == BAI2_FIELD_TYPE || kind == BAI2_FIELD_FURTHER_TYPE || kind == BAI2_FIELD_DETAIL_TYPE)
+            count_type(file.bytes + numbers[3 * i + 1], kind == BAI2_FIELD_DETAIL_TYPE);
+    }
 }
 
 /* Prints how often each kind of field was handed out. */
@@ -25,6 +38,15 @@ void print_kinds(void)
     printf("  kind  fields\n");
     for (size_t i = BAI2_FIELD_NAME; i <= BAI2_FIELD_NOTHING; i++)
         printf("%6zu %7" PRIu64 "\n", i, handed[i]);
+}
+
+/* Prints how many types of 900 to 999 were handed out, or refused as a 16's. */
+void print_types(void)
+{
+    static const char *const ranges[] = {"900 to 919", "920 to 999"};
+    printf("     types  in 03s  in 16s\n");
+    for (size_t i = 0; i < 2; i++)
+        printf("%s %7" PRIu64 " %7" PRIu64 "\n", ranges[i], types[i][0], types[i][1]);
 }
 
 /* More numbers than the record's fields take: each has a byte of its own. */
@@ -43,6 +65,8 @@ static void ask_start(dice *d, slice file, uint64_t start, uint64_t *numbers)
     must_hold("both calls refuse a start alike",
               r.number == 0 ? f.number != 5 && f.number != 17 : f.number == r.number && f.place == r.place);
     numbers[ask_fields(file, start, 0).number]++;
+    if (f.number == 8 && r.code == 16 && f.place == start + 3)
+        count_type(file.bytes + f.place, true);
     if (f.number != 0)
         return;
     size_t exact = 3 * (size_t)f.count;
@@ -51,7 +75,7 @@ static void ask_start(dice *d, slice file, uint64_t start, uint64_t *numbers)
         must_hold("too few numbers", ask_fields(file, start, short_ones[i]).number == 15);
     must_hold("one number more", ask_fields(file, start, exact + 1).number == 0);
     must_hold("just enough", ask_fields(file, start, exact).number == 0);
-    count_kinds(f.count);
+    count_kinds(file, f.count);
 }
 
 /* Goes from record to record: an accepted file's are all met, and a field's fault is the reader's. */

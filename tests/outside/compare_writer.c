@@ -6,7 +6,7 @@
 
 #define GREATEST INT64_C(999999999999999999)
 
-enum { FIELDS = 7, LONGEST_FIELD = 4096, ROOM = 1 << 15, LONGEST_WALK = 80 };
+enum { FIELDS = 7, SAMPLES = 14, LONGEST_FIELD = 4096, ROOM = 1 << 15, LONGEST_WALK = 80 };
 
 typedef enum {
     HEADER, GROUP, ACCOUNT, ITEM, A_DETAIL, END_ACCOUNT, END_GROUP, END_FILE, CALLS
@@ -22,7 +22,7 @@ typedef struct {
 
 /* Some strings that a field of one kind may and may not hold. */
 typedef struct {
-    const char *good[12], *bad[12];
+    const char *good[SAMPLES], *bad[SAMPLES];
 } samples;
 
 #define NAME_76 "0123456789 123456789 123456789 123456789 123456789 123456789 123456789 12345"
@@ -47,11 +47,11 @@ static const samples statuses = {{"1", "2", "3", "4"}, {"0", "5", "", "11", "A"}
 static const samples modifiers = {{"", "1", "2", "3", "4"}, {"0", "5", "12", " "}};
 static const samples currencies = {{"", "USD", "CAD"}, {"US", "usd", "USDX", "U/D", "   ", "AZ[", "@AZ"}};
 static const samples item_types = {
-    {"010", "001", "099", "100", "400", "101", "399", "401", "799", "900", "999"},
+    {"010", "001", "099", "100", "400", "101", "399", "401", "799", "900", "905", "919", "920", "999"},
     {"000", "890", "800", "899", "10", "0100", "", "A10", "+10"}};
 static const samples detail_types = {
-    {"101", "165", "399", "401", "799", "900", "999", "890", "409"},
-    {"010", "099", "100", "400", "000", "800", "891", "", "16"}};
+    {"101", "165", "399", "401", "799", "920", "999", "890", "409"},
+    {"010", "099", "100", "400", "900", "905", "919", "000", "800", "891", "", "16"}};
 static const samples texts = {
     {"", "DEALER PAYMENTS", "A/B, C", ",A", " A", "A/", "~", NAME_76},
     {"/", "/A", "A ", " ", NAME_76 "6", "A\x7F", "\n", "A\x1F" "B"}};
@@ -71,11 +71,11 @@ static void prepare(void)
     outputs[1] = guarded_of(ROOM + FRINGE);
 }
 
-/* One of up to 12 strings. */
+/* One of some strings, up to as many as samples have. */
 static const char *one_of(dice *d, const char *const *from)
 {
     size_t count = 0;
-    while (count < 12 && from[count] != NULL)
+    while (count < SAMPLES && from[count] != NULL)
         count++;
     return from[roll(d, count)];
 }

@@ -8,7 +8,7 @@
 /* A source of random numbers that starts from a seed. */
 dice dice_of(uint64_t seed)
 {
-    dice d = {seed * UINT64_C(0x9E3779B97F4A7C15) + UINT64_C(0x2545F4914F6CDD1D)};
+    dice d = {.state = seed * UINT64_C(0x9E3779B97F4A7C15) + UINT64_C(0x2545F4914F6CDD1D)};
     if (d.state == 0)
         d.state = 1;
     for (int i = 0; i < 8; i++)

@@ -1,4 +1,4 @@
-/* Asks the oracle for records and fields whose answers were worked out by hand from document 01. */
+/* Asks the oracle for records and fields whose answers were worked out by hand from documents 01 and 02. */
 #include <inttypes.h>
 #include <stdio.h>
 #include <string.h>
@@ -40,7 +40,13 @@ static const sample samples[] = {
     {"a status and a summary", "03,A,,010,-500,,,100,+7,2,Z/  \n", 0, 3, 1, 31, 0, 0,
      {F(NAME, 3, 1), F(CURRENCY, 5, 0), F(TYPE, 6, 3), F(STATUS_AMOUNT, 10, 4), F(NOTHING, 15, 0),
       F(NOTHING, 16, 0), F(FURTHER_TYPE, 17, 3), F(AMOUNT, 21, 2), F(ITEM_COUNT, 24, 1), F(FUNDS, 26, 1)}},
+    {"a customised status and a customised summary", "03,A,,905,-500,,,920,+7,2,Z/\n", 0, 3, 1, 29, 0, 0,
+     {F(NAME, 3, 1), F(CURRENCY, 5, 0), F(TYPE, 6, 3), F(STATUS_AMOUNT, 10, 4), F(NOTHING, 15, 0),
+      F(NOTHING, 16, 0), F(FURTHER_TYPE, 17, 3), F(AMOUNT, 21, 2), F(ITEM_COUNT, 24, 1), F(FUNDS, 26, 1)}},
     {"items over 88s", "03,A,,400,,,/\n88,040,+1/\n88,,/\n", 0, 3, 3, 31, 0, 0,
+     {F(NAME, 3, 1), F(CURRENCY, 5, 0), F(TYPE, 6, 3), F(AMOUNT, 10, 0), F(ITEM_COUNT, 11, 0), F(FUNDS, 12, 0),
+      F(FURTHER_TYPE, 17, 3), F(STATUS_AMOUNT, 21, 2), F(NOTHING, 28, 0), F(NOTHING, 29, 0)}},
+    {"customised items over 88s", "03,A,,999,,,/\n88,919,-0/\n88,,/\n", 0, 3, 3, 31, 0, 0,
      {F(NAME, 3, 1), F(CURRENCY, 5, 0), F(TYPE, 6, 3), F(AMOUNT, 10, 0), F(ITEM_COUNT, 11, 0), F(FUNDS, 12, 0),
       F(FURTHER_TYPE, 17, 3), F(STATUS_AMOUNT, 21, 2), F(NOTHING, 28, 0), F(NOTHING, 29, 0)}},
     {"funds S over 88s, then a status", "03,A,,100,5,,S/\n88,1,/\n88,3,015,,,/\n", 0, 3, 3, 36, 0, 0,
@@ -54,6 +60,9 @@ static const sample samples[] = {
      {F(DETAIL_TYPE, 3, 3), F(AMOUNT, 7, 0), F(FUNDS, 8, 1), F(PAIR_COUNT, 10, 1), F(DAYS, 12, 1),
       F(DAY_AMOUNT, 18, 2), F(DAYS, 21, 1), F(DAY_AMOUNT, 27, 2), F(REFERENCE, 30, 0), F(REFERENCE, 31, 0),
       F(TEXT, 32, 0)}},
+    {"a customised detail", "16,920,5,,,,/\n", 0, 16, 1, 14, 0, 0,
+     {F(DETAIL_TYPE, 3, 3), F(AMOUNT, 7, 1), F(FUNDS, 9, 0), F(REFERENCE, 10, 0), F(REFERENCE, 11, 0),
+      F(TEXT, 12, 0)}},
     {"commas and slashes in a text", "16,165,1500,1,DD1620,,RETURNED CHEQUE /, A/B/\n", 0, 16, 1, 46, 0, 0,
      {F(DETAIL_TYPE, 3, 3), F(AMOUNT, 7, 4), F(FUNDS, 12, 1), F(REFERENCE, 14, 6), F(REFERENCE, 21, 0),
       F(TEXT, 22, 23)}},
@@ -108,6 +117,10 @@ static const sample samples[] = {
     {"an amount beside an empty type", "03,A,,,5,,/\n", 0, 3, 1, 12, 8, 7, {{0}}},
     {"a field after the empty item", "03,A,,,,,,/\n", 0, 3, 1, 12, 8, 10, {{0}}},
     {"a status with a count", "03,A,,010,1,2,/\n", 0, 3, 1, 16, 8, 12, {{0}}},
+    {"a customised status with a count", "03,A,,905,-1,2,/\n", 0, 3, 1, 17, 8, 13, {{0}}},
+    {"a customised status with funds", "03,A,,100,,,,919,1,,0/\n", 0, 3, 1, 23, 8, 20, {{0}}},
+    {"a customised summary with a minus", "03,A,,920,-1,,/\n", 0, 3, 1, 16, 8, 10, {{0}}},
+    {"a customised status in a 16", "16,905,1,,,,/\n", 0, 16, 1, 14, 8, 3, {{0}}},
     {"an empty further type", "03,A,,100,,,/\n88,,,,/\n", 0, 3, 2, 22, 8, 17, {{0}}},
     {"890 with an amount", "16,890,1,,,,/\n", 0, 16, 1, 14, 8, 7, {{0}}},
     {"version 3", "01,A,B,040621,0200,1,,,3/\n", 0, 1, 1, 26, 9, 23, {{0}}},

@@ -273,7 +273,8 @@ static uint64_t some_magnitude(maker *m)
 static void put_amount(maker *m, bool minus_allowed)
 {
     if (slips(m, BAD_SIGN)) {
-        put(m, PICK(m->dice, "-", "+", "--1", "1-", "+-1", " 1", "1:", minus_allowed ? "-+0" : "-0", "1.0"));
+        put(m, PICK(m->dice, "-", "+", "--1", "1-", "+-1", " 1", "1:", minus_allowed ? "-+0" : "-0",
+                    minus_allowed ? "1 " : "-500", "1.0"));
     } else if (slips(m, OVER_BOUND)) {
         put_number(m, "", m->budget + 1 + roll(m->dice, 2) * roll(m->dice, 1000), 18);
     } else if (chance(m->dice, 150)) {
@@ -334,36 +335,63 @@ static void put_funds(maker *m)
         put_distribution(m);
 }
 
-/* A type of 101 to 799 or 900 to 999, without 400. */
+/* A type of 001 to 099 or 900 to 919. */
+static unsigned status_type(dice *d)
+{
+    static const unsigned edges[] = {1, 99, 900, 919, 10, 905};
+    if (d->customised && chance(d, 850))
+        return (unsigned)between(d, 900, 919);
+    if (chance(d, 300))
+        return edges[roll(d, sizeof edges / sizeof *edges)];
+    unsigned type = (unsigned)between(d, 1, 119);
+    return type > 99 ? type + 800 : type;
+}
+
+/* A type of 101 to 799 or 920 to 999, without 400. */
 static unsigned summary_type(dice *d)
 {
-    static const unsigned edges[] = {101, 399, 401, 799, 900, 999, 165, 409};
+    static const unsigned edges[] = {101, 399, 401, 799, 920, 999, 165, 409};
+    if (d->customised && chance(d, 850))
+        return (unsigned)between(d, 920, chance(d, 800) ? 930 : 999);
     if (chance(d, 200))
         return edges[roll(d, sizeof edges / sizeof *edges)];
-    unsigned type = (unsigned)between(d, 101, 898);
-    type = type > 799 ? type + 101 : type;
+    unsigned type = (unsigned)between(d, 101, 879);
+    type = type > 799 ? type + 120 : type;
     return type == 400 ? 401 : type;
 }
 
-/* Adds a type field; as a slip one that its record doesn't take. */
+/* A type that no record takes, or not this one. */
+static const char *bad_type(dice *d, bool in_detail)
+{
+    if (chance(d, 700))
+        return PICK(d, "000", "800", "889", "891", "899", "10", "0100", "A10", " 10", "1 0", "-10");
+    return in_detail ? PICK(d, "099", "100", "400", "900", "905", "919") : "890";
+}
+
+/* A type of 890 to 930, else of 900 to 999, whatever its record takes. */
+static unsigned customised_type(dice *d)
+{
+    return (unsigned)(chance(d, 700) ? between(d, 890, 930) : between(d, 900, 999));
+}
+
+/* Adds a type field; as a slip one that its record doesn't take, and in customised files one of 890 to
+   999 that may suit neither its record nor the fields after it. */
 static void put_type(maker *m, unsigned type, bool in_detail)
 {
     char field[16];
-    if (slips(m, BAD_TYPE)) {
-        put(m, PICK(m->dice, "000", "800", "889", "891", "899", "10", "0100", "A10", " 10", "1 0", "-10",
-                    in_detail ? "099" : "890", in_detail ? "100" : "890", in_detail ? "400" : "890"));
-        return;
-    }
+    bool slipped = slips(m, BAD_TYPE);
+    if (slipped && m->dice->customised)
+        type = customised_type(m->dice);
     snprintf(field, sizeof field, "%03u", type);
-    put(m, field);
+    put(m, slipped && !m->dice->customised ? bad_type(m->dice, in_detail) : field);
 }
 
 /* Adds a status item. */
 static void put_status_item(maker *m)
 {
-    put_type(m, (unsigned)between(m->dice, 1, 99), false);
+    put_type(m, status_type(m->dice), false);
     put_amount(m, true);
-    put(m, slips(m, STATUS_FILLED) ? "1" : "");
+    put(m, slips(m, STATUS_FILLED) ? PICK(m->dice, "1", "0") : "");
     put(m, slips(m, STATUS_FILLED) ? PICK(m->dice, "Z", "0", "V") : "");
 }
 
@@ -626,12 +654,21 @@ void generate_good(dice *d, buffer *out)
     put_file(&m);
 }
 
+/* What a file has wrong; most customised ones a type, a status's count or funds, or a sign. */
+static slip some_slip(dice *d)
+{
+    static const slip rare[] = {BAD_VERSION, BAD_LIMIT, OVER_BOUND, WRONG_COUNT, WRONG_COUNT};
+    static const slip of_types[] = {BAD_TYPE, BAD_TYPE, STATUS_FILLED, BAD_SIGN};
+    if (d->customised && chance(d, 700))
+        return of_types[roll(d, 4)];
+    return chance(d, 150) ? rare[roll(d, 5)] : (slip)between(d, 1, SLIPS - 1);
+}
+
 /* A file with at most one slip. */
 void generate_with_slip(dice *d, buffer *out)
 {
     maker m = new_maker(d, out);
-    static const slip rare[] = {BAD_VERSION, BAD_LIMIT, OVER_BOUND, WRONG_COUNT, WRONG_COUNT};
-    m.slip = chance(d, 150) ? rare[roll(d, 5)] : (slip)between(d, 1, SLIPS - 1);
+    m.slip = some_slip(d);
     if (m.slip != BAD_VERSION && m.slip != BAD_LIMIT)
         m.slip_in = roll(d, chance(d, 700) ? 2 : 12);
     put_file(&m);

@@ -10,6 +10,7 @@
 /* A source of random numbers; the same seed gives the same files. */
 typedef struct {
     uint64_t state;
+    bool customised; /* most types of the files are of 890 to 930, some of 900 to 999 */
 } dice;
 
 dice dice_of(uint64_t seed);

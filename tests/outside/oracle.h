@@ -1,6 +1,6 @@
 /* The oracle: the calls of include/bai2.h once more, under other names, in plain C. It is written
-   from document 01 and the list of document 000 alone and shares nothing with the library that it is
-   compared with. */
+   from documents 01 and 02 and the list of document 000 alone and shares nothing with the library
+   that it is compared with. */
 #ifndef ORACLE_H
 #define ORACLE_H
 

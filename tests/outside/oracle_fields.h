@@ -1,4 +1,5 @@
-/* Document 01, "Fields": what a single field may hold. Inline, for the reader's innermost loop. */
+/* Document 01, "Fields", and document 02, 2026-02: what a single field may hold. Inline, for the
+   reader's innermost loop. */
 #ifndef ORACLE_FIELDS_H
 #define ORACLE_FIELDS_H
 
@@ -25,9 +26,9 @@ typedef struct {
 
 typedef enum {
     NO_TYPE,      /* no type at all, or one that neither 03 nor 16 takes */
-    STATUS_TYPE,  /* 001 to 099: 03 only, may carry a sign, without count and funds */
+    STATUS_TYPE,  /* 001 to 099, 900 to 919: 03 only, sign allowed, item count and funds empty */
     TOTAL_TYPE,   /* 100 and 400: 03 only */
-    SUMMARY_TYPE, /* summaries in 03, details in 16 */
+    SUMMARY_TYPE, /* 101 to 399, 401 to 799, 920 to 999: summaries in 03, details in 16 */
     NOTE_TYPE     /* 890: 16 only, without amount and funds */
 } type_class;
 
@@ -125,11 +126,11 @@ static inline type_class class_of(slice field, uint64_t *type)
 {
     if (field.length != 3 || !is_number(field, 3, type) || *type == 0)
         return NO_TYPE;
-    if (*type <= 99)
+    if (*type <= 99 || (*type >= 900 && *type <= 919))
         return STATUS_TYPE;
     if (*type == 100 || *type == 400)
         return TOTAL_TYPE;
-    if (*type <= 799 || *type >= 900)
+    if (*type <= 799 || *type >= 920)
         return SUMMARY_TYPE;
     return *type == 890 ? NOTE_TYPE : NO_TYPE;
 }

@@ -3,7 +3,7 @@
    BUG_88_NOT_COUNTED, BUG_DEBIT_SUBTRACTED, BUG_TEXT_CUT, BUG_ZERO_DROPPED, BUG_PLACE_OFF,
    BUG_BYTE_BEHIND, BUG_REFUSED_MOVES; of records and fields BUG_88_NOT_A_LINE, BUG_PIECE_CUT,
    BUG_PLACE_IN_RECORD, BUG_FAULT_IN_RECORD, BUG_NO_ROOM_WRITES, BUG_START_CUT; of type codes
-   BUG_LEVEL_CHANGED, BUG_CODE_CUT.
+   BUG_LEVEL_CHANGED, BUG_CODE_CUT; of customised ones BUG_900_NO_STATUS.
    With STAND_IN defined as a weak attribute it answers only the calls that the library lacks. */
 #include <stdlib.h>
 #include <string.h>
@@ -14,7 +14,7 @@
 #define STAND_IN
 #endif
 
-#if defined BUG_88_NOT_COUNTED || defined BUG_DEBIT_SUBTRACTED
+#if defined BUG_88_NOT_COUNTED || defined BUG_DEBIT_SUBTRACTED || defined BUG_900_NO_STATUS
 /* The next line that begins with `code`, from `at` on; the file's length where there is none. */
 static size_t next_line(const uint8_t *file, size_t length, size_t at, const char *code)
 {
@@ -23,6 +23,34 @@ static size_t next_line(const uint8_t *file, size_t length, size_t at, const cha
         if ((at == 0 || file[at - 1] == '\n') && memcmp(file + at, code, size) == 0)
             return at;
     return length;
+}
+#endif
+
+#ifdef BUG_900_NO_STATUS
+/* Makes types of 900 to 919 that stand after so many commas of a line with that code 920 to 929. */
+static void raise_types(uint8_t *file, size_t length, const char *code, int commas)
+{
+    for (size_t at = 0; (at = next_line(file, length, at, code)) < length;) {
+        for (int left = commas; left > 0 && at < length && file[at] != '\n'; at++)
+            left -= file[at] == ',';
+        if (at + 1 < length && file[at] == '9' && (file[at + 1] == '0' || file[at + 1] == '1'))
+            file[at + 1] = '2';
+    }
+}
+
+/* The verdict where 900 to 919, in a 16 and as a 03's first type, are details and summaries. */
+static bai2_summary read_without_status(const uint8_t *file, size_t length)
+{
+    uint8_t *copy = malloc(length + 1);
+    if (copy == NULL)
+        exit(2);
+    for (size_t i = 0; i < length; i++)
+        copy[i] = file[i];
+    raise_types(copy, length, "16,", 1);
+    raise_types(copy, length, "03,", 3);
+    bai2_summary s = oracle_read(copy, length);
+    free(copy);
+    return s;
 }
 #endif
 
@@ -37,6 +65,9 @@ STAND_IN bai2_summary bai2_read(const uint8_t *file, size_t file_length)
 #ifdef BUG_DEBIT_SUBTRACTED
     for (size_t at = 0; s.number == 0 && (at = next_line(file, file_length, at, "16,4")) < file_length; at++)
         s.total -= 2 * strtoll((const char *)file + at + 7, NULL, 10);
+#endif
+#ifdef BUG_900_NO_STATUS
+    s = read_without_status(file, file_length);
 #endif
 #ifdef BUG_PLACE_OFF
     if (s.number == 8)

@@ -32,26 +32,31 @@ module _ (n : ℕ) where
   unfolding classOf
   non-monetary e = rw e
 
+  pub customised : 900 ≤ n → n < 920 → status ≡ classOf n
+  unfolding classOf
+  customised h g = rw (above 1 99 n (omega arith), within 900 919 n h (omega arith))
+
   module _ (h : 100 ≤ n) (p : n ≡ 100 → ⊥) (q : n ≡ 400 → ⊥) where
     pub low : n < 800 → summaryOrDetail ≡ classOf n
     unfolding classOf
-    low g = rw (above 1 99 n (omega arith), ne-eqb n 100 p, ne-eqb n 400 q, within 101 799 n (omega arith) (omega arith))
+    low g =
+        rw (above 1 99 n (omega arith), below 900 919 n (omega arith), ne-eqb n 100 p, ne-eqb n 400 q, within 101 799 n (omega arith) (omega arith))
 
     module _ (g : 800 ≤ n) (m : n ≡ 890 → ⊥) where
       pub gap : n < 900 → unknown ≡ classOf n
       unfolding classOf
       gap f =
-          rw (above 1 99 n (omega arith), ne-eqb n 100 p, ne-eqb n 400 q, above 101 799 n (omega arith), below 900 999 n f, ne-eqb n 890 m)
+          rw (above 1 99 n (omega arith), below 900 919 n f, ne-eqb n 100 p, ne-eqb n 400 q, above 101 799 n (omega arith), below 920 999 n (omega arith), ne-eqb n 890 m)
 
-      pub high : 900 ≤ n → n < 1000 → summaryOrDetail ≡ classOf n
+      pub high : 920 ≤ n → n < 1000 → summaryOrDetail ≡ classOf n
       unfolding classOf
       high f k =
-          rw (above 1 99 n (omega arith), ne-eqb n 100 p, ne-eqb n 400 q, above 101 799 n (omega arith), within 900 999 n f (omega arith))
+          rw (above 1 99 n (omega arith), above 900 919 n (omega arith), ne-eqb n 100 p, ne-eqb n 400 q, above 101 799 n (omega arith), within 920 999 n f (omega arith))
 
       pub beyond : 1000 ≤ n → unknown ≡ classOf n
       unfolding classOf
       beyond f =
-          rw (above 1 99 n (omega arith), ne-eqb n 100 p, ne-eqb n 400 q, above 101 799 n (omega arith), above 900 999 n (omega arith), ne-eqb n 890 m)
+          rw (above 1 99 n (omega arith), above 900 919 n (omega arith), ne-eqb n 100 p, ne-eqb n 400 q, above 101 799 n (omega arith), above 920 999 n (omega arith), ne-eqb n 890 m)
 
 pub type-not : (s : Bytes) → digits 3 3 s ≡ false → unknown ≡ typeClass s
 unfolding typeClass

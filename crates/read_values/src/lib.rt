@@ -171,6 +171,9 @@ pub fn class_of(n: u64) -> Class
     if n < 900 {
         return Class::Unknown;
     }
+    if n < 920 {
+        return Class::Status;
+    }
     if n < 1000 {
         return Class::SummaryOrDetail;
     }

@@ -1,9 +1,10 @@
--- The uniform list: its rule, at all thousand codes by one computed test and one lemma; and that no number over 999 is listed. Assumes nothing.
+-- The uniform list: its rule, at all thousand codes by one computed test and one lemma; and that it lists no customised code and no number over 999.
+-- Assumes nothing.
 use mathlib.Core.Path.{_≡_, refl, sym, _∙_, subst}
 use mathlib.Core.Logic.{⊎-elim}
 use mathlib.Core.Bool.{Bool, true, false, cond, not, _&&_}
 use mathlib.Core.List.{List, [], _∷_}
-use Prim.Native.Nat.{ℕ, zero, suc, _<_}
+use Prim.Native.Nat.{ℕ, zero, suc, _≤_, _<_}
 use native.Mathlib.Nat.{eq-or-lt-of-le, le-of-suc-le-suc, not-suc-le-zero}
 use native.Mathlib.Omega.{arith}
 use lib.Dec.{T, leb, eqb, leb→le}
@@ -52,32 +53,38 @@ pub code-rule : (n : ℕ) → n < 1000 → departs n ≡ member n departures
 unfolding ruled
 code-rule n below = alike-eq (departs n) (member n departures) (at-any 1000 ruled all-ruled n below)
 
--- ---- past the table
+-- ---- past the list
 
-unfoldable pub threeDigits : List Row → Bool
-threeDigits [] = true
-threeDigits (r ∷ rs) = leb (r .code) 999 && threeDigits rs
+-- no line's code is over this one
+unfoldable pub upTo : ℕ → List Row → Bool
+upTo last [] = true
+upTo last (r ∷ rs) = leb (r .code) last && upTo last rs
 
-pub list-three-digits : T (threeDigits uniformList)
-unfolding threeDigits
-list-three-digits = tt
+pub list-to-890 : T (upTo 890 uniformList)
+unfolding upTo
+list-to-890 = tt
 
-not-this : (r : Row) (rs : List Row) (n : ℕ) → T (leb (r .code) 999) → 999 < n → entryIn (r ∷ rs) n ≡ entryIn rs n
-unfolding entryIn
-not-this r rs n small over = go (known (eqb (r .code) n))
-  where
-    go : Known (eqb (r .code) n) → cond (eqb (r .code) n) (r .entry) (entryIn rs n) ≡ entryIn rs n
-    go (holds e) = let same = true-eq (r .code) n e in let most = leb→le (r .code) 999 small in absurd (omega arith)
-    go (fails e) = rw e refl
+module _ (last n : ℕ) (over : last < n) where
+  not-this : (r : Row) (rs : List Row) → T (leb (r .code) last) → entryIn (r ∷ rs) n ≡ entryIn rs n
+  unfolding entryIn
+  not-this r rs small = go (known (eqb (r .code) n))
+    where
+      go : Known (eqb (r .code) n) → cond (eqb (r .code) n) (r .entry) (entryIn rs n) ≡ entryIn rs n
+      go (holds e) = let same = true-eq (r .code) n e in let most = leb→le (r .code) last small in absurd (omega arith)
+      go (fails e) = rw e refl
 
-none-in : (rs : List Row) (n : ℕ) → T (threeDigits rs) → 999 < n → entryIn rs n ≡ unlisted
-unfolding entryIn threeDigits
-none-in [] n small over = refl
-none-in (r ∷ rs) n small over =
-    not-this r rs n (and-left (leb (r .code) 999) (threeDigits rs) small) over
-    ∙ none-in rs n (and-right (leb (r .code) 999) (threeDigits rs) small) over
+  none-in : (rs : List Row) → T (upTo last rs) → entryIn rs n ≡ unlisted
+  unfolding entryIn upTo
+  none-in [] small = refl
+  none-in (r ∷ rs) small =
+      not-this r rs (and-left (leb (r .code) last) (upTo last rs) small)
+      ∙ none-in rs (and-right (leb (r .code) last) (upTo last rs) small)
+
+-- no customised code is listed, nor any number after them
+pub customised-unlisted : (n : ℕ) → 900 ≤ n → entryOf n ≡ unlisted
+unfolding entryOf
+customised-unlisted n from = none-in 890 n (omega arith) uniformList list-to-890
 
 -- no number over 999 is listed
 pub over-unlisted : (n : ℕ) → 999 < n → entryOf n ≡ unlisted
-unfolding entryOf
-over-unlisted n over = none-in uniformList n list-three-digits over
+over-unlisted n over = customised-unlisted n (omega arith)

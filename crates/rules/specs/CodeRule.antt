@@ -1,5 +1,6 @@
--- Request 2026-01: the rule of the uniform list. Every listed code agrees with the ranges, document 01's for its level and source document 000's for
--- its side, except the codes that are named here; `code-rule` says so of the whole table, and that each of these does depart. Assumes nothing.
+-- Request 2026-01: the rule of the uniform list. Every listed code agrees with the ranges, document 01's as 2026-02 mends them for its level and source
+-- document 000's for its side, except the codes that are named here; `code-rule` says so of the whole table, and that each of these does depart.
+-- Assumes nothing.
 use Prim.Native.Nat.{ℕ}
 use mathlib.Core.Bool.{Bool, true, false, not, _&&_, _||_}
 use mathlib.Core.List.{List, [], _∷_}
@@ -17,7 +18,7 @@ unfoldable pub member : ℕ → List ℕ → Bool
 member n [] = false
 member n (m ∷ ms) = eqb m n || member n ms
 
--- the level is one that document 01 lets codes of this class have
+-- the level is one that codes of this class may have
 abbrev pub levelFits : Class → Level → Bool
 levelFits status l = isStatus l
 levelFits summaryOnly l = isSummary l && not (isDetail l)

@@ -30,7 +30,7 @@ pub fn k1(out: &mut [u8; 4096]) -> Writer {
         b"2",
         out,
     ));
-    let w = status_account(w, b"0975312468", b"USD", minus(500), out);
+    let w = status_account(w, b"0975312468", b"USD", b"010", minus(500), out);
     let w = after(write_calls::detail(
         w,
         b"165",
@@ -43,11 +43,12 @@ pub fn k1(out: &mut [u8; 4096]) -> Writer {
     end_all(w, out)
 }
 
-// An account with one item, of type 010.
+// An account with one item, a status.
 fn status_account(
     w: Writer,
     number: &[u8],
     currency: &[u8],
+    type_code: &[u8],
     amount: MaybeAmount,
     out: &mut [u8; 4096],
 ) -> Writer {
@@ -56,7 +57,7 @@ fn status_account(
         number,
         currency,
         true,
-        b"010",
+        type_code,
         amount,
         MaybeItems::NoItems,
         out,
@@ -94,7 +95,7 @@ pub fn every_call(out: &mut [u8; 4096]) -> Writer {
         b"3",
         out,
     ));
-    let w = status_account(w, b"1", b"USD", minus(1_000_000), out);
+    let w = status_account(w, b"1", b"USD", b"905", minus(1_000_000), out);
     end_all(w, out)
 }
 
@@ -132,7 +133,7 @@ fn without_items(w: Writer, out: &mut [u8; 4096]) -> Writer {
 
 // An account with three items, a credit and a debit.
 fn with_items(w: Writer, out: &mut [u8; 4096]) -> Writer {
-    let w = status_account(w, b"0099887766", b"CAD", minus(250_075), out);
+    let w = status_account(w, b"0099887766", b"CAD", b"010", minus(250_075), out);
     let w = after(write_calls::item(w, b"100", plus(300_000), MaybeItems::Given(Items(2)), out));
     let w = after(write_calls::item(w, b"400", plus(50_000), MaybeItems::NoItems, out));
     credit_and_debit(w, out)

@@ -4,6 +4,7 @@ use crate::amounts::plus;
 use crate::printing::after;
 use crate::printing::print_answer;
 use crate::printing::print_file;
+use write_line::Items;
 use write_line::MaybeAmount;
 use write_line::MaybeItems;
 use write_state::Writer;
@@ -94,9 +95,28 @@ pub fn bad_fields(out: &mut [u8; 4096]) {
     try_detail(b"minus of a credit", w, b"165", minus(1), b"", out);
     try_detail(b"amount of a note", w, b"890", plus(0), b"", out);
     bad_details(w, out);
+    counted_status(w, out);
 }
 
-// 20: an amount that is too long, and texts that the writer does not take.
+// 20: a count beside a customised status.
+fn counted_status(w: Writer, out: &mut [u8; 4096]) {
+    let w = after(write_ends::end_account(w, out));
+    print_answer(
+        b"count of a customised status",
+        write_calls::account(
+            w,
+            b"8",
+            b"",
+            true,
+            b"905",
+            minus(1),
+            MaybeItems::Given(Items(1)),
+            out,
+        ),
+    );
+}
+
+// 20: an amount that is too long, texts that the writer does not take, and a status.
 fn bad_details(w: Writer, out: &mut [u8; 4096]) {
     try_detail(
         b"amount of 19 digits",
@@ -108,6 +128,14 @@ fn bad_details(w: Writer, out: &mut [u8; 4096]) {
     );
     try_detail(b"text with a slash first", w, b"165", plus(1), b"/A", out);
     try_detail(b"text with a blank last", w, b"165", plus(1), b"A ", out);
+    try_detail(
+        b"customised status in a detail",
+        w,
+        b"905",
+        plus(1),
+        b"",
+        out,
+    );
     print_file(w, out);
 }
 

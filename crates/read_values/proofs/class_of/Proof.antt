@@ -1,5 +1,5 @@
 -- `class_of` meets its contract. Assumes nothing.
-use Rattle.read_values.proofs.TypeLaws.{none, statuses, only-100, only-400, non-monetary, low, gap, high, beyond}
+use Rattle.read_values.proofs.TypeLaws.{none, statuses, only-100, only-400, non-monetary, low, gap, customised, high, beyond}
 use Rattle.read_values.proofs.class_of.Statement.{statement}
 use Rattle.read_values.proofs.class_of.Tie as tie
 
@@ -27,14 +27,17 @@ returns-7 c =
     gap _ (k .before .before .if2 .left) (k .before .if3 .left) (k .if4 .left) (c .before .before .if5 .left) (c .before .if6 .left) (c .if7 .taken)
 
 returns-8 : tie.Need-returns-8
-returns-8 c =
-    let k = c .before .before .before .before in
-    high _ (k .before .before .if2 .left) (k .before .if3 .left) (k .if4 .left) (c .before .before .before .if5 .left) (c .before .before .if6 .left) (c .before .if7 .left) (c .if8 .taken)
+returns-8 c = customised _ (c .before .if7 .left) (c .if8 .taken)
 
 returns-9 : tie.Need-returns-9
 returns-9 c =
-    let k = c .before .before .before .before in
-    beyond _ (k .before .before .if2 .left) (k .before .if3 .left) (k .if4 .left) (c .before .before .before .if5 .left) (c .before .before .if6 .left) (c .if8 .left)
+    let k = c .before .before .before .before .before in
+    high _ (k .before .before .if2 .left) (k .before .if3 .left) (k .if4 .left) (c .before .before .before .before .if5 .left) (c .before .before .before .if6 .left) (c .before .if8 .left) (c .if9 .taken)
+
+returns-10 : tie.Need-returns-10
+returns-10 c =
+    let k = c .before .before .before .before .before in
+    beyond _ (k .before .before .if2 .left) (k .before .if3 .left) (k .if4 .left) (c .before .before .before .before .if5 .left) (c .before .before .before .if6 .left) (c .if9 .left)
 
 pub class-of-spec : {M : Type 1} → statement M
 class-of-spec =
@@ -48,4 +51,5 @@ class-of-spec =
     returns-6
     returns-7
     returns-8
-    returns-9)
+    returns-9
+    returns-10)
