@@ -1,0 +1,31 @@
+-- The theorems on amounts as they were given: a field's bytes against its form and magnitude, and what the forms add. Assumes nothing.
+use Prim.Native.Nat.{ℕ}
+use mathlib.Core.Path.{_≡_}
+use mathlib.Core.Bool.{true, _||_}
+use mathlib.Core.List.{List}
+use lib.ListN.{length}
+use Rattle.rules.specs.Bytes.{Bytes}
+use Rattle.rules.specs.Amounts.{Amount, amountIn}
+use Rattle.rules.specs.Grammar.{Kind, amount, statusAmount, total, sameKind, good, judged}
+use Rattle.laws_amounts.specs.AmountWords.{isAmount, writtenWith, GivenBack}
+use Rattle.laws_amounts.proofs.GivenForms.{given-back, read-back, same-given}
+use Rattle.laws_amounts.proofs.KindsAsked.{amount-given}
+
+-- ---- an amount's bytes
+
+-- a field that the reader takes as an amount, a status amount or a total is one
+pub fields-are-amounts : (k : Kind) (bs : Bytes) (new : List Kind) → (sameKind k amount || (sameKind k statusAmount || sameKind k total)) ≡ true
+    → judged k bs ≡ good new → isAmount bs ≡ true
+fields-are-amounts k bs new h e = amount-given k bs new e (rw h tt)
+
+-- the form and the magnitude of an amount give its bytes back, up to leading zeros, however long it is
+pub amount-given-back : (bs : Bytes) → isAmount bs ≡ true → GivenBack bs
+amount-given-back bs e = given-back bs e
+
+-- a form and a magnitude, written out with any zeros, are read as the same form and magnitude
+pub written-read : (zeros : ℕ) (a : Amount) → amountIn (writtenWith zeros a) ≡ a
+written-read zeros a = read-back zeros a
+
+-- amounts of the same form, magnitude and length are the same bytes
+pub same-bytes : (bs cs : Bytes) → isAmount bs ≡ true → isAmount cs ≡ true → amountIn bs ≡ amountIn cs → length bs ≡ length cs → bs ≡ cs
+same-bytes bs cs b c a l = same-given bs cs (given-back bs b) (given-back cs c) a l
