@@ -5,11 +5,19 @@ use mathlib.Core.Bool.{true, _||_}
 use mathlib.Core.List.{List}
 use lib.ListN.{length}
 use Rattle.rules.specs.Bytes.{Bytes}
+use Rattle.rules.specs.Numbers.{_⊕_}
 use Rattle.rules.specs.Amounts.{Amount, amountIn}
+use Rattle.rules.specs.Outcome.{fine}
 use Rattle.rules.specs.Grammar.{Kind, amount, statusAmount, total, sameKind, good, judged}
-use Rattle.laws_amounts.specs.AmountWords.{isAmount, writtenWith, GivenBack}
+use Rattle.rules.specs.Totals.{Summary}
+use Rattle.rules.specs.Verdict.{judge}
+use Rattle.rules.specs.Parts.{groupsIn}
+use Rattle.laws.specs.LawWords.{All, accountsIn, totalOf}
+use Rattle.laws.proofs.FileTheorems.{file-shape, totals-nest}
+use Rattle.laws_amounts.specs.AmountWords.{itemsAdd, detailsAdd, isAmount, writtenWith, GivenBack}
 use Rattle.laws_amounts.proofs.GivenForms.{given-back, read-back, same-given}
 use Rattle.laws_amounts.proofs.KindsAsked.{amount-given}
+use Rattle.laws_amounts.proofs.AccountForms.{groups-add}
 
 -- ---- an amount's bytes
 
@@ -29,3 +37,10 @@ written-read zeros a = read-back zeros a
 -- amounts of the same form, magnitude and length are the same bytes
 pub same-bytes : (bs cs : Bytes) → isAmount bs ≡ true → isAmount cs ≡ true → amountIn bs ≡ amountIn cs → length bs ≡ length cs → bs ≡ cs
 same-bytes bs cs b c a l = same-given bs cs (given-back bs b) (given-back cs c) a l
+
+-- ---- what amounts add
+
+-- in an accepted file each account's total, which its 49 states, is what the amounts of its items and of its details add, as they were given
+pub forms-add-up : (file : Bytes) (s : Summary) → judge file ≡ fine s
+    → All (λ g. All (λ a. totalOf a ≡ itemsAdd a ⊕ detailsAdd a) (accountsIn g)) (groupsIn file)
+forms-add-up file s h = groups-add (groupsIn file) (file-shape file s h .groups) (totals-nest file s h .of-accounts)

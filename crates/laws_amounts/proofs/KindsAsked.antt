@@ -29,7 +29,7 @@ statesAmount k = sameKind k amount || (sameKind k statusAmount || sameKind k tot
 
 -- the field is a type, which asks for its amount
 abbrev pub isType : Kind → Bool
-isType k = sameKind k firstType || (sameKind k furtherType || sameKind k detailType)
+isType k = (sameKind firstType k || sameKind furtherType k) || sameKind detailType k
 
 -- the field neither adds an amount nor asks for one
 abbrev pub quiet : Kind → Bool
