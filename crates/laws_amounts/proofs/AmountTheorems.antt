@@ -1,5 +1,5 @@
--- The theorems on amounts as they were given: a field's bytes against its form and magnitude, and what the forms add. Assumes nothing.
-use Prim.Native.Nat.{ℕ}
+-- The theorems on amounts as they were given: a field's bytes against its form and magnitude, what the forms add, and which items there are. Assumes nothing.
+use Prim.Native.Nat.{ℕ, _≤_, _<_}
 use mathlib.Core.Path.{_≡_}
 use mathlib.Core.Bool.{true, _||_}
 use mathlib.Core.List.{List}
@@ -7,17 +7,20 @@ use lib.ListN.{length}
 use Rattle.rules.specs.Bytes.{Bytes}
 use Rattle.rules.specs.Numbers.{_⊕_}
 use Rattle.rules.specs.Amounts.{Amount, amountIn}
-use Rattle.rules.specs.Outcome.{fine}
+use Rattle.rules.specs.Outcome.{refuse, fine}
+use Rattle.rules.specs.Lines.{accountHeader}
 use Rattle.rules.specs.Grammar.{Kind, amount, statusAmount, total, sameKind, good, judged}
 use Rattle.rules.specs.Totals.{Summary}
 use Rattle.rules.specs.Verdict.{judge}
-use Rattle.rules.specs.Parts.{groupsIn}
+use Rattle.rules.specs.Parts.{Placed, groupsIn, accountAt, firstFields}
+use Rattle.rules.specs.Items.{AccountItem, itemsIn, itemAt}
 use Rattle.laws.specs.LawWords.{All, accountsIn, totalOf}
 use Rattle.laws.proofs.FileTheorems.{file-shape, totals-nest}
 use Rattle.laws_amounts.specs.AmountWords.{itemsAdd, detailsAdd, isAmount, writtenWith, GivenBack}
 use Rattle.laws_amounts.proofs.GivenForms.{given-back, read-back, same-given}
 use Rattle.laws_amounts.proofs.KindsAsked.{amount-given}
 use Rattle.laws_amounts.proofs.AccountForms.{groups-add}
+use Rattle.laws_amounts.proofs.ItemNumbers.{none-from, some-from}
 
 -- ---- an amount's bytes
 
@@ -44,3 +47,17 @@ same-bytes bs cs b c a l = same-given bs cs (given-back bs b) (given-back cs c) 
 pub forms-add-up : (file : Bytes) (s : Summary) → judge file ≡ fine s
     → All (λ g. All (λ a. totalOf a ≡ itemsAdd a ⊕ detailsAdd a) (accountsIn g)) (groupsIn file)
 forms-add-up file s h = groups-add (groupsIn file) (file-shape file s h .groups) (totals-nest file s h .of-accounts)
+
+-- ---- items by their number
+
+-- refusal 17, for an item exactly from its account's number of items on
+pub no-such-item : (file : Bytes) (g a n : ℕ) (x : Placed) → accountAt file g a ≡ fine x → length (itemsIn (firstFields accountHeader (x .records))) ≤ n → itemAt file g a n ≡ refuse 17 0
+unfolding itemAt
+no-such-item file g a n x h few = rw (h, none-from (itemsIn (firstFields accountHeader (x .records))) n few)
+
+pub such-item : (file : Bytes) (g a n : ℕ) (x : Placed) → accountAt file g a ≡ fine x → n < length (itemsIn (firstFields accountHeader (x .records)))
+    → (i : AccountItem) × (itemAt file g a n ≡ fine i)
+unfolding itemAt
+such-item file g a n x h many =
+    let (i, e) = some-from (itemsIn (firstFields accountHeader (x .records))) n many in
+    (i, rw (h, e))

@@ -5,4 +5,5 @@ pub mod FieldsFollow
 pub mod ItemForms
 pub mod DetailForms
 pub mod AccountForms
+pub mod ItemNumbers
 pub mod AmountTheorems
