@@ -101,6 +101,13 @@ STAND_IN bai2_detail bai2_detail_of(const uint8_t *file, size_t file_length,
     return d;
 }
 
+/* As the oracle. */
+STAND_IN bai2_item bai2_item_of(const uint8_t *file, size_t file_length,
+                       uint64_t group, uint64_t account, uint64_t item)
+{
+    return oracle_item_of(file, file_length, group, account, item);
+}
+
 /* As the oracle, with a bug where one is planted. */
 STAND_IN bai2_record bai2_record_at(const uint8_t *file, size_t file_length, uint64_t start)
 {
