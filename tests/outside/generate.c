@@ -304,7 +304,8 @@ static void put_amount(maker *m, bool minus_allowed)
         put(m, PICK(m->dice, "-", "+", "--1", "1-", "+-1", " 1", "1:", minus_allowed ? "-+0" : "-0",
                     minus_allowed ? "1 " : "-500", "1.0"));
     } else if (slips(m, OVER_BOUND)) {
-        put_number(m, "", m->budget + 1 + roll(m->dice, 2) * roll(m->dice, 1000), 18);
+        put_number(m, PICK(m->dice, "", "+", minus_allowed ? "-" : ""),
+                   m->budget + 1 + roll(m->dice, 2) * roll(m->dice, 1000), 18);
     } else if (m->dice->amounts && chance(m->dice, 800)) {
         put_telling_amount(m, minus_allowed);
     } else if (chance(m->dice, 150)) {
