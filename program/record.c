@@ -174,6 +174,15 @@ bool put_funds_part(char room[FUNDS_ROOM], const fields *f, const funds *u, size
     return true;
 }
 
+/* How an amount or a total was given, in a word. */
+const char *form_in_words(slice amount)
+{
+    static const char *const words[] = {
+        [BAI2_AMOUNT_EMPTY] = "empty", [BAI2_AMOUNT_UNSIGNED] = "unsigned",
+        [BAI2_AMOUNT_WITH_PLUS] = "plus", [BAI2_AMOUNT_WITH_MINUS] = "minus"};
+    return words[form_of(amount)];
+}
+
 /* A type's name, or that it is unlisted. */
 const char *type_in_words(slice type)
 {

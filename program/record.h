@@ -59,6 +59,7 @@ const char *put_day(char room[DAY_ROOM], slice date, slice time);
 const char *put_funds(char room[FUNDS_ROOM], const funds *u);
 bool put_funds_part(char room[FUNDS_ROOM], const fields *f, const funds *u, size_t part);
 
+const char *form_in_words(slice amount);
 const char *type_in_words(slice type);
 const char *status_in_words(slice status);
 const char *modifier_in_words(slice modifier);
