@@ -14,9 +14,10 @@ HEADER = ("record,place,group,account,item,detail,account_number,sender,receiver
           "time,file_number,physical_length,block_size,version,currency,modifier,type,type_name,amount,amount_form,item_count,"
           "funds,split_amounts,value_date,value_time,pair_count,pairs,bank_reference,customer_reference,text,total,"
           "total_form,accounts,groups,records").split(",")
+# The fields of a record; those of a trailer come after its total.
 NAMES = {"01": "sender receiver date time file_number physical_length block_size version".split(),
          "02": "ultimate_receiver originator status date time currency modifier".split(),
-         "49": "records".split(), "98": "accounts records".split(), "99": "groups records".split()} # and a total before these
+         "49": "records".split(), "98": "accounts records".split(), "99": "groups records".split()}
 
 
 def listed_names():
