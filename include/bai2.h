@@ -89,8 +89,8 @@ enum bai2_refusal {
        that is not a printable ASCII character. */
     BAI2_NOT_A_NAME = 16,
 
-    /* The file has no group, account or detail of that number (numbers count from 0), or a record is
-       asked for at its end or after it. */
+    /* The file has no group, account, detail or item of that number (numbers count from 0), or a
+       record is asked for at its end or after it. */
     BAI2_NO_SUCH_PART = 17,
 
     /* The result would be longer than 16,777,216 bytes, or a line of the second file's groups is
