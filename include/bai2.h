@@ -89,8 +89,8 @@ enum bai2_refusal {
        that is not a printable ASCII character. */
     BAI2_NOT_A_NAME = 16,
 
-    /* The file has no group, account or detail of that number (numbers count from 0), or a record is
-       asked for at its end or after it. */
+    /* The file has no group, account, detail or item of that number (numbers count from 0), or a
+       record is asked for at its end or after it. */
     BAI2_NO_SUCH_PART = 17,
 
     /* The result would be longer than 16,777,216 bytes, or a line of the second file's groups is
@@ -127,15 +127,35 @@ bai2_part bai2_group(const uint8_t *file, size_t file_length, uint64_t group);
 /* The account of that number in that group, 03 to 49. */
 bai2_part bai2_account(const uint8_t *file, size_t file_length, uint64_t group, uint64_t account);
 
-/* A detail's type, its amount where amount_given is 1, and its first piece of text, which is
-   `text_length` bytes from byte `text_start` of the file on (0 and 0 where it has no text). */
+/* How an amount was given: not at all, or as digits that have no sign, a plus or a minus before them. */
+enum bai2_amount_form {
+    BAI2_AMOUNT_EMPTY = 0,
+    BAI2_AMOUNT_UNSIGNED = 1,
+    BAI2_AMOUNT_WITH_PLUS = 2,
+    BAI2_AMOUNT_WITH_MINUS = 3
+};
+
+/* A detail's type; its amount, how it was given (one of bai2_amount_form) and without its sign, 0
+   where it is empty; and its first piece of text, which is `text_length` bytes from byte `text_start`
+   of the file on (0 and 0 where it has no text). */
 typedef struct {
-    uint64_t number, place, type, amount_given, amount, text_start, text_length;
+    uint64_t number, place, type, amount_form, amount, text_start, text_length;
 } bai2_detail;
 
 /* The detail of that number in that account of that group. */
 bai2_detail bai2_detail_of(const uint8_t *file, size_t file_length,
                            uint64_t group, uint64_t account, uint64_t detail);
+
+/* An item of an account's 03, a status or a summary: its type; its amount, how it was given and
+   without its sign (minus zero is 0 with BAI2_AMOUNT_WITH_MINUS); and its item count, where count_given
+   is 1. A 03 whose sole item is empty has no item. */
+typedef struct {
+    uint64_t number, place, type, amount_form, amount, count_given, count;
+} bai2_item;
+
+/* The item of that number in the 03 of that account of that group. */
+bai2_item bai2_item_of(const uint8_t *file, size_t file_length,
+                       uint64_t group, uint64_t account, uint64_t item);
 
 /* ---- Handing out ----
    Everything that stands in a file, record by record and field by field, without a parser of your own.

@@ -55,6 +55,7 @@ static const column columns[] = {
     {"type", TYPED, KIND(TYPE) | KIND(FURTHER_TYPE) | KIND(DETAIL_TYPE)},
     {"type_name", TYPED, 0}, /* comes with the type */
     {"amount", TYPED, KIND(AMOUNT) | KIND(STATUS_AMOUNT) | KIND(NOTHING)},
+    {"amount_form", TYPED, 0}, /* comes with the amount */
     {"item_count", CODE(3), KIND(ITEM_COUNT) | KIND(NOTHING)},
     {"funds", TYPED, KIND(FUNDS) | KIND(NOTHING)},
     {"split_amounts", TYPED, KIND(SPLIT_AMOUNT)},
@@ -66,6 +67,7 @@ static const column columns[] = {
     {"customer_reference", CODE(16), KIND(REFERENCE)},
     {"text", CODE(16), KIND(TEXT) | KIND(FURTHER_TEXT)},
     {"total", TRAILERS, KIND(TOTAL)},
+    {"total_form", TRAILERS, 0}, /* comes with the total */
     {"accounts", CODE(98), KIND(COUNT)},
     {"groups", CODE(99), KIND(COUNT)},
     {"records", TRAILERS, KIND(RECORDS)},
@@ -140,6 +142,24 @@ static void put_type(walk *w, size_t c, slice type)
     put_text(&w->sheet, c + 1, slice_of(type_in_words(type)));
 }
 
+/* Writes an amount or a total, and how it was given in the column after it. */
+static void put_amount(walk *w, size_t c, slice amount)
+{
+    put_text_or_null(&w->sheet, c, amount);
+    put_text(&w->sheet, c + 1, slice_of(form_in_words(amount)));
+}
+
+/* Writes a field that stands in no list, with what comes with it. */
+static void put_single(walk *w, size_t c, slice field)
+{
+    if (takes(c, BAI2_FIELD_DETAIL_TYPE))
+        put_type(w, c, field);
+    else if (takes(c, BAI2_FIELD_AMOUNT) || takes(c, BAI2_FIELD_TOTAL))
+        put_amount(w, c, field);
+    else
+        put_text(&w->sheet, c, field);
+}
+
 /* Writes the field of this index, and those after it that stand in the same list; answers the index after
    them, or this one where no column takes the field. */
 static size_t put_field(walk *w, size_t i, size_t end)
@@ -151,10 +171,7 @@ static size_t put_field(walk *w, size_t i, size_t end)
     switch (kind) {
     case BAI2_FIELD_SPLIT_AMOUNT: case BAI2_FIELD_TEXT: return put_list(w, c, i, end);
     case BAI2_FIELD_DAYS: return put_pairs(w, c, i, end);
-    case BAI2_FIELD_TYPE: case BAI2_FIELD_FURTHER_TYPE: case BAI2_FIELD_DETAIL_TYPE:
-        put_type(w, c, field_at(&w->fields, i));
-        return i + 1;
-    default: put_text(&w->sheet, c, field_at(&w->fields, i)); return i + 1;
+    default: put_single(w, c, field_at(&w->fields, i)); return i + 1;
     }
 }
 

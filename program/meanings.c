@@ -96,10 +96,12 @@ static const explanation explanations[REFUSALS + 1] = {
         "Give the receiver exactly as the group's 02 record has it, with its leading zeros; "
         "'bai2 show' lists the receivers."},
     [BAI2_NO_SUCH_PART] = {
-        "no such group, account or detail",
-        "A program asked for a group, account or detail that the file does not have (they are numbered "
-        "from 0), or for a record at the file's end or after it.",
-        "Ask for the numbers first: 'bai2 summary' prints how many there are."},
+        "no such group, account, detail or item",
+        "A program asked for a group, account, detail or item that the file does not have (they are "
+        "numbered from 0), or for a record at the file's end or after it. A 03 whose sole item is empty "
+        "has no item.",
+        "Ask for the numbers first: 'bai2 summary' prints how many groups, accounts and details there "
+        "are, 'bai2 show' lists the items."},
     [BAI2_RESULT_TOO_LONG] = {
         "the result is not a file that can be read",
         "The result would be longer than 16,777,216 bytes; or a line of the second file's groups is "

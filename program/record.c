@@ -108,15 +108,6 @@ bool next_piece(const fields *f, size_t *at, slice *piece)
     return piece->length > 0;
 }
 
-/* The amount without its sign and leading zeros; "0" keeps its digit. */
-static slice plain_digits(slice amount)
-{
-    size_t start = amount.length > 0 && (*amount.bytes == '+' || *amount.bytes == '-') ? 1 : 0;
-    while (start + 1 < amount.length && amount.bytes[start] == '0')
-        start++;
-    return part_of(amount, start, amount.length);
-}
-
 /* Digits as a number; those past the eighteenth are left out. */
 uint64_t number_of(slice digits)
 {
@@ -126,21 +117,16 @@ uint64_t number_of(slice digits)
     return number;
 }
 
-/* An amount in minor units; an empty one counts 0. */
-int64_t units_of(slice amount)
+/* How an amount or a total was given, by its own bytes. */
+enum bai2_amount_form form_of(slice amount)
 {
-    int64_t units = (int64_t)number_of(plain_digits(amount));
-    return amount.length > 0 && *amount.bytes == '-' ? -units : units;
-}
-
-/* An amount or item count as it is shown: a minus as written, no leading zeros, nothing where it is
-   empty. Minor units stay minor units, since the file does not say how many decimals a currency has. */
-const char *put_amount(char room[AMOUNT_ROOM], slice amount)
-{
-    slice digits = part_of(plain_digits(amount), 0, DIGITS);
-    const char *sign = amount.length > 0 && *amount.bytes == '-' ? "-" : "";
-    snprintf(room, AMOUNT_ROOM, "%s%.*s", sign, SLICE(digits));
-    return room;
+    if (amount.length == 0)
+        return BAI2_AMOUNT_EMPTY;
+    switch (*amount.bytes) {
+    case '+': return BAI2_AMOUNT_WITH_PLUS;
+    case '-': return BAI2_AMOUNT_WITH_MINUS;
+    default: return BAI2_AMOUNT_UNSIGNED;
+    }
 }
 
 /* A date and a time as they are shown: 2004-06-20 23:59; an empty time is left out. */
@@ -167,24 +153,34 @@ const char *put_funds(char room[FUNDS_ROOM], const funds *u)
     return room;
 }
 
-/* One of the amounts where funds come at several times (S and D), from 0, and when it comes; false
-   where there is no such one. */
+/* One of the amounts where funds come at several times (S and D), from 0, as it is written, and when it
+   comes; false where there is no such one. */
 bool put_funds_part(char room[FUNDS_ROOM], const fields *f, const funds *u, size_t part)
 {
     static const char *const when[] = {"at once", "in one day", "in two days or later"};
-    char amount[AMOUNT_ROOM];
     if (part >= u->parts)
         return false;
     if (kind_at(f, u->first) == BAI2_FIELD_SPLIT_AMOUNT) {
-        put_amount(amount, field_at(f, u->first + part));
-        snprintf(room, FUNDS_ROOM, "%s: %s", when[part], *amount == '\0' ? "not given" : amount);
+        slice amount = field_at(f, u->first + part);
+        if (form_of(amount) == BAI2_AMOUNT_EMPTY)
+            amount = slice_of("not given");
+        snprintf(room, FUNDS_ROOM, "%s: %.*s", when[part], SLICE(amount));
     } else {
         size_t pair = u->first + 2 * part; /* days and amount */
         unsigned days = (unsigned)number_of(field_at(f, pair));
-        put_amount(amount, field_at(f, pair + 1));
-        snprintf(room, FUNDS_ROOM, "in %u day%s: %s", days, days == 1 ? "" : "s", amount);
+        slice amount = field_at(f, pair + 1);
+        snprintf(room, FUNDS_ROOM, "in %u day%s: %.*s", days, days == 1 ? "" : "s", SLICE(amount));
     }
     return true;
+}
+
+/* How an amount or a total was given, in a word. */
+const char *form_in_words(slice amount)
+{
+    static const char *const words[] = {
+        [BAI2_AMOUNT_EMPTY] = "empty", [BAI2_AMOUNT_UNSIGNED] = "unsigned",
+        [BAI2_AMOUNT_WITH_PLUS] = "plus", [BAI2_AMOUNT_WITH_MINUS] = "minus"};
+    return words[form_of(amount)];
 }
 
 /* A type's name, or that it is unlisted. */

@@ -1,13 +1,14 @@
-/* What a record says, for display: its fields taken by their kinds. */
+/* What a record says, for display: its fields taken by their kinds. Amounts, totals and item counts are
+   shown as they are written, an empty one as nothing; minor units stay minor units, since the file does
+   not say how many decimals a currency has. */
 #ifndef RECORD_H
 #define RECORD_H
 
 #include "fields.h"
 
 enum {
-    AMOUNT_ROOM = 24, /* an amount as it is shown: sign, 18 digits, end */
-    DAY_ROOM = 32,    /* a date and a time as they are shown */
-    FUNDS_ROOM = 64   /* funds as they are shown */
+    DAY_ROOM = 32,  /* a date and a time as they are shown */
+    FUNDS_ROOM = 64 /* funds as they are shown */
 };
 
 /* 01 */
@@ -52,13 +53,13 @@ trailer trailer_of(const fields *f);
 bool next_entry(const fields *f, size_t *at, entry *found);
 bool next_piece(const fields *f, size_t *at, slice *piece);
 
-int64_t units_of(slice amount);
 uint64_t number_of(slice digits);
-const char *put_amount(char room[AMOUNT_ROOM], slice amount);
+enum bai2_amount_form form_of(slice amount);
 const char *put_day(char room[DAY_ROOM], slice date, slice time);
 const char *put_funds(char room[FUNDS_ROOM], const funds *u);
 bool put_funds_part(char room[FUNDS_ROOM], const fields *f, const funds *u, size_t part);
 
+const char *form_in_words(slice amount);
 const char *type_in_words(slice type);
 const char *status_in_words(slice status);
 const char *modifier_in_words(slice modifier);

@@ -44,6 +44,15 @@ static void put_json_string(FILE *to, slice s)
     fputc('"', to);
 }
 
+/* Writes the bytes as a JSON string, or null where there are none. */
+static void put_json_or_null(FILE *to, slice s)
+{
+    if (s.length > 0)
+        put_json_string(to, s);
+    else
+        fputs("null", to);
+}
+
 /* Whether this byte is a quote. */
 static bool is_quote(uint8_t byte)
 {
@@ -127,14 +136,23 @@ void put_number(sheet *s, size_t column, uint64_t number)
     fprintf(s->to, "%" PRIu64, number);
 }
 
+/* Writes a cell that is a text, in JSON by this function. */
+static void put_cell(sheet *s, size_t column, slice text, void (*put_json)(FILE *to, slice s))
+{
+    go_to(s, column);
+    (s->format == JSON_LINES ? put_json : put_csv_cell)(s->to, text);
+}
+
 /* Writes a cell that is a text. */
 void put_text(sheet *s, size_t column, slice text)
 {
-    go_to(s, column);
-    if (s->format == JSON_LINES)
-        put_json_string(s->to, text);
-    else
-        put_csv_cell(s->to, text);
+    put_cell(s, column, text, put_json_string);
+}
+
+/* Writes a cell that is a text, or nothing where it is empty: null in JSON, an empty cell of CSV. */
+void put_text_or_null(sheet *s, size_t column, slice text)
+{
+    put_cell(s, column, text, put_json_or_null);
 }
 
 /* Begins a cell that is a list. */
@@ -156,12 +174,12 @@ static void go_to_entry(sheet *s)
     s->entries++;
 }
 
-/* Writes an entry of the list that is a text. */
+/* Writes an entry of the list that is a text, or nothing where it is empty, as a cell is. */
 void put_entry(sheet *s, slice entry)
 {
     go_to_entry(s);
     if (s->format == JSON_LINES)
-        put_json_string(s->to, entry);
+        put_json_or_null(s->to, entry);
     else
         put_doubled(s->to, entry);
 }

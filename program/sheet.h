@@ -23,6 +23,7 @@ void end_line(sheet *s);
 
 void put_number(sheet *s, size_t column, uint64_t number);
 void put_text(sheet *s, size_t column, slice text);
+void put_text_or_null(sheet *s, size_t column, slice text);
 
 void begin_list(sheet *s, size_t column);
 void put_entry(sheet *s, slice entry);

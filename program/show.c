@@ -16,7 +16,7 @@ enum { TYPE_INDENT = 4, NAME_INDENT = 9 /* after the type and two blanks */, LAB
 /* One row of an account's table. */
 typedef struct {
     slice cells[COLUMNS];
-    char amount[AMOUNT_ROOM], count[AMOUNT_ROOM], funds[FUNDS_ROOM];
+    char funds[FUNDS_ROOM];
 } row;
 
 /* The report's layout: the width of the labels that rows begin with, a type and its name or a total's
@@ -33,18 +33,12 @@ static void put_counted(FILE *to, uint64_t count, const char *word)
     fprintf(to, "%" PRIu64 " %s%s", count, word, count == 1 ? "" : "s");
 }
 
-/* Sets a row's amount. */
-static void set_amount(row *r, slice amount)
-{
-    r->cells[AMOUNT] = slice_of(put_amount(r->amount, amount));
-}
-
 /* The cells of an item's or a detail's row, with this piece of text. */
 static void entry_row(row *r, const entry *e, slice piece)
 {
     *r = (row){0};
-    set_amount(r, e->amount);
-    r->cells[COUNT] = slice_of(put_amount(r->count, e->count));
+    r->cells[AMOUNT] = e->amount;
+    r->cells[COUNT] = e->count;
     r->cells[FUNDS] = slice_of(put_funds(r->funds, &e->funds));
     r->cells[BANK_REFERENCE] = e->bank_reference;
     r->cells[CUSTOMER_REFERENCE] = e->customer_reference;
@@ -90,7 +84,7 @@ static void measure_entries(layout *l, const fields *f)
 static void measure_trailer(layout *l, const fields *f)
 {
     row r = {0};
-    set_amount(&r, trailer_of(f).total);
+    r.cells[AMOUNT] = trailer_of(f).total;
     widen(l, &r);
 }
 
@@ -237,10 +231,10 @@ static void put_group(FILE *to, uint64_t number, const fields *f)
     fputc('\n', to);
 }
 
-/* Writes a total after its label, and in words what it closes. */
-static void put_total(const layout *l, const char *label, int64_t total, uint64_t count, const char *what)
+/* Writes a trailer's total after its label, and in words what it closes. */
+static void put_total(const layout *l, const char *label, slice total, uint64_t count, const char *what)
 {
-    fprintf(l->to, "%-*s  %*" PRId64 "  ", (int)l->label, label, (int)l->widths[AMOUNT], total);
+    fprintf(l->to, "%-*s  %*.*s  ", (int)l->label, label, (int)l->widths[AMOUNT], SLICE(total));
     put_counted(l->to, count, what);
 }
 
@@ -256,7 +250,7 @@ static void put_records(const layout *l, uint64_t records)
 static void put_account_total(const layout *l, const fields *f, uint64_t details)
 {
     trailer t = trailer_of(f);
-    put_total(l, "    total", units_of(t.total), details, "detail");
+    put_total(l, "    total", t.total, details, "detail");
     put_records(l, number_of(t.records));
 }
 
@@ -267,15 +261,15 @@ static void put_group_total(const layout *l, const fields *f, uint64_t number)
     char label[LABEL_ROOM];
     snprintf(label, sizeof label, "  group %" PRIu64 " total", number);
     fputc('\n', l->to);
-    put_total(l, label, units_of(t.total), number_of(t.count), "account");
+    put_total(l, label, t.total, number_of(t.count), "account");
     put_records(l, number_of(t.records));
 }
 
-/* Writes the total of the file, as the library has answered it. */
-static void put_file_total(const layout *l, bai2_summary s)
+/* Writes the total of the file, with the counts that the library has answered. */
+static void put_file_total(const layout *l, const fields *f, bai2_summary s)
 {
     fputc('\n', l->to);
-    put_total(l, "file total", s.total, s.groups, "group");
+    put_total(l, "file total", trailer_of(f).total, s.groups, "group");
     put_records(l, s.records);
 }
 
@@ -297,7 +291,7 @@ void put_report(FILE *to, const outline *o)
         case DETAIL: put_entries(&l, &f); details++; break;
         case ACCOUNT_TRAILER: put_account_total(&l, &f, details); break;
         case GROUP_TRAILER: put_group_total(&l, &f, group); break;
-        case FILE_TRAILER: put_file_total(&l, o->summary); break;
+        case FILE_TRAILER: put_file_total(&l, &f, o->summary); break;
         default: break;
         }
     }

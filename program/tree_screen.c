@@ -7,7 +7,8 @@
 
 enum {
     LABEL_ROOM = 512,
-    HELD_ROWS = 3,  /* title, the row's own line, keys */
+    AMOUNT_ROOM = 24, /* an amount as it is written: sign, 18 digits, end */
+    HELD_ROWS = 3,    /* title, the row's own line, keys */
     TEXT_INDENT = 10,
     PARTS_IN_ROW = 3 /* of an item's funds, so many amounts stand in its row */
 };
@@ -36,8 +37,8 @@ static void put_account_label(char *label, const fields *f)
     snprintf(label, LABEL_ROOM, "Account %.*s  %.*s", SLICE(h.number), SLICE(h.currency));
 }
 
-/* Words and amount for a detail's row: its type with its name, and its text or else a reference. */
-static void put_detail_label(char *label, char amount[AMOUNT_ROOM], const fields *f)
+/* Words for a detail's row: its type with its name, and its text or else a reference; answers its amount. */
+static slice put_detail_label(char *label, const fields *f)
 {
     entry e;
     slice words;
@@ -46,11 +47,11 @@ static void put_detail_label(char *label, char amount[AMOUNT_ROOM], const fields
     if (!next_piece(f, &at, &words))
         words = e.bank_reference.length > 0 ? e.bank_reference : e.customer_reference;
     snprintf(label, LABEL_ROOM, "%.*s  %s  %.*s", SLICE(e.type), type_in_words(e.type), SLICE(words));
-    put_amount(amount, e.amount);
+    return e.amount;
 }
 
-/* Words and amount for an item's row. */
-static void put_item_label(char *label, char amount[AMOUNT_ROOM], const tree_row *row, const fields *f)
+/* Words for an item's row; answers its amount. */
+static slice put_item_label(char *label, const tree_row *row, const fields *f)
 {
     entry e;
     size_t at = row->number;
@@ -63,7 +64,7 @@ static void put_item_label(char *label, char amount[AMOUNT_ROOM], const tree_row
         used += (size_t)snprintf(label + used, LABEL_ROOM - used, "  funds %s", put_funds(words, &e.funds));
     for (size_t part = 0; part <= PARTS_IN_ROW && put_funds_part(words, f, &e.funds, part); part++)
         used += (size_t)snprintf(label + used, LABEL_ROOM - used, "  %s", part < PARTS_IN_ROW ? words : "..");
-    put_amount(amount, e.amount);
+    return e.amount;
 }
 
 /* Words for a row about a detail's funds. */
@@ -90,32 +91,27 @@ static void put_note_label(char *label, const tree_row *row, slice file)
     snprintf(label, LABEL_ROOM, "%s%.*s", captions[row->kind], SLICE(bytes));
 }
 
-/* The amount at the right edge of a group's or account's row: its trailer's total. */
-static void put_closing_total(char amount[AMOUNT_ROOM], tree_screen *s, const tree_row *row)
+/* The total that the trailer of this index states. */
+static slice total_of(tree_screen *s, size_t record)
 {
-    const fields *f = fields_of(&s->tree, s->outline->records[row->record].closing);
-    snprintf(amount, AMOUNT_ROOM, "%" PRId64, units_of(trailer_of(f).total));
+    return trailer_of(fields_of(&s->tree, record)).total;
 }
 
-/* A row's words and its amount, empty where it has none. */
-static void put_label(char *label, char amount[AMOUNT_ROOM], tree_screen *s, const tree_row *row)
+/* A row's words; answers the amount at its right edge, a group's or account's total, empty where it has
+   none. */
+static slice put_label(char *label, tree_screen *s, const tree_row *row)
 {
     const fields *f = fields_of(&s->tree, row->record);
-    amount[0] = '\0';
+    size_t closing = s->outline->records[row->record].closing;
     switch (row->kind) {
-    case GROUP_ROW:
-        put_group_label(label, row, f);
-        put_closing_total(amount, s, row);
-        return;
-    case ACCOUNT_ROW:
-        put_account_label(label, f);
-        put_closing_total(amount, s, row);
-        return;
-    case DETAIL_ROW: put_detail_label(label, amount, f); return;
-    case ITEM_ROW: put_item_label(label, amount, row, f); return;
-    case FUNDS_ROW: case FUNDS_PART_ROW: put_funds_label(label, row, f); return;
-    default: put_note_label(label, row, s->outline->file); return;
+    case GROUP_ROW: put_group_label(label, row, f); return total_of(s, closing);
+    case ACCOUNT_ROW: put_account_label(label, f); return total_of(s, closing);
+    case DETAIL_ROW: return put_detail_label(label, f);
+    case ITEM_ROW: return put_item_label(label, row, f);
+    case FUNDS_ROW: case FUNDS_PART_ROW: put_funds_label(label, row, f); break;
+    default: put_note_label(label, row, s->outline->file); break;
     }
+    return slice_of("");
 }
 
 /* Draws one row of the tree: its indent, whether it is open, its words and its amount. */
@@ -125,22 +121,24 @@ static void draw_tree_row(tree_screen *s, const canvas *c, size_t canvas_row, si
                                   [BANK_REFERENCE_ROW] = 8, [CUSTOMER_REFERENCE_ROW] = 8,
                                   [FUNDS_ROW] = 8, [FUNDS_PART_ROW] = 8, [TEXT_ROW] = 8};
     const tree_row *row = &s->tree.rows[index];
-    char label[LABEL_ROOM], text[LABEL_ROOM + 16], amount[AMOUNT_ROOM];
-    put_label(label, amount, s, row);
+    char label[LABEL_ROOM], text[LABEL_ROOM + 16], right[AMOUNT_ROOM];
+    slice amount = put_label(label, s, row);
     const char *fold = !can_open(&s->tree, index) ? " " : s->tree.open[row->record] ? "-" : "+";
     snprintf(text, sizeof text, "%*s%s %s", indents[row->kind], "", fold, label);
-    draw_row(c, canvas_row, index == s->row ? REVERSE : PLAIN, text, amount);
+    snprintf(right, sizeof right, "%.*s", SLICE(amount));
+    draw_row(c, canvas_row, index == s->row ? REVERSE : PLAIN, text, right);
 }
 
 /* Draws the title: the file's name, who sent it to whom, its total. */
 static void draw_title(tree_screen *s, const canvas *c)
 {
     file_header h = file_header_of(fields_of(&s->tree, 0));
-    char text[LABEL_ROOM], day[DAY_ROOM], total[AMOUNT_ROOM + 8];
+    slice total = total_of(s, s->outline->count - 1);
+    char text[LABEL_ROOM], day[DAY_ROOM], right[AMOUNT_ROOM + 8];
     snprintf(text, sizeof text, "%.60s  %.*s to %.*s  %s", last_part(s->name), SLICE(h.sender),
              SLICE(h.receiver), put_day(day, h.date, h.time));
-    snprintf(total, sizeof total, "total %" PRId64, s->outline->summary.total);
-    draw_row(c, 0, BOLD, text, total);
+    snprintf(right, sizeof right, "total %.*s", SLICE(total));
+    draw_row(c, 0, BOLD, text, right);
 }
 
 /* Draws the line of the file that the chosen row comes from, and how far down it stands. */

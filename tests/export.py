@@ -11,12 +11,13 @@ import subprocess
 import sys
 
 HEADER = ("record,place,group,account,item,detail,account_number,sender,receiver,ultimate_receiver,originator,status,date,"
-          "time,file_number,physical_length,block_size,version,currency,modifier,type,type_name,amount,item_count,"
+          "time,file_number,physical_length,block_size,version,currency,modifier,type,type_name,amount,amount_form,item_count,"
           "funds,split_amounts,value_date,value_time,pair_count,pairs,bank_reference,customer_reference,text,total,"
-          "accounts,groups,records").split(",")
+          "total_form,accounts,groups,records").split(",")
+# The fields of a record; those of a trailer come after its total.
 NAMES = {"01": "sender receiver date time file_number physical_length block_size version".split(),
          "02": "ultimate_receiver originator status date time currency modifier".split(),
-         "49": "total records".split(), "98": "total accounts records".split(), "99": "total groups records".split()}
+         "49": "records".split(), "98": "accounts records".split(), "99": "groups records".split()}
 
 
 def listed_names():
@@ -26,6 +27,11 @@ def listed_names():
 
 
 LISTED = listed_names()
+
+
+def given(name, value):
+    """An amount or a total, none where it is empty, and how it is given."""
+    return {name: value or None, name + "_form": {"": "empty", "+": "plus", "-": "minus"}.get(value[:1], "unsigned")}
 
 
 class Cut:
@@ -69,7 +75,7 @@ class Cut:
         kind = self.field()
         told = {"funds": kind}
         if kind == "S":
-            told["split_amounts"] = [self.field() for _ in range(3)]
+            told["split_amounts"] = [self.field() or None for _ in range(3)]
         if kind == "V":
             told["value_date"] = self.field()
             told["value_time"] = self.field()
@@ -97,7 +103,7 @@ def items_of(cut, head):
     number = 0
     while cut.more():
         place = cut.place()
-        item = {**cut.typed(), "amount": cut.field(), "item_count": cut.field(), **cut.funds()}
+        item = {**cut.typed(), **given("amount", cut.field()), "item_count": cut.field(), **cut.funds()}
         if item["type"]:
             yield {**head, "place": place, "item": number, **item}
             number += 1
@@ -123,17 +129,18 @@ def lines_of(data):
             yield from items_of(cut, head)
         elif code == "16":
             detail += 1
-            yield {**head, "detail": detail, **cut.typed(), "amount": cut.field(), **cut.funds(),
+            yield {**head, "detail": detail, **cut.typed(), **given("amount", cut.field()), **cut.funds(),
                    "bank_reference": cut.field(), "customer_reference": cut.field(), "text": cut.pieces()}
         else:
-            yield {**head, **{field: cut.field() for field in NAMES[code]}}
+            total = given("total", cut.field()) if code in ("49", "98", "99") else {}
+            yield {**head, **total, **{field: cut.field() for field in NAMES[code]}}
 
 
 def cell_of(value):
     """A value as CSV has it."""
     if isinstance(value, list):
-        return "\n".join(f"{entry['days']} {entry['amount']}" if isinstance(entry, dict) else entry for entry in value)
-    return str(value)
+        return "\n".join(f"{entry['days']} {entry['amount']}" if isinstance(entry, dict) else entry or "" for entry in value)
+    return "" if value is None else str(value)
 
 
 def once(pairs):
@@ -161,8 +168,8 @@ def json_fault(out, wanted, total):
     """What is wrong with the JSON lines, and with the sum of their amounts."""
     assert out.endswith(b"}\n") and out.isascii()
     found = [json.loads(line, object_pairs_hook=once) for line in out.decode().split("\n")[:-1]]
-    names = [name for line in found for name in line]
-    assert set(names) <= set(HEADER), "a name that CSV does not have"
+    for line in found:
+        assert list(line) == [name for name in HEADER if name in line], f"other names than CSV has, or another order: {line}"
     amounts = sum(int(line.get("amount") or 0) for line in found)
     return first_difference(found, wanted) or ("" if amounts == total else f"amounts of {amounts} instead of {total}")
 
@@ -185,15 +192,16 @@ def fault_of(bai2, path):
 
 
 def bytes_fault(path):
-    """What is wrong with lines that have each byte alone, all bytes, and a list of both, in JSON and then in CSV."""
+    """What is wrong with lines that have each byte alone, all bytes, a list of both and of nothing, and nothing, in JSON and
+    then in CSV."""
     with open(path, "rb") as file:
         as_json, as_csv = file.read().split(b"--\n")
     every = [chr(i) for i in range(256)]
-    wanted = [[one, "".join(every), [one, "".join(every)]] for one in every]
+    wanted = [[one, "".join(every), [one, "".join(every), None], None] for one in every]
     found = [list(json.loads(line).values()) for line in as_json.decode("ascii").splitlines()]
     rows = list(csv.reader(io.StringIO(as_csv.decode("latin-1"), newline=""), strict=True))
     return first_difference(found, wanted) or first_difference(
-        rows, [["one", "all", "list"]] + [[one, both, "\n".join(entries)] for one, both, entries in wanted])
+        rows, [["one", "all", "list", "none"]] + [[cell_of(value) for value in line] for line in wanted])
 
 
 def main():

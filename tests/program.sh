@@ -94,6 +94,23 @@ gave_exactly() {
     gave "$1" && { [ "$said" = "$2" ] || { diff <(echo "$2") <(echo "$said"); false; }; }
 }
 
+# The ways to write an amount that a report could spoil; a minus is for a status and for totals alone.
+forms='-0 +0 +5 007 000000000000000000'
+
+# K1 with this amount in its item and that one in its detail, one of them empty, and all totals written as the other is.
+form_file() {
+    sed "s/,010,-500,/,010,$1,/; s/^16,165,1500,/16,165,$2,/; s/^\(49\|98\|99\),1000,/\1,$1$2,/" "$samples/k01.bai"
+}
+
+# Writes the files of all forms: item_FORM.bai, whose detail has no amount, and detail_FORM.bai, whose item has none.
+write_forms() {
+    local form
+    for form in $forms; do
+        form_file "$form" '' >"item_$form.bai"
+        [ "$form" = -0 ] || form_file '' "$form" >"detail_$form.bai"
+    done
+}
+
 # Bytes of a file with one group, so many accounts and so many details in each.
 large_file() {
     awk -v accounts="$1" -v details="$2" 'BEGIN {

@@ -79,11 +79,11 @@ def k1(**changed):
     return lines(*rows)
 
 
-def detail(row, *more):
-    """K1 with another 16 (with 88s after it) worth 1500, so that all totals stay."""
+def detail(row, *more, total=1000):
+    """K1 with another 16 (with 88s after it); worth 1500, so that all totals stay, unless they are given."""
     n = len(more)
-    return lines(*K1[:3], row, *more, b"49,1000,%d/" % (3 + n), b"98,1000,1,%d/" % (5 + n),
-                 b"99,1000,1,%d/" % (7 + n))
+    return lines(*K1[:3], row, *more, b"49,%d,%d/" % (total, 3 + n), b"98,%d,1,%d/" % (total, 5 + n),
+                 b"99,%d,1,%d/" % (total, 7 + n))
 
 
 def account(row, *more, total=1000):
@@ -770,6 +770,134 @@ refused("item_type_899_after_900.bai", after_short_headers(
 # The type, at 65, is judged before the byte after its slash.
 refused("detail_905_byte_after_slash.bai", after_short_headers(
     b"03,X,,905,-3,,/", b"16,905/X", b"88,3,,,,/", b"49,0,4/", b"98,0,1,6/", b"99,0,1,8/"), 8, 65, b"905/X")
+
+# ---- 2026-03: an amount is empty, unsigned, with plus, with minus; what is accepted stays ----
+
+ZEROS = b"0" * 18
+
+# K1 with another amount in its 03, which adds to the 16's 1500: of a status, and of a summary.
+for name, amount, total in (
+        ("empty", b"", 1500), ("unsigned", b"500", 2000), ("0", b"0", 1500), ("plus_0", b"+0", 1500),
+        ("007", b"007", 1507), ("plus_007", b"+007", 1507), ("18_zeros", ZEROS, 1500),
+        ("plus_18_zeros", b"+" + ZEROS, 1500)):
+    accepted(f"status_amount_{name}.bai", account(b"03,0975312468,USD,010," + amount + b",,/", total=total),
+             total, 1, 1, 1, 7)
+    accepted(f"summary_amount_{name}.bai", account(b"03,0975312468,USD,100," + amount + b",,/", total=total),
+             total, 1, 1, 1, 7)
+# A minus is for a status alone: zeros that leave 1500, and 1500 - 7.
+for name, amount, total in (("minus_000", b"-000", 1500), ("minus_007", b"-007", 1493),
+                            ("minus_18_zeros", b"-" + ZEROS, 1500)):
+    accepted(f"status_amount_{name}.bai", account(b"03,0975312468,USD,010," + amount + b",,/", total=total),
+             total, 1, 1, 1, 7)
+# K1 with another amount in its 16, which adds to the 03's -500.
+for name, amount, total in (
+        ("0", b"0", -500), ("plus_0", b"+0", -500), ("007", b"007", -493), ("plus_007", b"+007", -493),
+        ("18_zeros", ZEROS, -500), ("plus_18_zeros", b"+" + ZEROS, -500),
+        ("18_digits", b"000000000000001500", 1000)):
+    accepted(f"detail_amount_{name}.bai", detail(b"16,165," + amount + b",1,DD1620,,/", total=total),
+             total, 1, 1, 1, 7)
+# 18 zeros after S, an empty amount between them; and in a pair of D.
+accepted("funds_s_18_zeros.bai", detail(b"16,165,1500,S," + ZEROS + b",," + ZEROS + b",,,/"), 1000, 1, 1, 1, 7)
+accepted("funds_d_18_zeros.bai", detail(b"16,165,1500,D,1,0," + ZEROS + b",,,/"), 1000, 1, 1, 1, 7)
+# All forms in one account: 5 + 6 - 7 in its statuses, 8 + 9 in its summaries, 10 + 11 in its details.
+accepted("every_form.bai", after_short_headers(
+    b"03,X,,010,,,,015,5,,,040,+6,,,045,-7,,/", b"88,100,,,,110,8,,,190,+9,2,S,,5,/",
+    b"16,165,,,,,/", b"16,165,10,,,,/", b"16,165,+11,,,,/", b"49,+42,6/", b"98,000042,1,8/", b"99,42,1,10/"),
+    42, 1, 1, 3, 10)
+# Zeros of every form still fit where an amount is all that the bound allows, ...
+accepted("bound_then_zeros.bai", lines(
+    *K1[:2], b"03,0975312468,USD,010,+999999999999999999,,,015,-0,,,100,+0,,/", b"16,165," + ZEROS + b",,,,/",
+    b"49,999999999999999999,3/", b"98,+999999999999999999,1,5/", b"99,999999999999999999,1,7/"),
+    999999999999999999, 1, 1, 1, 7)
+# ... and -1 does not: after 19 bytes at 105, ",,,", "015,", "-0,,,", "015," it is at 140, its minus first.
+refused("bound_then_minus_1.bai", lines(
+    *K1[:2], b"03,0975312468,USD,010,+999999999999999999,,,015,-0,,,015,-1,,/", K1[3],
+    b"49,1000,3/", b"98,1000,1,5/", b"99,1000,1,7/"), 10, 140, b"-1,,/")
+
+
+def with_totals(first, *totals):
+    """K1 with that amount in its 03, and with those totals in its 49, 98 and 99."""
+    return lines(*K1[:2], b"03,0975312468,USD,010," + first + b",,/", K1[3],
+                 *[start + total + end for start, total, end in zip(
+                     (b"49,", b"98,", b"99,"), totals, (b",3/", b",1,5/", b",1,7/"))])
+
+
+# -1500 + 1500 is 0, which each trailer may give in any form: the others give it as 0.
+for name, zero in (("minus_0", b"-0"), ("plus_0", b"+0"), ("18_zeros", ZEROS), ("plus_18_zeros", b"+" + ZEROS),
+                   ("minus_18_zeros", b"-" + ZEROS)):
+    accepted(f"total_49_{name}.bai", with_totals(b"-1500", zero, b"0", b"0"), 0, 1, 1, 1, 7)
+    accepted(f"total_98_{name}.bai", with_totals(b"-1500", b"0", zero, b"0"), 0, 1, 1, 1, 7)
+    accepted(f"total_99_{name}.bai", with_totals(b"-1500", b"0", b"0", zero), 0, 1, 1, 1, 7)
+# K1's own 1000, with a plus or leading zeros in one trailer; and -2000 + 1500 with zeros in each.
+for name, total in (("plus", b"+1000"), ("zeros", b"0001000")):
+    accepted(f"total_49_{name}.bai", with_totals(b"-500", total, b"1000", b"1000"), 1000, 1, 1, 1, 7)
+    accepted(f"total_98_{name}.bai", with_totals(b"-500", b"1000", total, b"1000"), 1000, 1, 1, 1, 7)
+    accepted(f"total_99_{name}.bai", with_totals(b"-500", b"1000", b"1000", total), 1000, 1, 1, 1, 7)
+accepted("totals_minus_zeros.bai", with_totals(b"-2000", b"-0500", b"-000000000000000500", b"-00500"),
+         -500, 1, 1, 1, 7)
+# K1's 1000 with a minus is another total: in the 49 at 154, in the 98 at 165, in the 99 at 178. So is 500
+# for -500, where the 03 has a byte more and the 49's total is at 155.
+refused("total_49_minus.bai", with_totals(b"-500", b"-1000", b"1000", b"1000"), 11, 154, b"-1000,3/")
+refused("total_98_minus.bai", with_totals(b"-500", b"1000", b"-1000", b"1000"), 11, 165, b"-1000,1,5/")
+refused("total_99_minus.bai", with_totals(b"-500", b"1000", b"1000", b"-1000"), 11, 178, b"-1000,1,7/")
+refused("total_49_minus_lost.bai", with_totals(b"-2000", b"500", b"-500", b"-500"), 11, 155, b"500,3/")
+# What is no total, in each trailer at the same places: a sign alone, two signs, a sign behind the digits, 19
+# digits behind a sign. And none or 19 digits in the 98 and the 99.
+for name, total in (("plus_alone", b"+"), ("minus_alone", b"-"), ("two_signs", b"+-1000"),
+                    ("two_minuses", b"--1000"), ("minus_behind", b"1000-"), ("plus_behind", b"1000+"),
+                    ("plus_19", b"+0000000000000001000"), ("minus_19", b"-0000000000000000000")):
+    refused(f"total_49_{name}.bai", with_totals(b"-500", total, b"1000", b"1000"), 8, 154, total + b",3/")
+    refused(f"total_98_{name}.bai", with_totals(b"-500", b"1000", total, b"1000"), 8, 165, total + b",1,5/")
+    refused(f"total_99_{name}.bai", with_totals(b"-500", b"1000", b"1000", total), 8, 178, total + b",1,7/")
+for name, total in (("empty", b""), ("19", b"0000000000000001000")):
+    refused(f"total_98_{name}.bai", with_totals(b"-500", b"1000", total, b"1000"), 8, 165, total + b",1,5/")
+    refused(f"total_99_{name}.bai", with_totals(b"-500", b"1000", b"1000", total), 8, 178, total + b",1,7/")
+# A count has no sign: records of the 49 (159), accounts and records of the 98 (170, 172), groups and
+# records of the 99 (183, 185).
+for name, sign in (("plus", b"+"), ("minus", b"-")):
+    refused(f"records_49_{name}.bai", k1(line5=b"49,1000," + sign + b"3/"), 8, 159, sign + b"3/")
+    refused(f"accounts_98_{name}.bai", k1(line6=b"98,1000," + sign + b"1,5/"), 8, 170, sign + b"1,5/")
+    refused(f"records_98_{name}.bai", k1(line6=b"98,1000,1," + sign + b"5/"), 8, 172, sign + b"5/")
+    refused(f"groups_99_{name}.bai", k1(line7=b"99,1000," + sign + b"1,7/"), 8, 183, sign + b"1,7/")
+    refused(f"records_99_{name}.bai", k1(line7=b"99,1000,1," + sign + b"7/"), 8, 185, sign + b"7/")
+
+# What is no amount of any kind: of a status and of a summary at 105, of a detail at 120.
+for name, amount in (("plus_alone", b"+"), ("two_pluses", b"++5"), ("plus_minus", b"+-5"), ("plus_behind", b"5+"),
+                     ("plus_blank", b"+ 5"), ("blank_plus", b" +5"), ("19_zeros", b"0" + ZEROS),
+                     ("plus_19_zeros", b"+0" + ZEROS)):
+    refused(f"status_amount_{name}.bai", k1(line3=b"03,0975312468,USD,010," + amount + b",,/"),
+            8, 105, amount + b",,/")
+    refused(f"summary_amount_{name}.bai", k1(line3=b"03,0975312468,USD,100," + amount + b",,/"),
+            8, 105, amount + b",,/")
+    refused(f"detail_amount_{name}.bai", detail(b"16,165," + amount + b",1,DD1620,,/"), 8, 120, amount + b",1,DD")
+# A minus of a summary and of a detail, before zeros, alone, or behind the digits.
+for name, amount in (("minus_0", b"-0"), ("minus_18_zeros", b"-" + ZEROS), ("minus_alone", b"-"),
+                     ("minus_behind", b"5-")):
+    refused(f"summary_amount_{name}.bai", k1(line3=b"03,0975312468,USD,100," + amount + b",,/"),
+            8, 105, amount + b",,/")
+    refused(f"detail_amount_{name}.bai", detail(b"16,165," + amount + b",1,DD1620,,/"), 8, 120, amount + b",1,DD")
+# Of a status: a minus before a plus, and before an 88 that has the digits.
+refused("status_amount_minus_plus.bai", k1(line3=b"03,0975312468,USD,010,-+5,,/"), 8, 105, b"-+5,")
+refused("status_amount_minus_then_88.bai", account(b"03,0975312468,USD,010,-/", b"88,500,,/"), 8, 105, b"-/\n88")
+# An item count has no sign; behind "100,1," it is at 107.
+for name, count in (("plus", b"+1"), ("minus", b"-1"), ("minus_0", b"-0"), ("plus_alone", b"+")):
+    refused(f"count_{name}.bai", k1(line3=b"03,0975312468,USD,100,1," + count + b",/"), 8, 107, count + b",/")
+# Nor has an amount after S: in the 16 the three are at 127, 129 and 131; in a 03, behind "100,5,,S,", the
+# first is at 110.
+refused("funds_s_minus.bai", detail(b"16,165,1500,S,-500,,,,,/"), 8, 127, b"-500,")
+refused("funds_s_minus_0.bai", detail(b"16,165,1500,S,-0,,,,,/"), 8, 127, b"-0,")
+refused("funds_s_second_plus.bai", detail(b"16,165,1500,S,5,+0,,,,/"), 8, 129, b"+0,")
+refused("funds_s_third_minus.bai", detail(b"16,165,1500,S,5,5,-5,,,/"), 8, 131, b"-5,")
+refused("funds_s_plus_alone.bai", detail(b"16,165,1500,S,+,,,,,/"), 8, 127, b"+,")
+refused("funds_s_plus_in_03.bai", k1(line3=b"03,0975312468,USD,100,5,,S,+5,,/"), 8, 110, b"+5,,/")
+# Nor what follows D: X at 127, the days at 129, the amount at 131; in a 03, behind "100,5,,D,1,0,", at 114.
+refused("funds_d_x_plus.bai", detail(b"16,165,1500,D,+1,0,5,,,/"), 8, 127, b"+1,0")
+refused("funds_d_days_plus.bai", detail(b"16,165,1500,D,1,+0,5,,,/"), 8, 129, b"+0,5")
+refused("funds_d_plus.bai", detail(b"16,165,1500,D,1,0,+5,,,/"), 8, 131, b"+5,")
+refused("funds_d_minus.bai", detail(b"16,165,1500,D,1,0,-5,,,/"), 8, 131, b"-5,")
+refused("funds_d_minus_0.bai", detail(b"16,165,1500,D,1,0,-0,,,/"), 8, 131, b"-0,")
+refused("funds_d_19.bai", detail(b"16,165,1500,D,1,0,0" + ZEROS + b",,,/"), 8, 131, b"0" + ZEROS + b",")
+refused("funds_d_minus_in_03.bai", k1(line3=b"03,0975312468,USD,100,5,,D,1,0,-5/"), 8, 114, b"-5/")
 
 # ---- Long continuations ----
 

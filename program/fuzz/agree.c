@@ -1,5 +1,5 @@
 /* Whether the library's calls say the same about one file: of any bytes the records that are handed
-   out, with their fields; of an accepted file also its summary, parts and details. */
+   out, with their fields; of an accepted file also its summary, parts, items and details. */
 #include "agree.h"
 
 #include "record.h"
@@ -49,14 +49,29 @@ bool records_hold(slice file)
     return good;
 }
 
-/* The sum of a record's items, or its detail's amount. It may run over on bytes that are no file, so it
-   has no sign. */
+/* An amount or a total without its sign; an empty one counts 0. */
+static uint64_t magnitude_of(slice amount)
+{
+    enum bai2_amount_form form = form_of(amount);
+    bool has_sign = form == BAI2_AMOUNT_WITH_PLUS || form == BAI2_AMOUNT_WITH_MINUS;
+    return number_of(part_of(amount, has_sign ? 1 : 0, amount.length));
+}
+
+/* What an amount or a total counts. Sums may run over on bytes that are no file, so a minus is a number
+   that runs over. */
+static uint64_t units_of(slice amount)
+{
+    uint64_t magnitude = magnitude_of(amount);
+    return form_of(amount) == BAI2_AMOUNT_WITH_MINUS ? 0 - magnitude : magnitude;
+}
+
+/* The sum of a record's items, or its detail's amount. */
 uint64_t amounts_of(const fields *f)
 {
     uint64_t total = 0;
     size_t at = 0;
     for (entry e; next_entry(f, &at, &e);)
-        total += (uint64_t)units_of(e.amount);
+        total += units_of(e.amount);
     return total;
 }
 
@@ -71,7 +86,7 @@ typedef struct {
 /* Whether a trailer states this total; the total is handed on to the level above and begins anew. */
 static bool closes_with(const fields *f, uint64_t *total, uint64_t *above)
 {
-    bool same = (uint64_t)units_of(trailer_of(f).total) == *total;
+    bool same = units_of(trailer_of(f).total) == *total;
     *above += *total;
     *total = 0;
     return same;
@@ -110,6 +125,30 @@ static bool same_part(const outline *o, size_t i, bai2_part part)
         && part.length == last->start + last->length - first->start;
 }
 
+/* Whether an amount was answered as its field gives it. */
+static bool same_amount(slice amount, uint64_t form, uint64_t magnitude)
+{
+    return form == form_of(amount) && magnitude == magnitude_of(amount);
+}
+
+/* Whether the item is the one that the fields show. */
+static bool same_item(const entry *e, bai2_item i)
+{
+    return i.number == 0 && i.type == number_of(e->type) && same_amount(e->amount, i.amount_form, i.amount)
+        && i.count_given == (e->count.length > 0) && i.count == number_of(e->count);
+}
+
+/* Whether each item of the account that the walk stands at is the same, and none comes after them. */
+static bool items_agree(slice file, const standing *s, const fields *f)
+{
+    uint64_t group = s->groups - 1, account = s->accounts - 1, item = 0;
+    size_t at = 0;
+    for (entry e; next_entry(f, &at, &e); item++)
+        if (!same_item(&e, bai2_item_of(file.bytes, file.length, group, account, item)))
+            return false;
+    return bai2_item_of(file.bytes, file.length, group, account, item).number == BAI2_NO_SUCH_PART;
+}
+
 /* Whether the detail is the one that the fields show. */
 static bool same_detail(const fields *f, bai2_detail d)
 {
@@ -118,14 +157,15 @@ static bool same_detail(const fields *f, bai2_detail d)
     size_t at = 0, text;
     if (d.number != 0 || !next_entry(f, &at, &e) || d.type != number_of(e.type))
         return false;
-    if (d.amount_given != (e.amount.length > 0) || d.amount != (uint64_t)units_of(e.amount))
+    if (!same_amount(e.amount, d.amount_form, d.amount))
         return false;
     text = place_at(f, at);
     bool given = next_piece(f, &at, &piece);
     return d.text_length == piece.length && d.text_start == (given ? text : 0);
 }
 
-/* Whether the part or detail that begins with the record that the walk stands at is the same. */
+/* Whether the part or detail that begins with the record that the walk stands at is the same, an
+   account's items too. */
 static bool part_agrees(const outline *o, size_t i, const standing *s, const fields *f)
 {
     const uint8_t *file = o->file.bytes;
@@ -133,7 +173,8 @@ static bool part_agrees(const outline *o, size_t i, const standing *s, const fie
     switch (o->records[i].code) {
     case GROUP_HEADER: return same_part(o, i, bai2_group(file, length, s->groups - 1));
     case ACCOUNT_HEADER:
-        return same_part(o, i, bai2_account(file, length, s->groups - 1, s->accounts - 1));
+        return same_part(o, i, bai2_account(file, length, s->groups - 1, s->accounts - 1))
+            && items_agree(o->file, s, f);
     case DETAIL:
         return same_detail(f, bai2_detail_of(file, length, s->groups - 1, s->accounts - 1, s->details - 1));
     default: return true;

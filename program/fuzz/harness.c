@@ -55,6 +55,8 @@ static void try_refused(slice file, bai2_summary s, FILE *to)
     must_hold(part.number == s.number && part.place == s.place && part.length == 0);
     bai2_detail d = bai2_detail_of(file.bytes, file.length, 0, 0, 0);
     must_hold(d.number == s.number && d.place == s.place && d.text_length == 0);
+    bai2_item i = bai2_item_of(file.bytes, file.length, 0, 0, 0);
+    must_hold(i.number == s.number && i.place == s.place && i.amount_form == BAI2_AMOUNT_EMPTY);
     bool of_sums = s.number >= BAI2_AMOUNTS_TOO_LARGE && s.number <= BAI2_SUM_TOO_LARGE;
     must_hold(of_sums == (*refused_field(file, s.number, (size_t)s.place) != '\0'));
     tell_refusal(to, "file", file, s.number, s.place);

@@ -1,10 +1,10 @@
 /* The harness: asks the oracle and the library the same about generated files, and about type codes.
-     compare read|customised|split|combine|parts|writer|records|codes N SEED [CORPUS]
+     compare read|customised|split|combine|parts|writer|amounts|records|codes N SEED [CORPUS]
      compare big [CORPUS]
      compare files FILE...
    At the first difference it prints one line, keeps the input in the folder CORPUS, and ends with
-   status 1. Otherwise the last line says how many files, starts of records or numbers were asked
-   about. */
+   status 1. Otherwise the last line says how many files, details and items, starts of records or
+   numbers were asked about. */
 #include <inttypes.h>
 #include <stdio.h>
 #include <stdlib.h>
@@ -222,6 +222,24 @@ static int compare_many(const mode *m, uint64_t count, uint64_t seed, const char
     return 0;
 }
 
+/* Compares at least N details and N items that are told, of generated files with amounts of every form. */
+static int compare_amounts(uint64_t count, uint64_t seed, const char *corpus)
+{
+    told all = {0};
+    for (uint64_t i = 0; all.details < count || all.items < count; i++) {
+        dice d = dice_for("amounts", seed, i, corpus);
+        d.amounts = true;
+        told more = ask_amounts(&d, some_file(&d, 0, 700));
+        numbers[verdict.number]++;
+        all.details += more.details;
+        all.items += more.items;
+    }
+    print_forms();
+    print_numbers();
+    printf("compare amounts: %" PRIu64 " details, %" PRIu64 " items, 0 differences\n", all.details, all.items);
+    return 0;
+}
+
 /* Compares records and fields from at least N starts of generated files. */
 static int compare_records(uint64_t count, uint64_t seed, const char *corpus)
 {
@@ -271,7 +289,7 @@ static int compare_files(int count, char **paths)
 /* Says how to call the program. */
 static int usage(void)
 {
-    fputs("usage: compare read|customised|split|combine|parts|writer|records|codes N SEED [CORPUS]\n"
+    fputs("usage: compare read|customised|split|combine|parts|writer|amounts|records|codes N SEED [CORPUS]\n"
           "       compare big [CORPUS]\n"
           "       compare files FILE...\n", stderr);
     return 2;
@@ -295,6 +313,8 @@ int main(int count, char **arguments)
         return usage();
     uint64_t asked = strtoull(arguments[2], NULL, 10), seed = strtoull(arguments[3], NULL, 10);
     const char *corpus = count == 5 ? arguments[4] : NULL;
+    if (strcmp(arguments[1], "amounts") == 0)
+        return compare_amounts(asked, seed, corpus);
     if (strcmp(arguments[1], "records") == 0)
         return compare_records(asked, seed, corpus);
     if (strcmp(arguments[1], "codes") == 0)

@@ -19,6 +19,7 @@ typedef struct {
     __typeof__(bai2_group) *group;
     __typeof__(bai2_account) *account;
     __typeof__(bai2_detail_of) *detail_of;
+    __typeof__(bai2_item_of) *item_of;
     __typeof__(bai2_record_at) *record_at;
     __typeof__(bai2_fields_at) *fields_at;
     __typeof__(bai2_code_of) *code_of;
@@ -59,6 +60,8 @@ void must_hold(const char *fact, int holds);
     same_figures(call, &(by_oracle), &(by_library), sizeof(by_oracle) / sizeof(uint64_t))
 
 bai2_summary ask_read(slice file);
+bai2_detail ask_detail(slice file, uint64_t group, uint64_t account, uint64_t detail);
+bai2_item ask_item(slice file, uint64_t group, uint64_t account, uint64_t item);
 void ask_all_parts(dice *d, slice file);
 bai2_answer ask_split(slice name, slice file, size_t out_length);
 bai2_combined ask_combine(slice a, slice b, size_t out_length);
@@ -67,7 +70,14 @@ bai2_record ask_record(slice file, uint64_t start);
 bai2_fields ask_fields(slice file, uint64_t start, size_t out_length);
 bai2_code ask_code(uint64_t code);
 
-/* compare_records.c, compare_codes.c, compare_writer.c, compare_big.c */
+/* How many details and items were told, not refused. */
+typedef struct {
+    uint64_t details, items;
+} told;
+
+/* compare_amounts.c, compare_records.c, compare_codes.c, compare_writer.c, compare_big.c */
+told ask_amounts(dice *d, slice file);
+void print_forms(void);
 uint64_t ask_starts(dice *d, slice file, bai2_summary verdict, uint64_t *numbers);
 void print_kinds(void);
 void print_types(void);

@@ -12,15 +12,15 @@
 #include "oracle.h"
 
 const side oracle = {
-    oracle_read, oracle_group, oracle_account, oracle_detail_of, oracle_record_at, oracle_fields_at,
-    oracle_code_of, oracle_split, oracle_combine,
+    oracle_read, oracle_group, oracle_account, oracle_detail_of, oracle_item_of, oracle_record_at,
+    oracle_fields_at, oracle_code_of, oracle_split, oracle_combine,
     oracle_writer_new, oracle_write_header, oracle_write_group, oracle_write_account,
     oracle_write_item, oracle_write_detail, oracle_write_end_account, oracle_write_end_group,
     oracle_write_end_file};
 
 const side library = {
-    bai2_read, bai2_group, bai2_account, bai2_detail_of, bai2_record_at, bai2_fields_at,
-    bai2_code_of, bai2_split, bai2_combine,
+    bai2_read, bai2_group, bai2_account, bai2_detail_of, bai2_item_of, bai2_record_at,
+    bai2_fields_at, bai2_code_of, bai2_split, bai2_combine,
     bai2_writer_new, bai2_write_header, bai2_write_group, bai2_write_account,
     bai2_write_item, bai2_write_detail, bai2_write_end_account, bai2_write_end_group,
     bai2_write_end_file};
@@ -181,11 +181,20 @@ static bai2_part ask_account(slice file, uint64_t group, uint64_t account)
 }
 
 /* Asks both for a detail; the oracle's answer. */
-static bai2_detail ask_detail(slice file, uint64_t group, uint64_t account, uint64_t detail)
+bai2_detail ask_detail(slice file, uint64_t group, uint64_t account, uint64_t detail)
 {
     bai2_detail one = oracle.detail_of(file.bytes, file.length, group, account, detail);
     bai2_detail other = library.detail_of(file.bytes, file.length, group, account, detail);
     SAME("detail", one, other);
+    return one;
+}
+
+/* Asks both for an item; the oracle's answer. */
+bai2_item ask_item(slice file, uint64_t group, uint64_t account, uint64_t item)
+{
+    bai2_item one = oracle.item_of(file.bytes, file.length, group, account, item);
+    bai2_item other = library.item_of(file.bytes, file.length, group, account, item);
+    SAME("item", one, other);
     return one;
 }
 
@@ -195,21 +204,24 @@ static int worth_asking(dice *d, slice file, uint64_t number)
     return file.length < 3000 || number == 0 || chance(d, file.length < 30000 ? 100 : 10);
 }
 
-/* Asks for every account of a group, every detail of an account, and one past each. */
+/* Asks for every account of a group, every detail and item of an account, and one past each. */
 static void ask_accounts(dice *d, slice file, uint64_t group)
 {
     for (uint64_t account = 0;; account++) {
         if (!worth_asking(d, file, account))
             break;
         int there = ask_account(file, group, account).number == 0;
-        uint64_t detail = 0;
+        uint64_t detail = 0, item = 0;
         while (ask_detail(file, group, account, detail).number == 0 && worth_asking(d, file, detail))
             detail++;
+        while (ask_item(file, group, account, item).number == 0 && worth_asking(d, file, item))
+            item++;
         if (!there)
             break;
     }
     ask_account(file, group, UINT64_MAX);
     ask_detail(file, group, 0, UINT64_MAX);
+    ask_item(file, group, 0, UINT64_MAX);
 }
 
 /* Asks both for parts of every number, and one past. */
@@ -225,6 +237,7 @@ void ask_all_parts(dice *d, slice file)
     ask_group(file, UINT64_MAX);
     ask_account(file, UINT64_MAX, 0);
     ask_detail(file, UINT64_MAX, UINT64_MAX, UINT64_MAX);
+    ask_item(file, UINT64_MAX, UINT64_MAX, UINT64_MAX);
 }
 
 /* Two output slices of that length, filled with the pattern, with a fringe in front. */

@@ -113,6 +113,9 @@ static void long_account(buffer *b)
     add_row(b, "98,%zu,1,%zu/\n", 1, lines + 3);
     add_row(b, "99,%zu,1,%zu/\n", 1, lines + 5);
     read_as("an account over 88s to the end", b, 0, 0);
+    slice file = lent(0, b);
+    must_hold("its last item", ask_item(file, 0, 0, lines / 3).number == 0);
+    must_hold("one past it", ask_item(file, 0, 0, lines / 3 + 1).number == 17);
 }
 
 /* A 16 whose text goes on over 88s to the file's end. */
@@ -254,11 +257,8 @@ static void big_parts(buffer *b)
     slice file = lent(0, b);
     asked++;
     name_inputs(file, (slice){0});
-    for (uint64_t detail = 299998; detail < 300002; detail++) {
-        bai2_detail one = oracle.detail_of(file.bytes, file.length, 0, 0, detail);
-        bai2_detail other = library.detail_of(file.bytes, file.length, 0, 0, detail);
-        SAME("detail", one, other);
-    }
+    for (uint64_t detail = 299998; detail < 300002; detail++)
+        ask_detail(file, 0, 0, detail);
     dice d = dice_of(1);
     ask_all_parts(&d, file);
 }

@@ -156,15 +156,21 @@ static void put(maker *m, const char *field)
     put_bytes(m, field, strlen(field));
 }
 
+/* Adds a field with that value, leading zeros to that many digits. */
+static void put_digits(maker *m, const char *sign, uint64_t value, int width)
+{
+    char field[64];
+    snprintf(field, sizeof field, "%s%0*llu", sign, width, (unsigned long long)value);
+    put(m, field);
+}
+
 /* Adds a field of up to `longest` digits with that value, leading zeros now and then. */
 static void put_number(maker *m, const char *sign, uint64_t value, int longest)
 {
-    char field[64];
-    int width = chance(m->dice, 150) ? (int)between(m->dice, 1, (size_t)longest) : 1;
+    int width = chance(m->dice, m->dice->amounts ? 400 : 150) ? (int)between(m->dice, 1, (size_t)longest) : 1;
     if (slips(m, LONG_DIGITS))
         width = longest + 1;
-    snprintf(field, sizeof field, "%s%0*llu", sign, width, (unsigned long long)value);
-    put(m, field);
+    put_digits(m, sign, value, width);
 }
 
 /* Adds a name of a length that the limit allows. */
@@ -269,6 +275,28 @@ static uint64_t some_magnitude(maker *m)
     return magnitude <= m->budget ? magnitude : m->budget;
 }
 
+/* Adds an amount in any of the forms that its place takes, with digits that tell the forms apart: zeros,
+   leading zeros, 18 digits, and now and then all that the bound still allows. */
+static void put_telling_amount(maker *m, bool minus_allowed)
+{
+    static const struct {
+        uint64_t magnitude;
+        int width;
+    } digits[] = {{0, 1}, {0, 1}, {0, 3}, {0, 18}, {5, 1}, {7, 3}, {500, 1}, {1, 18}};
+    static const char *const signs[] = {NULL, "", "+", "-"};
+    const char *sign = signs[roll(m->dice, minus_allowed ? 4 : 3)];
+    size_t i = (size_t)roll(m->dice, sizeof digits / sizeof *digits);
+    uint64_t magnitude = chance(m->dice, 20) ? m->budget : digits[i].magnitude;
+    if (magnitude > m->budget)
+        magnitude = 0;
+    if (sign == NULL) {
+        put(m, "");
+        return;
+    }
+    count_amount(m, magnitude, sign[0] == '-');
+    put_digits(m, sign, magnitude, digits[i].width);
+}
+
 /* Adds an item or detail amount; empty now and then. */
 static void put_amount(maker *m, bool minus_allowed)
 {
@@ -276,7 +304,10 @@ static void put_amount(maker *m, bool minus_allowed)
         put(m, PICK(m->dice, "-", "+", "--1", "1-", "+-1", " 1", "1:", minus_allowed ? "-+0" : "-0",
                     minus_allowed ? "1 " : "-500", "1.0"));
     } else if (slips(m, OVER_BOUND)) {
-        put_number(m, "", m->budget + 1 + roll(m->dice, 2) * roll(m->dice, 1000), 18);
+        put_number(m, PICK(m->dice, "", "+", minus_allowed ? "-" : ""),
+                   m->budget + 1 + roll(m->dice, 2) * roll(m->dice, 1000), 18);
+    } else if (m->dice->amounts && chance(m->dice, 800)) {
+        put_telling_amount(m, minus_allowed);
     } else if (chance(m->dice, 150)) {
         put(m, "");
     } else {
@@ -624,7 +655,7 @@ static maker new_maker(dice *d, buffer *out)
 /* Adds the file's groups: mostly few, now and then many. */
 static void put_groups(maker *m)
 {
-    size_t size = roll(m->dice, 100);
+    size_t size = roll(m->dice, m->dice->amounts ? 45 : 100);
     size_t most_groups = size < 40 ? 1 : size < 90 ? 4 : size < 99 ? 8 : 30;
     size_t most_accounts = size < 40 ? 2 : size < 90 ? 3 : size < 99 ? 6 : 12;
     size_t most_details = size < 40 ? 2 : size < 90 ? 3 : size < 99 ? 10 : 20;

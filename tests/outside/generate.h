@@ -11,6 +11,7 @@
 typedef struct {
     uint64_t state;
     bool customised; /* most types of the files are of 890 to 930, some of 900 to 999 */
+    bool amounts;    /* the files are small, and most of their amounts and counts of a form to tell apart */
 } dice;
 
 dice dice_of(uint64_t seed);

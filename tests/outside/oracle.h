@@ -15,6 +15,9 @@ bai2_part oracle_account(const uint8_t *file, size_t file_length, uint64_t group
 bai2_detail oracle_detail_of(const uint8_t *file, size_t file_length,
                              uint64_t group, uint64_t account, uint64_t detail);
 
+bai2_item oracle_item_of(const uint8_t *file, size_t file_length,
+                         uint64_t group, uint64_t account, uint64_t item);
+
 bai2_record oracle_record_at(const uint8_t *file, size_t file_length, uint64_t start);
 
 bai2_fields oracle_fields_at(const uint8_t *file, size_t file_length, uint64_t start,

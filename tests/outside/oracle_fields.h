@@ -1,11 +1,13 @@
-/* Document 01, "Fields", and document 02, 2026-02: what a single field may hold. Inline, for the
-   reader's innermost loop. */
+/* Document 01, "Fields", and document 02, 2026-02 and 2026-03: what a single field may hold. Inline, for
+   the reader's innermost loop. */
 #ifndef ORACLE_FIELDS_H
 #define ORACLE_FIELDS_H
 
 #include <stdbool.h>
 #include <stddef.h>
 #include <stdint.h>
+
+#include "bai2.h"
 
 enum {
     LONGEST_NAME = 76,
@@ -18,11 +20,19 @@ typedef struct {
     size_t length;
 } slice;
 
-/* An amount as a field gives it. */
+/* An amount as a field gives it: how (one of bai2_amount_form), and its magnitude, 0 where it is empty. */
 typedef struct {
-    uint64_t magnitude;
-    bool minus;
-} signed_amount;
+    uint64_t form, magnitude;
+} given_amount;
+
+/* The forms that an amount may have in each of its places, a bit for each. */
+enum {
+    DAY_FORMS = 1 << BAI2_AMOUNT_UNSIGNED,                    /* of D's pairs */
+    SPLIT_FORMS = 1 << BAI2_AMOUNT_EMPTY | DAY_FORMS,         /* after S */
+    PLUS_FORMS = SPLIT_FORMS | 1 << BAI2_AMOUNT_WITH_PLUS,    /* of summaries and details */
+    STATUS_FORMS = PLUS_FORMS | 1 << BAI2_AMOUNT_WITH_MINUS,
+    TOTAL_FORMS = STATUS_FORMS & ~(1 << BAI2_AMOUNT_EMPTY)    /* of trailers */
+};
 
 typedef enum {
     NO_TYPE,      /* no type at all, or one that neither 03 nor 16 takes */
@@ -147,16 +157,30 @@ static inline bool is_detail_class(type_class class)
     return class == SUMMARY_TYPE || class == NOTE_TYPE;
 }
 
-/* Whether the field is 1 to 18 digits after an optional plus, or minus where that is allowed. */
-static inline bool is_signed_amount(slice field, bool minus_allowed, signed_amount *amount)
+/* The form of an amount, by how its field begins. */
+static inline uint64_t form_of(slice field)
 {
-    amount->minus = false;
-    if (field.length > 0 && (field.bytes[0] == '+' || (minus_allowed && field.bytes[0] == '-'))) {
-        amount->minus = field.bytes[0] == '-';
-        field.bytes++;
-        field.length--;
+    if (field.length == 0)
+        return BAI2_AMOUNT_EMPTY;
+    switch (field.bytes[0]) {
+    case '+': return BAI2_AMOUNT_WITH_PLUS;
+    case '-': return BAI2_AMOUNT_WITH_MINUS;
+    default: return BAI2_AMOUNT_UNSIGNED;
     }
-    return is_number(field, LONGEST_AMOUNT, &amount->magnitude);
+}
+
+/* Whether the field is an amount in one of these forms: nothing, or 1 to 18 digits after the sign. What
+   it gives goes to `amount`. */
+static inline bool is_amount(slice field, unsigned forms, given_amount *amount)
+{
+    *amount = (given_amount){.form = form_of(field)};
+    if ((forms >> amount->form & 1) == 0)
+        return false;
+    if (amount->form == BAI2_AMOUNT_EMPTY)
+        return true;
+    size_t sign = amount->form != BAI2_AMOUNT_UNSIGNED;
+    return is_number((slice){field.bytes + sign, field.length - sign}, LONGEST_AMOUNT,
+                     &amount->magnitude);
 }
 
 /* Whether all bytes may stand in a field: allowed ones, no comma, no slash. */

@@ -43,6 +43,14 @@ typedef struct {
     uint64_t pluses, minuses, groups, accounts, details, lines;
 } tally;
 
+/* What an item or a detail gives. */
+typedef struct {
+    uint64_t type;
+    given_amount amount;
+    bool count_given;
+    uint64_t count;
+} posting;
+
 /* One line of a file: its bytes without the line end, and where the next one starts. */
 typedef struct {
     size_t start, end, next;
@@ -58,9 +66,10 @@ typedef struct {
     slice receiver;      /* 02: the ultimate receiver */
     uint64_t pluses, minuses;
     size_t too_large;    /* the amount that takes the magnitudes past the bound, or 0 */
-    uint64_t type;       /* 16 */
-    bool amount_given;
-    uint64_t amount;
+    posting last;        /* 16: what it gives; 03: what its last item gives */
+    uint64_t items;      /* 03: how many it has, */
+    uint64_t asked;      /* the number of one, */
+    posting item;        /* and what that one gives */
     size_t text_start, text_length;
     int64_t total;       /* 49, 98, 99: what they state, and where */
     uint64_t count, records;
@@ -75,6 +84,7 @@ typedef struct {
     file_phase phase;
     tally whole, group, account;
     size_t group_start, account_start;
+    uint64_t asked; /* the number of the item that each 03 keeps */
     refusal refusal;
 } reader;
 

@@ -1,4 +1,5 @@
-/* Parts of an accepted file (document 01, "Parts, combining, splitting, writing"): refusal 17. */
+/* Parts of an accepted file (document 01, "Parts, combining, splitting, writing"), its details and items
+   with the forms of their amounts (document 02, 2026-03): refusal 17. */
 #include "oracle_inner.h"
 
 /* The refusal of a part: the reader's, else 17 where the part was not found. */
@@ -75,7 +76,7 @@ bai2_detail oracle_detail_of(const uint8_t *file, size_t file_length,
     while (oracle_next_record(&r, &rec)) {
         if (rec.code == DETAIL && in_account(&r, group, account) && r.account.details - 1 == detail) {
             found = true;
-            answer = (bai2_detail){0, 0, rec.type, rec.amount_given, rec.amount,
+            answer = (bai2_detail){0, 0, rec.last.type, rec.last.amount.form, rec.last.amount.magnitude,
                                    rec.text_start, rec.text_length};
         }
     }
@@ -83,4 +84,26 @@ bai2_detail oracle_detail_of(const uint8_t *file, size_t file_length,
     if (refused.number != 0)
         return (bai2_detail){.number = refused.number, .place = refused.place};
     return answer;
+}
+
+/* The item of that number in the 03 of that account of that group. */
+bai2_item oracle_item_of(const uint8_t *file, size_t file_length,
+                         uint64_t group, uint64_t account, uint64_t item)
+{
+    reader r = oracle_open(file, file_length);
+    record rec;
+    bool found = false;
+    posting kept = {0};
+    r.asked = item;
+    while (oracle_next_record(&r, &rec)) {
+        if (rec.code == ACCOUNT_HEADER && in_account(&r, group, account) && item < rec.items) {
+            found = true;
+            kept = rec.item;
+        }
+    }
+    refusal refused = part_refusal(&r, found);
+    if (refused.number != 0)
+        return (bai2_item){.number = refused.number, .place = refused.place};
+    return (bai2_item){0, 0, kept.type, kept.amount.form, kept.amount.magnitude, kept.count_given,
+                       kept.count};
 }

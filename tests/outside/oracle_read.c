@@ -73,7 +73,7 @@ static refusal check_line(const reader *r, line l)
 static refusal find_record(const reader *r, record *rec)
 {
     size_t at = r->next;
-    *rec = (record){.start = at};
+    *rec = (record){.start = at, .asked = r->asked};
     do {
         line l = oracle_line_at(r->file, r->length, at);
         refusal fault = check_line(r, l);

@@ -138,30 +138,26 @@ static want group_field(walk *w, slice field)
 }
 
 /* Adds an amount to the record's; the first that passes the file's bound is remembered. */
-static void add_amount(walk *w, signed_amount amount, size_t place)
+static void add_amount(walk *w, given_amount amount, size_t place)
 {
     if (w->rec->too_large != 0)
         return;
     w->magnitudes += amount.magnitude;
     if (w->magnitudes > GREATEST_SUM)
         w->rec->too_large = place;
-    else if (amount.minus)
+    else if (amount.form == BAI2_AMOUNT_WITH_MINUS)
         w->rec->minuses += amount.magnitude;
     else
         w->rec->pluses += amount.magnitude;
 }
 
 /* Judges an item's or detail's amount and adds it up; `next` is wanted after it. */
-static want take_amount(walk *w, slice field, bool minus_allowed, want next)
+static want take_amount(walk *w, slice field, unsigned forms, want next)
 {
-    signed_amount amount;
-    if (field.length == 0)
-        return next;
-    if (!is_signed_amount(field, minus_allowed, &amount))
+    given_amount *amount = &w->rec->last.amount;
+    if (!is_amount(field, forms, amount))
         return WRONG;
-    w->rec->amount_given = true;
-    w->rec->amount = amount.magnitude;
-    add_amount(w, amount, (size_t)(field.bytes - w->file));
+    add_amount(w, *amount, (size_t)(field.bytes - w->file));
     return next;
 }
 
@@ -187,11 +183,18 @@ static want take_pairs(walk *w, slice field)
     return then(is_number(field, 3, &w->pairs) && w->pairs > 0, D_DAYS);
 }
 
+/* Judges one of the amounts after S; `next` is wanted after it. */
+static want take_split_amount(slice field, want next)
+{
+    given_amount amount;
+    return then(is_amount(field, SPLIT_FORMS, &amount), next);
+}
+
 /* Judges the amount of one of D's pairs. */
 static want take_pair_amount(walk *w, slice field)
 {
-    uint64_t amount;
-    if (!is_number(field, LONGEST_AMOUNT, &amount))
+    given_amount amount;
+    if (!is_amount(field, DAY_FORMS, &amount))
         return WRONG;
     w->pairs--;
     return w->pairs > 0 ? D_DAYS : after_funds(w);
@@ -203,9 +206,9 @@ static want funds_field(walk *w, slice field)
     uint64_t days;
     switch (w->wanted) {
     case FUNDS: return take_funds(w, field);
-    case S_FIRST: return then(is_optional_number(field, LONGEST_AMOUNT), S_SECOND);
-    case S_SECOND: return then(is_optional_number(field, LONGEST_AMOUNT), S_THIRD);
-    case S_THIRD: return then(is_optional_number(field, LONGEST_AMOUNT), after_funds(w));
+    case S_FIRST: return take_split_amount(field, S_SECOND);
+    case S_SECOND: return take_split_amount(field, S_THIRD);
+    case S_THIRD: return take_split_amount(field, after_funds(w));
     case V_DATE: return then(is_date(field), V_TIME);
     case V_TIME: return then(is_optional_time(field), after_funds(w));
     case D_PAIRS: return take_pairs(w, field);
@@ -216,15 +219,28 @@ static want funds_field(walk *w, slice field)
 }
 
 /* Judges the type of a 03's item. */
-static want take_item_type(const walk *w, slice field)
+static want take_item_type(walk *w, slice field)
 {
-    uint64_t type;
     if (field.length == 0)
         return w->wanted == FIRST_TYPE ? NO_ITEM_AMOUNT : WRONG;
-    type_class class = class_of(field, &type);
+    type_class class = class_of(field, &w->rec->last.type);
     if (class == STATUS_TYPE)
         return STATUS_AMOUNT;
     return then(is_item_class(class), ITEM_AMOUNT);
+}
+
+/* Judges an item's count of up to that many digits; `next` is wanted after it. The item, which has all
+   that it gives by now, is kept where it is the one that is asked for. */
+static want take_item_count(walk *w, slice field, size_t longest, want next)
+{
+    record *r = w->rec;
+    r->last.count = 0;
+    r->last.count_given = field.length > 0;
+    if (r->last.count_given && !is_number(field, longest, &r->last.count))
+        return WRONG;
+    if (r->items++ == r->asked)
+        r->item = r->last;
+    return next;
 }
 
 /* Judges a field of a 03. */
@@ -234,10 +250,10 @@ static want account_field(walk *w, slice field)
     case ACCOUNT_NUMBER: return then(is_name(field, 1), ACCOUNT_CURRENCY);
     case ACCOUNT_CURRENCY: return then(is_currency(field), FIRST_TYPE);
     case FIRST_TYPE: case NEXT_TYPE: return take_item_type(w, field);
-    case ITEM_AMOUNT: return take_amount(w, field, false, ITEM_COUNT);
-    case ITEM_COUNT: return then(is_optional_number(field, LONGEST_COUNT), FUNDS);
-    case STATUS_AMOUNT: return take_amount(w, field, true, STATUS_COUNT);
-    case STATUS_COUNT: return then(field.length == 0, STATUS_FUNDS);
+    case ITEM_AMOUNT: return take_amount(w, field, PLUS_FORMS, ITEM_COUNT);
+    case ITEM_COUNT: return take_item_count(w, field, LONGEST_COUNT, FUNDS);
+    case STATUS_AMOUNT: return take_amount(w, field, STATUS_FORMS, STATUS_COUNT);
+    case STATUS_COUNT: return take_item_count(w, field, 0, STATUS_FUNDS);
     case STATUS_FUNDS: return then(field.length == 0, NEXT_TYPE);
     case NO_ITEM_AMOUNT: return then(field.length == 0, NO_ITEM_COUNT);
     case NO_ITEM_COUNT: return then(field.length == 0, NO_ITEM_FUNDS);
@@ -249,7 +265,7 @@ static want account_field(walk *w, slice field)
 /* Judges the type of a 16. */
 static want take_detail_type(walk *w, slice field)
 {
-    type_class class = class_of(field, &w->rec->type);
+    type_class class = class_of(field, &w->rec->last.type);
     if (class == NOTE_TYPE)
         return NOTE_AMOUNT;
     return then(is_detail_class(class), ITEM_AMOUNT);
@@ -260,7 +276,7 @@ static want detail_field(walk *w, slice field)
 {
     switch (w->wanted) {
     case DETAIL_TYPE: return take_detail_type(w, field);
-    case ITEM_AMOUNT: return take_amount(w, field, false, FUNDS);
+    case ITEM_AMOUNT: return take_amount(w, field, PLUS_FORMS, FUNDS);
     case NOTE_AMOUNT: return then(field.length == 0, NOTE_FUNDS);
     case NOTE_FUNDS: return then(field.length == 0, BANK_REFERENCE);
     case BANK_REFERENCE: return then(is_name(field, 0), CUSTOMER_REFERENCE);
@@ -272,10 +288,11 @@ static want detail_field(walk *w, slice field)
 /* Judges a trailer's total. */
 static want take_total(walk *w, slice field)
 {
-    signed_amount total;
-    if (!is_signed_amount(field, true, &total))
+    given_amount total;
+    if (!is_amount(field, TOTAL_FORMS, &total))
         return WRONG;
-    w->rec->total = total.minus ? -(int64_t)total.magnitude : (int64_t)total.magnitude;
+    int64_t magnitude = (int64_t)total.magnitude;
+    w->rec->total = total.form == BAI2_AMOUNT_WITH_MINUS ? -magnitude : magnitude;
     w->rec->total_place = (size_t)(field.bytes - w->file);
     return w->rec->code == ACCOUNT_TRAILER ? RECORDS : COUNT;
 }

@@ -3,7 +3,9 @@
    BUG_88_NOT_COUNTED, BUG_DEBIT_SUBTRACTED, BUG_TEXT_CUT, BUG_ZERO_DROPPED, BUG_PLACE_OFF,
    BUG_BYTE_BEHIND, BUG_REFUSED_MOVES; of records and fields BUG_88_NOT_A_LINE, BUG_PIECE_CUT,
    BUG_PLACE_IN_RECORD, BUG_FAULT_IN_RECORD, BUG_NO_ROOM_WRITES, BUG_START_CUT; of type codes
-   BUG_LEVEL_CHANGED, BUG_CODE_CUT; of customised ones BUG_900_NO_STATUS.
+   BUG_LEVEL_CHANGED, BUG_CODE_CUT; of customised ones BUG_900_NO_STATUS; of a detail's amount
+   BUG_DETAIL_PLUS_LOST, BUG_DETAIL_EMPTY_AS_0; of items BUG_MINUS_AS_PLUS, BUG_PLUS_AS_UNSIGNED,
+   BUG_EMPTY_AS_0, BUG_MINUS_0_AS_UNSIGNED, BUG_FORM_OF_SECOND, BUG_COUNT_0_AS_NONE, BUG_ITEM_CUT.
    With STAND_IN defined as a weak attribute it answers only the calls that the library lacks. */
 #include <stdlib.h>
 #include <string.h>
@@ -98,7 +100,50 @@ STAND_IN bai2_detail bai2_detail_of(const uint8_t *file, size_t file_length,
     if (slash != NULL)
         d.text_length = (uint64_t)(slash - file) - d.text_start;
 #endif
+#ifdef BUG_DETAIL_PLUS_LOST
+    if (d.amount_form == BAI2_AMOUNT_WITH_PLUS)
+        d.amount_form = BAI2_AMOUNT_UNSIGNED;
+#endif
+#ifdef BUG_DETAIL_EMPTY_AS_0
+    if (d.number == 0 && d.amount_form == BAI2_AMOUNT_EMPTY)
+        d.amount_form = BAI2_AMOUNT_UNSIGNED;
+#endif
     return d;
+}
+
+/* As the oracle, with a bug where one is planted. */
+STAND_IN bai2_item bai2_item_of(const uint8_t *file, size_t file_length,
+                       uint64_t group, uint64_t account, uint64_t item)
+{
+#ifdef BUG_ITEM_CUT
+    item = (uint32_t)item;
+#endif
+    bai2_item i = oracle_item_of(file, file_length, group, account, item);
+#ifdef BUG_MINUS_AS_PLUS
+    if (i.amount_form == BAI2_AMOUNT_WITH_MINUS)
+        i.amount_form = BAI2_AMOUNT_WITH_PLUS;
+#endif
+#ifdef BUG_PLUS_AS_UNSIGNED
+    if (i.amount_form == BAI2_AMOUNT_WITH_PLUS)
+        i.amount_form = BAI2_AMOUNT_UNSIGNED;
+#endif
+#ifdef BUG_EMPTY_AS_0
+    if (i.number == 0 && i.amount_form == BAI2_AMOUNT_EMPTY)
+        i.amount_form = BAI2_AMOUNT_UNSIGNED;
+#endif
+#ifdef BUG_MINUS_0_AS_UNSIGNED
+    if (i.amount_form == BAI2_AMOUNT_WITH_MINUS && i.amount == 0)
+        i.amount_form = BAI2_AMOUNT_UNSIGNED;
+#endif
+#ifdef BUG_FORM_OF_SECOND
+    bai2_item second = oracle_item_of(file, file_length, group, account, 1);
+    if (item == 0 && second.number == 0)
+        i.amount_form = second.amount_form;
+#endif
+#ifdef BUG_COUNT_0_AS_NONE
+    i.count_given = i.count != 0;
+#endif
+    return i;
 }
 
 /* As the oracle, with a bug where one is planted. */

@@ -1,20 +1,19 @@
--- Signs in front of digits, and the amounts that they give. Assumes nothing.
-use Prim.Native.Nat.{ℕ, suc, _-_}
+-- Signs in front of digits. Assumes nothing.
+use Prim.Native.Nat.{ℕ, suc, _-_, _≤_}
 use native.Mathlib.Omega.{arith}
 use mathlib.Core.Path.{_≡_, refl, sym, _∙_}
 use mathlib.Core.List.{[], _∷_}
-use mathlib.Core.Bool.{Bool, true, false, _||_, and-true, and-false, or-true, false≢true}
+use mathlib.Core.Bool.{Bool, true, false, _||_, and-true, and-false, or-true}
 use lib.Dec.{eqb}
 use lib.ListN.{length, getD, take, drop}
 use lib.Seq.{take-all}
 use borrow.Author.Tests.{eq-eqb, ne-eqb}
-use Rattle.rules.specs.Bytes.{Bytes, all, isEmpty, plus, minus, startsWith}
-use Rattle.rules.specs.Numbers.{isDigit, digits, numberFrom, number, withoutSign, signed}
+use Rattle.rules.specs.Bytes.{Bytes, all, plus, minus, startsWith}
+use Rattle.rules.specs.Numbers.{isDigit, digits, number, withoutSign}
+use Rattle.rules.specs.Amounts.{unsigned, amountIn}
 use Rattle.rules.specs.Grammar.{isSigned, isUnsigned}
-use Rattle.base_digits.specs.NumbersRead.{valueOf, amountIn}
 use Rattle.base_digits.proofs.DigitTests.{and-left}
 use Rattle.base_digits.proofs.DigitStrings.{first-low}
-use Rattle.base_digits.proofs.ReadingLaws.{value-is}
 
 -- ---- the first byte
 
@@ -69,10 +68,11 @@ unfolding withoutSign
 no-sign [] e = refl
 no-sign (b ∷ bs) e = let low = first-low b bs e in rw (neither-is b (λ h. omega arith) (λ h. omega arith))
 
--- they are read without a minus
-pub signed-digits : (bs : Bytes) → all isDigit bs ≡ true → signed bs ≡ record { negative = false; magnitude = number bs }
-unfolding signed
-signed-digits bs e = rw (no-minus bs e, no-sign bs e)
+-- they are read as unsigned
+pub unsigned-digits : (bs : Bytes) → 1 ≤ length bs → all isDigit bs ≡ true → amountIn bs ≡ unsigned (number bs)
+unfolding amountIn
+unsigned-digits [] h e = absurd (omega arith)
+unsigned-digits (b ∷ bs) h e = let low = first-low b bs e in rw (ne-eqb b plus (λ p. omega arith), ne-eqb b minus (λ m. omega arith))
 
 -- ---- signed and unsigned
 
@@ -88,16 +88,3 @@ minus-absent f r e p = rw e (p ∙ sym (and-true (digits 1 18 (withoutSign f))))
 pub unsigned-signed : (f : Bytes) → isUnsigned f ≡ true → isSigned f ≡ true
 unfolding isUnsigned isSigned
 unsigned-signed f e = and-left (digits 1 18 (withoutSign f)) _ e
-
--- ---- the amount in a field is the rules' `signed`
-
--- of a signed number
-pub amount-signed : (f : Bytes) → isSigned f ≡ true → amountIn f ≡ signed f
-unfolding amountIn signed isSigned
-amount-signed f e = rw (value-is 1 18 (withoutSign f) e (omega arith))
-
--- of an empty field
-pub amount-empty : (f : Bytes) → isEmpty f ≡ true → amountIn f ≡ signed f
-unfolding amountIn signed isEmpty valueOf withoutSign digits all numberFrom
-amount-empty [] e = refl
-amount-empty (b ∷ f) e = absurd (false≢true e)

@@ -1,20 +1,21 @@
 -- Totals as they are written, read back: the same number, and a minus exactly where it is below 0, so never "-0". Assumes nothing.
 use Prim.Native.Nat.{_+_, _-_, _<_, _≤_}
 use native.Mathlib.Omega.{arith}
-use mathlib.Core.Path.{_≡_, refl, sym, ap, _∙_}
+use mathlib.Core.Path.{_≡_, refl, sym, _∙_}
 use mathlib.Core.Logic.{⊎-elim}
 use mathlib.Core.List.{_∷_}
-use mathlib.Core.Bool.{Bool, true, false}
+use mathlib.Core.Bool.{Bool, true, false, cond}
 use lib.Dec.{leb, ltb}
 use lib.ListN.{length}
 use borrow.Author.Tests.{lt-ltb, le-ltb, ltb-true, ltb-false, leb-true, eq-eqb, eqb-true}
 use Rattle.rules.specs.Bytes.{minus, startsWith}
-use Rattle.rules.specs.Numbers.{number, decimal, withoutSign, Signed, signed, Sum, asSum, equals, withinMost, totalBytes}
+use Rattle.rules.specs.Numbers.{number, decimal, withoutSign, Sum, equals, withinMost, totalBytes}
+use Rattle.rules.specs.Amounts.{Amount, unsigned, withMinus, amountIn, amountAdds}
 use Rattle.rules.specs.Limits.{most}
 use Rattle.rules.specs.Grammar.{isSigned}
 use Rattle.base_digits.proofs.DigitTests.{below-or-from, and-left, and-right}
-use Rattle.base_digits.proofs.DigitStrings.{decimal-digits, decimal-fits, decimal-short, number-decimal}
-use Rattle.base_digits.proofs.SignLaws.{no-sign, signed-digits}
+use Rattle.base_digits.proofs.DigitStrings.{decimal-digits, decimal-fits, decimal-short, decimal-some, number-decimal}
+use Rattle.base_digits.proofs.SignLaws.{no-minus, no-sign, unsigned-digits}
 
 -- ---- the two shapes of a total
 
@@ -31,43 +32,44 @@ module _ (a : Sum) where
 
 -- ---- a total read back
 
--- the sign, and how far the pluses and minuses are apart
-abbrev pub asRead : Sum → Signed
-asRead a = record { negative = ltb (a .pluses) (a .minuses); magnitude = (a .pluses - a .minuses) + (a .minuses - a .pluses) }
+-- below 0 with a minus, else unsigned: how far the pluses and minuses are apart
+abbrev pub asRead : Sum → Amount
+asRead a = cond (ltb (a .pluses) (a .minuses)) (withMinus (a .minuses - a .pluses)) (unsigned (a .pluses - a .minuses))
 
 -- so it is read
-pub total-read : (a : Sum) → signed (totalBytes a) ≡ asRead a
-unfolding signed startsWith withoutSign
+pub total-read : (a : Sum) → amountIn (totalBytes a) ≡ asRead a
+unfolding amountIn
 total-read a =
     ⊎-elim
+    (λ h. rw (total-below-zero a h, lt-ltb (a .pluses) (a .minuses) h, number-decimal (a .minuses - a .pluses)))
     (λ h.
-    let n : (a .pluses - a .minuses) + (a .minuses - a .pluses) ≡ a .minuses - a .pluses = omega arith in
-    rw (total-below-zero a h, lt-ltb (a .pluses) (a .minuses) h, n, number-decimal (a .minuses - a .pluses)))
-    (λ h.
-    let n : (a .pluses - a .minuses) + (a .minuses - a .pluses) ≡ a .pluses - a .minuses = omega arith in
-    let ds = decimal-digits (a .pluses - a .minuses) in
-    rw (total-from-zero a h, le-ltb (a .pluses) (a .minuses) h, n, signed-digits (decimal (a .pluses - a .minuses)) ds, number-decimal (a .pluses - a .minuses)))
+    let n = a .pluses - a .minuses in
+    rw (total-from-zero a h, le-ltb (a .pluses) (a .minuses) h, unsigned-digits (decimal n) (decimal-some n) (decimal-digits n), number-decimal n))
     (below-or-from (a .pluses) (a .minuses))
 
 -- as a number it equals the sum
-pub total-equals : (a : Sum) → equals (asSum (signed (totalBytes a))) a ≡ true
+pub total-equals : (a : Sum) → equals (amountAdds (amountIn (totalBytes a))) a ≡ true
 total-equals a = rw (total-read a) (go (ltb (a .pluses) (a .minuses)) refl)
   where
-    go : (b : Bool) → ltb (a .pluses) (a .minuses) ≡ b → equals (asSum (record { negative = b; magnitude = asRead a .magnitude })) a ≡ true
-    go true e = eq-eqb (0 + a .minuses) (a .pluses + asRead a .magnitude) (omega (arith, ltb-true))
-    go false e = eq-eqb (asRead a .magnitude + a .minuses) (a .pluses + 0) (omega (arith, ltb-false))
+    go : (b : Bool) → ltb (a .pluses) (a .minuses) ≡ b → equals (amountAdds (cond b (withMinus (a .minuses - a .pluses)) (unsigned (a .pluses - a .minuses)))) a ≡ true
+    go true e = eq-eqb (0 + a .minuses) (a .pluses + (a .minuses - a .pluses)) (omega (arith, ltb-true))
+    go false e = eq-eqb (a .pluses - a .minuses + a .minuses) (a .pluses + 0) (omega (arith, ltb-false))
 
 -- it begins with a minus exactly where the pluses are below the minuses
 pub total-minus : (a : Sum) → startsWith minus (totalBytes a) ≡ ltb (a .pluses) (a .minuses)
-unfolding signed
-total-minus a = ap (λ (s : Signed). s .negative) (total-read a)
+unfolding startsWith
+total-minus a =
+    ⊎-elim
+    (λ h. rw (total-below-zero a h, lt-ltb (a .pluses) (a .minuses) h))
+    (λ h. rw (total-from-zero a h, le-ltb (a .pluses) (a .minuses) h) (no-minus (decimal (a .pluses - a .minuses)) (decimal-digits (a .pluses - a .minuses))))
+    (below-or-from (a .pluses) (a .minuses))
 
 -- so it is never "-0"
 pub never-minus-zero : (a : Sum) → startsWith minus (totalBytes a) ≡ true → 0 < number (withoutSign (totalBytes a))
-unfolding signed
+unfolding withoutSign
 never-minus-zero a e =
     let below = ltb-true (a .pluses) (a .minuses) (sym (total-minus a) ∙ e) in
-    omega (arith, ap (λ (s : Signed). s .magnitude) (total-read a))
+    rw (total-below-zero a below, number-decimal (a .minuses - a .pluses)) (omega arith)
 
 -- equal sums have the same bytes
 pub total-same : (a b : Sum) → equals a b ≡ true → totalBytes a ≡ totalBytes b

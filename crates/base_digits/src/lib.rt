@@ -1,12 +1,11 @@
-// Numbers in fields, read: digits, signs and amounts.
-use base_quantities::Magnitude;
+// Numbers in fields, read: digits and signs.
 ghost use mathlib.Core.Path.{_≡_};
 ghost use Prim.Native.Nat.{_≤_};
 ghost use Rattle.rules.specs.Bytes.{all, between, minus, startsWith};
 ghost use Rattle.rules.specs.Numbers.{digits, withoutSign};
 ghost use Rattle.rules.specs.Limits.{most};
 ghost use Rattle.rules.specs.Grammar.{isSigned, isUnsigned};
-ghost use Rattle.base_digits.specs.NumbersRead.{valueOf, amountMeant, amountIn};
+ghost use Rattle.base_digits.specs.NumbersRead.{valueOf};
 
 // An amount or total has no more digits.
 const MOST_DIGITS: usize = 18;
@@ -116,20 +115,4 @@ pub fn is_unsigned(f: &[u8]) -> bool
         return false;
     }
     is_signed(f)
-}
-
-// A sign and a magnitude.
-pub struct Amount {
-    pub negative: bool,
-    pub magnitude: Magnitude,
-}
-
-// The signed number in a field; its magnitude is 0 where there is none.
-pub fn amount_in(f: &[u8]) -> Amount
-    ensures { λ r. ⌜ (amountMeant r ≡ amountIn (now (f .entry))) × (r .magnitude .0 ≤ most) ⌝ }
-{
-    Amount {
-        negative: is_negative(f),
-        magnitude: Magnitude(value(without_sign(f))),
-    }
 }

@@ -3,7 +3,7 @@ use base_limits::MOST;
 ghost use mathlib.Core.Path.{_≡_};
 ghost use Prim.Native.Nat.{_+_, min};
 ghost use Rattle.rules.specs.Numbers.{zeroSum, asSum, _⊕_};
-ghost use Rattle.base_quantities.specs.QuantityMeanings.{sumMeant, wrappedSum, unitsWithin, mostRecords};
+ghost use Rattle.base_quantities.specs.QuantityMeanings.{sumMeant, signedMeant, wrappedSum, unitsWithin, mostRecords};
 
 // The largest count that can be kept.
 pub const MOST_RECORDS: u64 = 18_446_744_073_709_551_615;
@@ -19,6 +19,12 @@ pub enum UnitsSum {
 
 // Minor units without a sign.
 pub struct Magnitude(pub u64);
+
+// Minor units with a sign, as a call of the writer gives them.
+pub struct Signed {
+    pub negative: bool,
+    pub magnitude: Magnitude,
+}
 
 // How many groups, accounts or details.
 pub struct Count(pub u64);
@@ -38,10 +44,11 @@ impl Units {
     }
 
     // A magnitude with its sign, as a sum: a debit is a plus like a credit, and only a minus sign counts as a minus.
-    pub fn of(negative: bool, magnitude: Magnitude) -> Units
-        ensures { λ r. ⌜ sumMeant r ≡ asSum (record { negative = negative; magnitude = magnitude .0 }) ⌝ }
+    pub fn of(given: Signed) -> Units
+        ensures { λ r. ⌜ sumMeant r ≡ asSum (signedMeant given) ⌝ }
     {
-        if negative {
+        let magnitude = given.magnitude;
+        if given.negative {
             return Units(0, magnitude.0);
         }
         Units(magnitude.0, 0)

@@ -1,10 +1,11 @@
--- One answer for each public call: two results that both meet its promise are equal, and so are the output slices. Each but `detail-one` and
+-- One answer for each public call: two results that both meet its promise are equal, and so are the output slices. Each but
 -- `fields-one` is `one-answer` of crate `laws`, with the way from the meaning back to the answer. Assumes nothing.
 use Prim.Native.Nat.{ℕ, _≤_}
 use native.Mathlib.Omega.{arith}
 use mathlib.Core.Path.{_≡_, refl, sym, ap, ap₂, subst, _∙_}
-use mathlib.Core.Bool.{Bool, true, false, cond}
+use mathlib.Core.Bool.{false, cond}
 use mathlib.Core.List.{List, _++_}
+use mathlib.Core.Option.{Option, none, some}
 use borrow.Author.Tests.{ne-eqb}
 use lib.Dec.{eqb}
 use Rattle.rules.specs.Bytes.{Bytes}
@@ -14,6 +15,7 @@ use Rattle.rules.specs.Totals as totals
 use Rattle.rules.specs.Verdict.{judge}
 use Rattle.rules.specs.Parts.{headerIn, groupsIn, sizeOfAll}
 use Rattle.rules.specs.CodeList.{isStatus, isSummary, Entry, unlisted, NA, CR, DB, entryOf}
+use Rattle.rules.specs.Amounts.{Amount, empty, unsigned, withPlus, withMinus}
 use Rattle.rules.specs.Answers as rules
 use Rattle.rules.specs.Combine as combine
 use Rattle.rules.specs.Split.{split}
@@ -43,6 +45,14 @@ use Rattle.join_combine.specs.CombineAnswers.{combinedMeant}
 use Rattle.part_groups.specs.declared.Part.{Part}
 use Rattle.base_refusals.specs.declared.Refusal.{Refusal}
 use Rattle.base_refusals.specs.RefusalMeaning.{refusalMeant}
+use Rattle.base_amounts.specs.declared.Amount as amounts
+use Rattle.base_amounts.specs.declared.Amount.the-variants as forms
+use Rattle.base_amounts.specs.AmountsRead.{amountMeant}
+use Rattle.find_item.specs.declared.ItemCount.{ItemCount}
+use Rattle.find_item.specs.declared.ItemCount.the-variants as counts
+use Rattle.find_item.specs.ItemSearch.{countMeant}
+use Rattle.part_items.specs.declared.ItemAnswer.{ItemAnswer}
+use Rattle.part_items.specs.ItemMeaning.{itemMeant}
 use Rattle.part_details.specs.declared.DetailAnswer.{DetailAnswer}
 use Rattle.part_groups.specs.PartMeaning as parts
 use Rattle.part_details.specs.DetailMeaning as details
@@ -57,6 +67,7 @@ use Rattle.write_state.specs.declared.Phase.the-variants as phases
 use Rattle.write_state.specs.declared.Writer.{Writer}
 use Rattle.write_state.specs.declared.Written.{Written}
 use Rattle.write_state.specs.WriterMeaning.{phaseMeant, writerMeant, writtenMeant}
+use Rattle.c_items.specs.declared.Bai2Item.{Bai2Item}
 use Rattle.c_reading.specs.declared.Bai2Summary.{Bai2Summary}
 use Rattle.c_joining.specs.declared.Bai2Answer.{Bai2Answer}
 use Rattle.c_joining.specs.declared.Bai2Combined.{Bai2Combined}
@@ -67,7 +78,7 @@ use Rattle.c_reading.specs.declared.handing.Bai2Fields.{Bai2Fields}
 use Rattle.c_naming.specs.declared.Bai2Code.{Bai2Code}
 use Rattle.c_writer.specs.declared.Bai2Writer.{Bai2Writer}
 use Rattle.c_writer.specs.declared.Bai2Written.{Bai2Written}
-use Rattle.c_reading.specs.CAnswers.{SummaryFigures, summaryFigures, readMeant, partMeant, isGiven, orZero, recordFigures, fieldsFigures}
+use Rattle.c_reading.specs.CAnswers.{SummaryFigures, summaryFigures, readMeant, partMeant, recordFigures, fieldsFigures}
 use Rattle.c_naming.specs.CNamed.{codeMeant}
 use Rattle.c_joining.specs.CJoined.{splitMeant, combineMeant}
 use Rattle.c_writer.specs.WriterFigures.{numbersOf, Reply, replied, replyTo}
@@ -197,47 +208,77 @@ c-part-one =
 pub refusal-one : (promised : outcome.Refusal) (x y : Refusal) → refusalMeant x ≡ promised → refusalMeant y ≡ promised → x ≡ y
 refusal-one = one-answer refusalMeant refusalFrom (λ x. refl)
 
--- what the rules' answer on a detail gives back: its amount, and 0 where none is given
-abbrev detailOf : rules.DetailAnswer → DetailAnswer
-detailOf m =
+-- an amount of the code from its meaning
+abbrev amountFrom : Amount → amounts.Amount
+amountFrom empty = forms.Empty
+amountFrom (unsigned n) = forms.Unsigned (record { 0 = n })
+amountFrom (withPlus n) = forms.WithPlus (record { 0 = n })
+amountFrom (withMinus n) = forms.WithMinus (record { 0 = n })
+
+same-amount : (a : amounts.Amount) → amountFrom (amountMeant a) ≡ a
+same-amount forms.Empty = refl
+same-amount (forms.Unsigned n) = refl
+same-amount (forms.WithPlus n) = refl
+same-amount (forms.WithMinus n) = refl
+
+-- base_amounts::amount_in
+pub amount-one : (promised : Amount) (x y : amounts.Amount) → amountMeant x ≡ promised → amountMeant y ≡ promised → x ≡ y
+amount-one = one-answer amountMeant amountFrom same-amount
+
+abbrev detailFrom : rules.DetailAnswer → DetailAnswer
+detailFrom m =
     record {
       refusal = refusalFrom (m .refusal);
       «type_code» = m .type;
-      «amount_given» = eqb (isGiven (m .amountGiven)) 1;
-      amount = record { 0 = orZero (m .amountGiven) };
+      amount = amountFrom (m .amount);
       «text_start» = record { 0 = m .textStart };
       «text_length» = m .textLength;
     }
 
-same-given : (t : Bool) (n : ℕ) → eqb (isGiven (details.amountMeant t n)) 1 ≡ t
-same-given true n = refl
-same-given false n = refl
-
-same-amount : (t : Bool) (n : ℕ) → (t ≡ false → n ≡ 0) → orZero (details.amountMeant t n) ≡ n
-same-amount true n h = refl
-same-amount false n h = rw (h refl)
-
-same-detail : (d : DetailAnswer) → details.ZeroWithout d → detailOf (details.detailMeant d) ≡ d
-same-detail d z =
-    ap₂
-    (λ (t : Bool) (n : ℕ). record {
+same-detail : (d : DetailAnswer) → detailFrom (details.detailMeant d) ≡ d
+same-detail d =
+    ap
+    (λ (a : amounts.Amount). record {
       refusal = d .refusal;
       «type_code» = d .«type_code»;
-      «amount_given» = t;
-      amount = record { 0 = n };
+      amount = a;
       «text_start» = d .«text_start»;
       «text_length» = d .«text_length»;
     })
-    (same-given (d .«amount_given») (d .amount .0)) (same-amount (d .«amount_given») (d .amount .0) z)
+    (same-amount (d .amount))
 
 -- part_details::detail
-pub detail-one : (promised : rules.DetailAnswer) (x y : DetailAnswer) → details.detailMeant x ≡ promised → details.ZeroWithout x
-    → details.detailMeant y ≡ promised → details.ZeroWithout y → x ≡ y
-detail-one promised x y e z f w = sym (same-detail x z) ∙ ap detailOf (e ∙ sym f) ∙ same-detail y w
+pub detail-one : (promised : rules.DetailAnswer) (x y : DetailAnswer) → details.detailMeant x ≡ promised → details.detailMeant y ≡ promised → x ≡ y
+detail-one = one-answer details.detailMeant detailFrom same-detail
 
 -- bai2_detail_of: the figures are promised themselves
 pub c-detail-one : (promised x y : Bai2Detail) → x ≡ promised → y ≡ promised → x ≡ y
 c-detail-one = one-answer (λ (x : Bai2Detail). x) (λ (x : Bai2Detail). x) (λ x. refl)
+
+-- ---- items
+
+abbrev countFrom : Option ℕ → ItemCount
+countFrom none = counts.NoCount
+countFrom (some n) = counts.Given (record { 0 = n })
+
+same-count : (c : ItemCount) → countFrom (countMeant c) ≡ c
+same-count counts.NoCount = refl
+same-count (counts.Given n) = refl
+
+abbrev itemFrom : rules.ItemAnswer → ItemAnswer
+itemFrom m = record { refusal = refusalFrom (m .refusal); «type_code» = m .type; amount = amountFrom (m .amount); count = countFrom (m .count) }
+
+same-item : (i : ItemAnswer) → itemFrom (itemMeant i) ≡ i
+same-item i =
+    ap₂ (λ (a : amounts.Amount) (c : ItemCount). record { refusal = i .refusal; «type_code» = i .«type_code»; amount = a; count = c }) (same-amount (i .amount)) (same-count (i .count))
+
+-- part_items::item
+pub item-one : (promised : rules.ItemAnswer) (x y : ItemAnswer) → itemMeant x ≡ promised → itemMeant y ≡ promised → x ≡ y
+item-one = one-answer itemMeant itemFrom same-item
+
+-- bai2_item_of: the figures are promised themselves
+pub c-item-one : (promised x y : Bai2Item) → x ≡ promised → y ≡ promised → x ≡ y
+c-item-one = one-answer (λ (x : Bai2Item). x) (λ (x : Bai2Item). x) (λ x. refl)
 
 -- ---- records and fields
 

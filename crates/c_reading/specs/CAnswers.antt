@@ -2,10 +2,10 @@
 -- Assumes nothing.
 use Prim.Native.Nat.{ℕ}
 use mathlib.Core.List.{List}
-use mathlib.Core.Option.{Option, none, some}
 use lib.IntN.{ℤ}
 use Rattle.rules.specs.Outcome.{Refusal, Outcome, orElse, refusalOf}
 use Rattle.rules.specs.Numbers.{asInteger}
+use Rattle.rules.specs.Amounts.{magnitudeOf}
 use Rattle.rules.specs.Totals.{Summary, noSummary}
 use Rattle.rules.specs.Answers as rules
 use Rattle.rules.specs.HandedOut as handed
@@ -54,23 +54,14 @@ readMeant r =
 abbrev pub partMeant : Bai2Part → rules.PartAnswer
 partMeant r = record { refusal = record { number = r .number; place = r .place }; start = r .start; len = r .length }
 
--- whether an amount is given, 1 or 0, and which, or 0
-abbrev pub isGiven : Option ℕ → ℕ
-isGiven none = 0
-isGiven (some n) = 1
-
-abbrev pub orZero : Option ℕ → ℕ
-orZero none = 0
-orZero (some n) = n
-
 abbrev pub detailFigures : rules.DetailAnswer → Bai2Detail
 detailFigures d =
     record {
       number = d .refusal .number;
       place = d .refusal .place;
       «type_code» = d .type;
-      «amount_given» = isGiven (d .amountGiven);
-      amount = orZero (d .amountGiven);
+      «amount_form» = rules.formNumber (d .amount);
+      amount = magnitudeOf (d .amount);
       «text_start» = d .textStart;
       «text_length» = d .textLength;
     }

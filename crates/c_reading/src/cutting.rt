@@ -45,13 +45,13 @@ pub extern "C" fn bai2_account(file: &[u8], group: u64, account: u64) -> Bai2Par
     figures_of(part_groups::find_account(file, group, account))
 }
 
-// A refusal's number and place; or the type, the amount if it is given, and where the first text piece starts, and its length.
+// A refusal's number and place; or the type, how the amount was given and its magnitude, and where the first text piece starts, and its length.
 #[repr(C)]
 pub struct Bai2Detail {
     pub number: u64,
     pub place: u64,
     pub type_code: u64,
-    pub amount_given: u64,
+    pub amount_form: u64,
     pub amount: u64,
     pub text_start: u64,
     pub text_length: u64,
@@ -66,13 +66,14 @@ pub extern "C" fn bai2_detail_of(file: &[u8], group: u64, account: u64, detail: 
     let refusal = d.refusal;
     let place = refusal.place;
     let amount = d.amount;
+    let magnitude = base_amounts::magnitude_of(amount);
     let text_start = d.text_start;
     Bai2Detail {
         number: refusal.number,
         place: place.0 as u64,
         type_code: d.type_code,
-        amount_given: c_writer::flag_of(d.amount_given),
-        amount: amount.0,
+        amount_form: base_amounts::form_of(amount),
+        amount: magnitude.0,
         text_start: text_start.0 as u64,
         text_length: d.text_length as u64,
     }

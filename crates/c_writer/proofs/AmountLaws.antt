@@ -10,7 +10,7 @@ use lib.Signed.{mag, ltZ, nonNeg}
 use mir.Syntax.{w64}
 use mir.Val.{Fits, SFits, toZ, ofZ}
 use mir.ValLaws.{toZ-pos, toZ-ofZ}
-use Rattle.base_digits.specs.NumbersRead.{amountMeant}
+use Rattle.base_quantities.specs.QuantityMeanings.{signedMeant}
 use Rattle.c_writer.specs.WriterFigures.{signedOf}
 
 -- a number below 0 is a minus, any other a plus
@@ -51,7 +51,7 @@ module _ (n : ℤ) (fits : SFits w64 n) where
     pub one-more-fits : Fits w64 (natAbs (stored (negsuc 0 -ℤ stored n)) + 1)
     one-more-fits = rw kept (record { fits = omega (arith, fits .sfits) })
 
-    pub minus-meant : amountMeant (record { negative = true; magnitude = record { 0 = natAbs (stored (negsuc 0 -ℤ stored n)) + 1 } }) ≡ signedOf n
+    pub minus-meant : signedMeant (record { negative = true; magnitude = record { 0 = natAbs (stored (negsuc 0 -ℤ stored n)) + 1 } }) ≡ signedOf n
     minus-meant = rw kept (sym (ap signedOf minus))
 
   module _ (from : ltZ (stored n) (pos 0) ≡ false) where
@@ -64,5 +64,5 @@ module _ (n : ℤ) (fits : SFits w64 n) where
     pub plus-cast : T (nonNeg (stored n)) × Fits w64 (natAbs (stored n))
     plus-cast = rw read-plus (tt, record { fits = omega (arith, fits .sfits) })
 
-    pub plus-meant : amountMeant (record { negative = false; magnitude = record { 0 = natAbs (stored n) } }) ≡ signedOf n
+    pub plus-meant : signedMeant (record { negative = false; magnitude = record { 0 = natAbs (stored n) } }) ≡ signedOf n
     plus-meant = rw read-plus (sym (ap signedOf plus))

@@ -1,10 +1,10 @@
 // The writer's state and its answers as plain numbers, which C hands from call to call; amounts and counts that C gives or leaves out.
-use base_digits::Amount;
 use base_limits::LONGEST_FILE;
 use base_quantities::Count;
 use base_quantities::Magnitude;
 use base_quantities::Place;
 use base_quantities::Records;
+use base_quantities::Signed;
 use base_quantities::Units;
 use base_totals::Summary;
 use write_line::Items;
@@ -15,7 +15,7 @@ use write_state::Writer;
 use write_state::Written;
 ghost use mathlib.Core.Path.{_≡_};
 ghost use mathlib.Core.List.{[]};
-ghost use Rattle.base_digits.specs.NumbersRead.{amountMeant};
+ghost use Rattle.base_quantities.specs.QuantityMeanings.{signedMeant};
 ghost use Rattle.write_line.specs.DraftMeaning.{amountGiven, itemsGiven};
 ghost use Rattle.base_totals.specs.SummaryMeaning.{summaryMeant};
 ghost use Rattle.write_state.specs.WriterMeaning.{phaseMeant, writerMeant, writtenMeant};
@@ -115,7 +115,7 @@ fn phase_number(p: Phase) -> u64
 }
 
 // 1 where it holds, else 0.
-pub fn flag_of(holds: bool) -> u64
+fn flag_of(holds: bool) -> u64
     ensures { λ r. ⌜ r ≡ flag holds ⌝ }
 {
     if holds {
@@ -195,16 +195,16 @@ pub fn answered(given: Bai2Writer, r: Written) -> Bai2Written
 // ---- amounts and counts
 
 // A number's sign and magnitude.
-fn amount_of(n: i64) -> Amount
-    ensures { λ r. ⌜ amountMeant r ≡ signedOf n ⌝ }
+fn signed_of(n: i64) -> Signed
+    ensures { λ r. ⌜ signedMeant r ≡ signedOf n ⌝ }
 {
     if n < 0 {
-        return Amount {
+        return Signed {
             negative: true,
             magnitude: Magnitude((-1 - n) as u64 + 1),
         };
     }
-    Amount {
+    Signed {
         negative: false,
         magnitude: Magnitude(n as u64),
     }
@@ -217,7 +217,7 @@ pub fn amount_asked(given: u64, n: i64) -> MaybeAmount
     if given == 0 {
         return MaybeAmount::NoAmount;
     }
-    MaybeAmount::Given(amount_of(n))
+    MaybeAmount::Given(signed_of(n))
 }
 
 // The number of items, or none where none is given.

@@ -5,110 +5,26 @@ use mathlib.Core.Path.{_≡_, refl, sym, ap, _∙_}
 use mathlib.Core.Bool.{Bool, true, false, cond}
 use mathlib.Core.List.{List, [], _∷_, _++_}
 use lib.Dec.{eqb}
-use lib.ListN.{length, take, drop, getD}
-use borrow.Author.Tests.{eqb-true}
+use lib.ListN.{length, take, drop}
 use Rattle.rules.specs.Bytes.{Bytes, isEmpty, trimmed, all}
-use Rattle.rules.specs.Numbers.{digits, number, Signed, signed, withoutSign, numberFrom}
+use Rattle.rules.specs.Numbers.{digits, number, numberFrom}
+use Rattle.rules.specs.Amounts.{amountIn}
 use Rattle.rules.specs.TypeCodes.{typeClass}
 use Rattle.rules.specs.Outcome.{fine}
 use Rattle.rules.specs.Lines.{Line, sizeOf, linesOf, Code, detail, Record}
 use Rattle.rules.specs.Cells.{Mark, atComma, atSlash, atLineEnd, Cell, markPlace, cellsOf, leadingBlanks}
-use Rattle.rules.specs.Grammar.{
-  Kind,
-  name,
-  reference,
-  ultimateReceiver,
-  date,
-  time,
-  timeOrNone,
-  fileNumber,
-  physicalLength,
-  blockSize,
-  version,
-  groupStatus,
-  currency,
-  modifier,
-  firstType,
-  furtherType,
-  statusAmount,
-  amount,
-  itemCount,
-  funds,
-  detailType,
-  text,
-  furtherText,
-  splitAmount,
-  pairCount,
-  days,
-  dayAmount,
-  total,
-  count,
-  records,
-  nothing,
-  kindNumber,
-  sameKind,
-  Judged,
-  bad,
-  good,
-  andThen,
-  takeNext,
-  nextKind,
-  isText,
-  judged,
-  mayLack,
-  fieldsOf,
-}
+use Rattle.rules.specs.Grammar.{Kind, amount, detailType, total, records, sameKind, Judged, bad, good, andThen, takeNext, nextKind, isText, judged, mayLack, fieldsOf}
 use Rattle.rules.specs.Records.{Field, the, walkRecord}
 use Rattle.rules.proofs.Tests.{Known, holds, fails, known}
-use Rattle.base_digits.specs.NumbersRead.{valueOf, amountIn}
+use Rattle.base_digits.specs.NumbersRead.{valueOf}
 use Rattle.base_digits.proofs.ReadingLaws.{value-is}
-use Rattle.base_digits.proofs.SignLaws.{amount-empty}
-use Rattle.read_kept.proofs.EachKind.{Signs, reads-amount, reads-total}
+use Rattle.base_amounts.specs.AmountsRead.{amountRead}
+use Rattle.base_amounts.proofs.AmountLaws.{amount-empty}
+use Rattle.read_kinds.proofs.KindLaws.{same-kind}
+use Rattle.read_kept.proofs.EachKind.{Amounts, reads-amount, reads-total}
 use Rattle.find_field.proofs.SearchAgrees.{found-is}
 use Rattle.find_next.specs.FieldTrace.{Trace, stops, ends, yields, traceAfter, traceTaken, tracePastSlash, traceTakenTo, traceCells, traceEnd, traceLines}
 use Rattle.find_field.specs.FieldSearch.{Found, soughtIn, seekLines, inDetail}
-
--- ---- kinds by their numbers
-
-abbrev kindsInOrder : List Kind
-kindsInOrder =
-    nothing ∷ name ∷ reference ∷ ultimateReceiver ∷ date ∷ time ∷ timeOrNone ∷ fileNumber ∷ physicalLength ∷ blockSize ∷ version ∷ groupStatus ∷ currency ∷ modifier ∷ firstType ∷ furtherType
-    ∷ statusAmount ∷ amount ∷ itemCount ∷ funds ∷ detailType ∷ text ∷ furtherText ∷ splitAmount ∷ pairCount ∷ days ∷ dayAmount ∷ total ∷ count ∷ records ∷ []
-
-numbered : (k : Kind) → getD kindsInOrder (kindNumber k) nothing ≡ k
-numbered name = refl
-numbered reference = refl
-numbered ultimateReceiver = refl
-numbered date = refl
-numbered time = refl
-numbered timeOrNone = refl
-numbered fileNumber = refl
-numbered physicalLength = refl
-numbered blockSize = refl
-numbered version = refl
-numbered groupStatus = refl
-numbered currency = refl
-numbered modifier = refl
-numbered firstType = refl
-numbered furtherType = refl
-numbered statusAmount = refl
-numbered amount = refl
-numbered itemCount = refl
-numbered funds = refl
-numbered detailType = refl
-numbered text = refl
-numbered furtherText = refl
-numbered splitAmount = refl
-numbered pairCount = refl
-numbered days = refl
-numbered dayAmount = refl
-numbered total = refl
-numbered count = refl
-numbered records = refl
-numbered nothing = refl
-
-same-kind : (k kd : Kind) → sameKind k kd ≡ true → kd ≡ k
-same-kind k kd e = sym (numbered kd) ∙ ap (λ (n : ℕ). getD kindsInOrder n nothing) (sym (eqb-true (kindNumber k) (kindNumber kd) e)) ∙ numbered k
 
 -- ---- what holds of every good field of a kind holds of what is found
 
@@ -214,12 +130,12 @@ records-read ks r = found-holds records ValueRead refl each-records ks r
 -- ---- an amount and a total are digits after at most a sign, or an amount is empty
 
 abbrev AmountRead : Bytes → Type 0
-AmountRead bs = amountIn bs ≡ signed bs
+AmountRead bs = amountRead bs ≡ amountIn bs
 
 -- of a kind that is read so
-sign-read : (k : Kind) → Signs k → (ks : List Kind) (r : Record) → AmountRead (seekLines k ks r .bytes)
+kind-read : (k : Kind) → Amounts k → (ks : List Kind) (r : Record) → AmountRead (seekLines k ks r .bytes)
 unfolding isEmpty
-sign-read k reads ks r = found-holds k AmountRead (amount-empty [] refl) reads ks r
+kind-read k reads ks r = found-holds k AmountRead (amount-empty [] refl) reads ks r
 
 -- ---- the field's bytes as the code lends them
 
@@ -240,11 +156,9 @@ pub type-in : (rec bs : Bytes) → bs ≡ seekLines detailType (fieldsOf detail)
 unfolding inDetail
 type-in rec bs e = ap valueOf e ∙ type-read (fieldsOf detail) (linesOf rec)
 
-pub amount-in : (rec bs : Bytes) → bs ≡ seekLines amount (fieldsOf detail) (linesOf rec) .bytes
-    → (isEmpty bs ≡ isEmpty (inDetail amount rec .bytes)) × (valueOf (withoutSign bs) ≡ number (withoutSign (inDetail amount rec .bytes)))
-unfolding inDetail amountIn signed
-amount-in rec bs e =
-    (ap isEmpty e, ap (λ (x : Bytes). valueOf (withoutSign x)) e ∙ ap (λ (x : Signed). x .magnitude) (sign-read amount reads-amount (fieldsOf detail) (linesOf rec)))
+pub amount-in : (rec bs : Bytes) → bs ≡ seekLines amount (fieldsOf detail) (linesOf rec) .bytes → amountRead bs ≡ amountIn (inDetail amount rec .bytes)
+unfolding inDetail
+amount-in rec bs e = ap amountRead e ∙ kind-read amount reads-amount (fieldsOf detail) (linesOf rec)
 
 -- ---- in a record that is read as one of code c
 
@@ -255,8 +169,8 @@ module _ (c : Code) (rec : Bytes) (fs : List Field) (walked : walkRecord c (line
 
 -- ---- a trailer's total and number of records, of whatever bytes
 
-pub total-found : (ks : List Kind) (r : Record) → amountIn (seekLines total ks r .bytes) ≡ signed (seekLines total ks r .bytes)
-total-found ks r = sign-read total reads-total ks r
+pub total-found : (ks : List Kind) (r : Record) → amountRead (seekLines total ks r .bytes) ≡ amountIn (seekLines total ks r .bytes)
+total-found ks r = kind-read total reads-total ks r
 
 pub records-found : (ks : List Kind) (r : Record) → valueOf (seekLines records ks r .bytes) ≡ number (seekLines records ks r .bytes)
 records-found ks r = records-read ks r

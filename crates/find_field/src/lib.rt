@@ -1,14 +1,14 @@
 // The first field of a kind in a record: where it stands, and its length; and what a detail's type and amount say.
+use base_amounts::Amount;
 use base_codes::Code;
-use base_quantities::Magnitude;
 use base_quantities::Place;
 use find_walk::Reached;
 ghost use mathlib.Core.Path.{_≡_};
-ghost use mathlib.Core.Bool.{not};
-ghost use Rattle.rules.specs.Bytes.{isEmpty};
-ghost use Rattle.rules.specs.Numbers.{number, withoutSign};
+ghost use Rattle.rules.specs.Numbers.{number};
+ghost use Rattle.rules.specs.Amounts.{amountIn};
 ghost use Rattle.rules.specs.Lines.{linesOf};
 ghost use Rattle.rules.specs.Grammar.{detailType, amount, kindNumber, fieldsOf};
+ghost use Rattle.base_amounts.specs.AmountsRead.{amountMeant};
 ghost use Rattle.base_codes.specs.CodeMeaning.{codeMeant};
 ghost use Rattle.find_field.specs.FieldSearch.{inDetail, seekLines};
 ghost use Rattle.find_field.specs.SoughtKinds.{kindMeant, Spots};
@@ -27,12 +27,6 @@ pub enum Sought {
 pub struct Spot {
     pub start: Place,
     pub length: usize,
-}
-
-// A detail's amount: whether one is given, and which; 0 where none is.
-pub struct Given {
-    pub given: bool,
-    pub amount: Magnitude,
 }
 
 // The number of the kind that is sought.
@@ -90,13 +84,9 @@ pub fn type_of(rec: &[u8]) -> u64
     base_digits::value(field(rec, Code::Detail, Sought::Type))
 }
 
-// A detail's amount.
-pub fn amount_of(rec: &[u8]) -> Given
-    ensures { λ r. ⌜ (r .given ≡ not (isEmpty (inDetail amount (now (rec .entry)) .bytes))) × (r .amount .0 ≡ number (withoutSign (inDetail amount (now (rec .entry)) .bytes))) ⌝ }
+// A detail's amount, as it was given.
+pub fn amount_of(rec: &[u8]) -> Amount
+    ensures { λ r. ⌜ amountMeant r ≡ amountIn (inDetail amount (now (rec .entry)) .bytes) ⌝ }
 {
-    let f = field(rec, Code::Detail, Sought::Amount);
-    Given {
-        given: !read_values::is_empty(f),
-        amount: Magnitude(base_digits::value(base_digits::without_sign(f))),
-    }
+    base_amounts::amount_in(field(rec, Code::Detail, Sought::Amount))
 }

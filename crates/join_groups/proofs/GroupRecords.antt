@@ -26,7 +26,7 @@ use Rattle.laws.proofs.PartSlices.{size-length}
 
 -- ---- records in front of bytes, and the bytes after them
 
-some-bytes : (xs : Bytes) (r : Record) (rs : List Record) → fileRecords xs ≡ r ∷ rs → 0 < length xs
+pub some-bytes : (xs : Bytes) (r : Record) (rs : List Record) → fileRecords xs ≡ r ∷ rs → 0 < length xs
 unfolding fileRecords linesOf recordsOf
 some-bytes [] r rs h = let z : _≡_ {A = ℕ} 0 1 = cc in absurd (omega arith)
 some-bytes (b ∷ bs) r rs h = omega arith

@@ -2,12 +2,12 @@
 use Prim.Native.Nat.{ℕ, _+_, _≤_}
 use native.Mathlib.Omega.{arith}
 use mathlib.Core.Path.{_≡_, refl, sym, ap, subst, _∙_}
-use mathlib.Core.Bool.{Bool, true, false}
 use mathlib.Core.List.{List, [], _∷_, _++_}
 use lib.Dec.{eqb→eq}
 use lib.ListN.{length, length-append}
 use Rattle.rules.specs.Bytes.{sameBytes}
-use Rattle.rules.specs.Numbers.{Signed, signed, Sum, asSum, magnitudes}
+use Rattle.rules.specs.Numbers.{Sum, magnitudes}
+use Rattle.rules.specs.Amounts.{Amount, empty, unsigned, withPlus, withMinus, amountIn, amountAdds}
 use Rattle.rules.specs.Lines.{Code, groupHeader, Record, recordBytes}
 use Rattle.rules.specs.Grammar.{total}
 use Rattle.rules.specs.Records.{the}
@@ -54,19 +54,18 @@ record Adds (g : List Record) (sum : Sum) (lines : ℕ) : Type 0 where
   pub few : lines ≤ length (recordBytes g)
 
 -- a sum with one side is no larger than any that equals it
-one-sided : (a : Sum) (s : Signed) → a .pluses + asSum s .minuses ≡ asSum s .pluses + a .minuses → magnitudes (asSum s) ≤ magnitudes a
-one-sided a s e = go (s .negative) refl
-  where
-    go : (t : Bool) → s .negative ≡ t → magnitudes (asSum s) ≤ magnitudes a
-    go true n = let e′ = rw n at e in rw n (omega arith)
-    go false n = let e′ = rw n at e in rw n (omega arith)
+one-sided : (a : Sum) (x : Amount) → a .pluses + amountAdds x .minuses ≡ amountAdds x .pluses + a .minuses → magnitudes (amountAdds x) ≤ magnitudes a
+one-sided a empty e = omega arith
+one-sided a (unsigned n) e = omega arith
+one-sided a (withPlus n) e = omega arith
+one-sided a (withMinus n) e = omega arith
 
 adds : (g : List Record) → Stands g → Adds g (statedTotal (lastIn g)) (statedRecords (lastIn g))
 adds g s =
     let c = s .controlled in
-    let a = signed (the total (c .fields) .bytes) in
+    let a = amountIn (the total (c .fields) .bytes) in
     let last : lastIn g ≡ c .trailer = ap lastIn (c .whole) ∙ last-ended (c .trailer) (is-ended g s) (c .before) (goes-on g s) in
-    let is-total : statedTotal (lastIn g) ≡ asSum a = ap (λ (r : Record). statedTotal r) last ∙ stated-total (c .trailer) (c .fields) (c .walked) in
+    let is-total : statedTotal (lastIn g) ≡ amountAdds a = ap (λ (r : Record). statedTotal r) last ∙ stated-total (c .trailer) (c .fields) (c .walked) in
     let stated = eqb→eq _ _ (c .states-total) in
     let counted = lines-counted _ g (group-codes g (s .is-group)) in
     let lines-are : statedRecords (lastIn g) ≡ length (concat g) = ap (λ (r : Record). statedRecords r) last ∙ stated-records (c .trailer) (c .fields) (c .walked) ∙ c .states-lines in

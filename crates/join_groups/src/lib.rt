@@ -30,10 +30,10 @@ struct GroupTrailer {
 fn read_trailer(rec: &[u8]) -> GroupTrailer
     ensures { λ r. ⌜ (sumMeant (r .total) ≡ statedTotal (linesOf (now (rec .entry)))) × (r .records .0 ≡ statedRecords (linesOf (now (rec .entry)))) ⌝ }
 {
-    let total = base_digits::amount_in(find_field::field(rec, Code::GroupTrailer, Sought::Total));
+    let total = base_amounts::amount_in(find_field::field(rec, Code::GroupTrailer, Sought::Total));
     let records = base_digits::value(find_field::field(rec, Code::GroupTrailer, Sought::Records));
     GroupTrailer {
-        total: Units::of(total.negative, total.magnitude),
+        total: base_amounts::adds(total),
         records: Records(records),
     }
 }

@@ -8,7 +8,8 @@ use lib.ListN.{length}
 use Rattle.rules.specs.Bytes.{Bytes, sameBytes}
 use Rattle.rules.specs.Outcome.{Outcome, fine, _>>_}
 use Rattle.rules.specs.Lines.{Code, fileHeader, groupHeader, accountHeader, detail, accountTrailer, groupTrailer, fileTrailer, Record, fileRecords}
-use Rattle.rules.specs.Numbers.{asSum, signed, number, equals}
+use Rattle.rules.specs.Numbers.{number, equals}
+use Rattle.rules.specs.Amounts.{amountIn, amountAdds}
 use Rattle.rules.specs.Grammar.{total, count, records}
 use Rattle.rules.specs.Records.{Field, the}
 use Rattle.rules.specs.Totals.{Summary, noSummary, _⊞_, sumWithin, rightTotal, rightCount, rightRecords, balanced}
@@ -86,7 +87,7 @@ module _ {c d : Code} {ps : List (List Record)} {rs : List Record} (e : Enclosed
         whole = e .whole;
         is-trailer = e .is-trailer;
         walked = x .closes .walked;
-        states-total = check-holds (equals (sum .sum) (asSum (signed (the total fs .bytes)))) 11 (the total fs .place) (right .right-total);
+        states-total = check-holds (equals (sum .sum) (amountAdds (amountIn (the total fs .bytes)))) 11 (the total fs .place) (right .right-total);
         states-parts = right .right-parts;
         states-lines =
             sym (eqb→eq (sum .records) stated (check-holds (eqb (sum .records) stated) 13 (the records fs .place) (right .right-records)))

@@ -13,7 +13,8 @@ use Rattle.rules.specs.Bytes.{Bytes, LF, CR, comma, slash, allowed, inField, al
 use Rattle.rules.specs.Outcome.{fine}
 use Rattle.rules.specs.Lines.{lf, Line, linesOf, codeBytes, begins, codeIn, codeOf, fileTrailer, continuation, recordsOf, fileRecords}
 use Rattle.rules.specs.Cells.{atComma, atSlash, cellsFrom, cellsOf, leadingBlanks}
-use Rattle.rules.specs.Numbers.{Sum, isDigit, digits, signed, asSum, equals, magnitudes, withinMost, decimal, totalBytes}
+use Rattle.rules.specs.Numbers.{Sum, isDigit, digits, equals, magnitudes, withinMost, decimal, totalBytes}
+use Rattle.rules.specs.Amounts.{amountIn, amountAdds}
 use Rattle.rules.specs.Limits.{most}
 use Rattle.rules.specs.Grammar.{total, count, records, judged, andThen, takeNext, fieldsOf, isSigned}
 use Rattle.rules.specs.Records.{Field, walkAfter, taken, pastSlash, takenTo, walkCells, walkLines, walkRecord, the}
@@ -208,7 +209,7 @@ module _ (limit : ℕ) (s : Summary) (roomy : 48 ≤ limit) (bounded : magnitude
         add-zero (s .sum .minuses),
         add-zero (s .groups),
         is-true (withinMost (s .sum)) (within (s .sum) bounded),
-        equals-back (s .sum) (asSum (signed (totalBytes (s .sum)))) (total-equals (s .sum)),
+        equals-back (s .sum) (amountAdds (amountIn (totalBytes (s .sum)))) (total-equals (s .sum)),
         number-decimal (s .groups),
         eq-eqb (s .groups) (s .groups) refl,
         number-decimal (s .records + 1),

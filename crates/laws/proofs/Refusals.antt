@@ -11,7 +11,8 @@ use Rattle.rules.specs.Bytes.{Bytes, isEmpty, between, allowed, trimmed}
 use Rattle.rules.specs.Outcome.{Outcome, refused, fine, _>>=_, _>>_, check, orRefused, moved}
 use Rattle.rules.specs.Lines.{Line, sizeOf, Code, fileHeader, groupHeader, accountHeader, detail, accountTrailer, groupTrailer, fileTrailer, continuation, sameCode, codeOf, Record, recordSize, fileRecords}
 use Rattle.rules.specs.Cells.{Mark, atComma, atSlash, atLineEnd, Cell, markPlace, cellsOf, leadingBlanks}
-use Rattle.rules.specs.Numbers.{number, magnitudes, withinMost, equals, asSum, signed}
+use Rattle.rules.specs.Numbers.{number, magnitudes, withinMost, equals}
+use Rattle.rules.specs.Amounts.{amountIn, amountAdds}
 use Rattle.rules.specs.Limits.{most, longestFile}
 use Rattle.rules.specs.Grammar.{Kind, Judged, bad, good, andThen, takeNext, nextKind, isText, total, count, records, judged, fieldsOf, mayLack}
 use Rattle.rules.specs.Records.{Field, Walk, walkAfter, taken, pastSlash, takenTo, walkCells, walkLines, walkRecord, the}
@@ -169,7 +170,7 @@ bounded-by m (f ∷ fs) =
 
 total-by : (s : Summary) (fs : List Field) → ByReader (rightTotal s fs)
 unfolding rightTotal
-total-by s fs = check-by byReader (equals (s .sum) (asSum (signed (the total fs .bytes)))) 11 (the total fs .place) tt
+total-by s fs = check-by byReader (equals (s .sum) (amountAdds (amountIn (the total fs .bytes)))) 11 (the total fs .place) tt
 
 records-by : (s : Summary) (fs : List Field) → ByReader (rightRecords s fs)
 unfolding rightRecords

@@ -9,7 +9,8 @@ use lib.ListN.{length, take}
 use Rattle.rules.specs.Bytes.{Bytes, LF}
 use Rattle.rules.specs.Outcome.{fine}
 use Rattle.rules.specs.Lines.{Code, fileHeader, groupHeader, accountHeader, detail, accountTrailer, groupTrailer, fileTrailer, continuation, LineEnd, lacking, lf, crlf, Line, wholeLine, begins, Record, linesOf, lineBytes, recordBytes, fileRecords}
-use Rattle.rules.specs.Numbers.{Sum, zeroSum, _⊕_, asSum, signed, number, equals, magnitudes}
+use Rattle.rules.specs.Numbers.{Sum, zeroSum, _⊕_, number, equals, magnitudes}
+use Rattle.rules.specs.Amounts.{amountIn, amountAdds}
 use Rattle.rules.specs.Limits.{most}
 use Rattle.rules.specs.Grammar.{total, count, records}
 use Rattle.rules.specs.Records.{Field, the, walkRecord}
@@ -185,7 +186,7 @@ pub record Controlled (d : Code) (parts : Option ℕ) (rs : List Record) : Type 
   pub whole : rs ≡ before ++ (trailer ∷ [])
   pub is-trailer : T (heads d trailer)
   pub walked : walkRecord d trailer ≡ fine fields
-  pub states-total : T (equals (totalOf rs) (asSum (signed (the total fields .bytes))))
+  pub states-total : T (equals (totalOf rs) (amountAdds (amountIn (the total fields .bytes))))
   pub states-parts : States parts fields
   pub states-lines : number (the records fields .bytes) ≡ length (concat rs)
 

@@ -6,7 +6,8 @@ use mathlib.Core.List.{List, [], _∷_}
 use lib.Dec.{T, eqb}
 use lib.ListN.{length}
 use Rattle.rules.specs.Bytes.{Bytes}
-use Rattle.rules.specs.Numbers.{Sum, zeroSum, _⊕_, asSum, signed}
+use Rattle.rules.specs.Numbers.{Sum, zeroSum, _⊕_}
+use Rattle.rules.specs.Amounts.{amountIn, amountAdds}
 use Rattle.rules.specs.Outcome.{fine, refuse, orElse}
 use Rattle.rules.specs.Lines.{Code, Record}
 use Rattle.rules.specs.Grammar.{ultimateReceiver, kindNumber}
@@ -42,7 +43,7 @@ pub record ReceiverMet (file : Bytes) (p : ℕ) (g : List Record) : Type 0 where
 
 -- a field's amount, with its sign, by the number of its kind: 16 is a status amount, 17 an amount; others, funds amounts too, have none
 unfoldable pub amountHanded : Field → Sum
-amountHanded f = cond (eqb (kindNumber (f .kind)) 17 || eqb (kindNumber (f .kind)) 16) (asSum (signed (f .bytes))) zeroSum
+amountHanded f = cond (eqb (kindNumber (f .kind)) 17 || eqb (kindNumber (f .kind)) 16) (amountAdds (amountIn (f .bytes))) zeroSum
 
 unfoldable pub amountsHanded : List Field → Sum
 amountsHanded [] = zeroSum

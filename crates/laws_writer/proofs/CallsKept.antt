@@ -10,7 +10,8 @@ use lib.Dec.{eqb}
 use borrow.Author.Tests.{eq-eqb, eqb-true}
 use Rattle.rules.specs.Bytes.{Bytes, sameBytes}
 use Rattle.rules.specs.Outcome.{Outcome, fine, _>>_}
-use Rattle.rules.specs.Numbers.{Signed, Sum, zeroSum, decimal, totalBytes, magnitudes, withinMost, equals, asSum, signed}
+use Rattle.rules.specs.Numbers.{Signed, Sum, zeroSum, decimal, totalBytes, magnitudes, withinMost, equals}
+use Rattle.rules.specs.Amounts.{amountIn, amountAdds}
 use Rattle.rules.specs.Limits.{most, longestLine}
 use Rattle.rules.specs.Lines.{Code, detail, groupTrailer, fileTrailer, begins, linesOf, recordsOf, fileRecords}
 use Rattle.rules.specs.Grammar.{Kind, fieldsOf, total, count, records}
@@ -48,7 +49,7 @@ module _ (s : Summary) (g : Given) (fs : List Field) (sum : ofGiven g .sum ≡ z
   total-right : the total fs .bytes ≡ totalBytes (s .sum) → rightTotal (s ⊞ ofGiven g) fs ≡ fine tt
   unfolding rightTotal _⊞_
   total-right e =
-      rw (e, sum, add-zero (s .sum .pluses), add-zero (s .sum .minuses), equals-sym (asSum (signed (totalBytes (s .sum)))) (s .sum) (total-equals (s .sum)))
+      rw (e, sum, add-zero (s .sum .pluses), add-zero (s .sum .minuses), equals-sym (amountAdds (amountIn (totalBytes (s .sum)))) (s .sum) (total-equals (s .sum)))
 
   records-right : the records fs .bytes ≡ decimal (s .records + 1) → rightRecords (s ⊞ ofGiven g) fs ≡ fine tt
   unfolding rightRecords _⊞_

@@ -9,10 +9,11 @@ use native.Mathlib.Nat.{add-zero, zero-add}
 use lib.ListN.{length, drop}
 use Rattle.rules.specs.Bytes.{Bytes, all, isEmpty}
 use Rattle.rules.specs.Outcome.{fine}
-use Rattle.rules.specs.Numbers.{Signed, Sum, zeroSum, _⊕_, asSum, signed, digits}
+use Rattle.rules.specs.Numbers.{Signed, Sum, zeroSum, _⊕_, digits}
+use Rattle.rules.specs.Amounts.{amountIn, amountAdds}
 use Rattle.rules.specs.TypeCodes.{Class, status, summaryOnly, summaryOrDetail, nonMonetary, unknown, typeClass}
 use Rattle.rules.specs.Lines.{accountHeader, continuation}
-use Rattle.rules.specs.Grammar.{Kind, name, currency, firstType, furtherType, statusAmount, amount, itemCount, funds, count, nothing, Judged, bad, good, fits, fundsOf, judged, mayLack}
+use Rattle.rules.specs.Grammar.{Kind, name, currency, firstType, furtherType, statusAmount, amount, itemCount, funds, nothing, Judged, bad, good, fits, fundsOf, judged, mayLack}
 use Rattle.rules.specs.Grammar.{fieldsOf, itemOf}
 use Rattle.rules.specs.Totals.{amountOf, sumOf}
 use Rattle.rules.specs.Writer.{Item, writeAccount, writeItem, Writer, given, amountBytes, itemCountBytes, sumGiven, itemFields, wantsItem, kindsAfter}
@@ -41,7 +42,7 @@ record ItemFound (new : List Kind) (a : Option Signed) (n : Option ℕ) (left : 
   pub back : (p : ℕ) → allSaid (zipped p used (itemRest a n)) ≡ restGiven a n
   pub sum : (p : ℕ) → sumOf (zipped p used (itemRest a n)) ≡ sumGiven a
 
-sum-zeros : (a : Option Signed) → asSum (signed (amountBytes a)) ⊕ (zeroSum ⊕ (zeroSum ⊕ zeroSum)) ≡ sumGiven a
+sum-zeros : (a : Option Signed) → amountAdds (amountIn (amountBytes a)) ⊕ (zeroSum ⊕ (zeroSum ⊕ zeroSum)) ≡ sumGiven a
 sum-zeros a = rw (amount-reads a) (simp add-zero)
 
 -- where `nothing` is wanted, the field is empty

@@ -4,13 +4,14 @@ use mathlib.Core.Bool.{Bool, true, false, _||_, false≢true}
 use mathlib.Core.List.{[], _∷_}
 use mathlib.Core.Logic.{⊎-elim}
 use mathlib.Core.Option.{Option, none, some}
-use Prim.Native.Nat.{ℕ, suc, _+_, _-_, _≤_}
+use Prim.Native.Nat.{ℕ, suc, _-_, _≤_}
 use native.Mathlib.Omega.{arith}
 use lib.Dec.{ltb}
 use lib.ListN.{length}
 use borrow.Author.Tests.{lt-ltb, le-ltb, ltb-true, ltb-false}
-use Rattle.rules.specs.Bytes.{Bytes, isEmpty, startsWith}
-use Rattle.rules.specs.Numbers.{Signed, Sum, asSum, signed, asInteger, numberFrom, withoutSign, decimal, totalBytes}
+use Rattle.rules.specs.Bytes.{Bytes, isEmpty}
+use Rattle.rules.specs.Numbers.{Signed, Sum, asSum, asInteger, decimal, totalBytes}
+use Rattle.rules.specs.Amounts.{amountIn, amountAdds}
 use Rattle.rules.specs.Grammar.{Kind, sameKind, amount, statusAmount, total, itemCount, count, records}
 use Rattle.rules.specs.Writer.{amountBytes, itemCountBytes, sumGiven}
 use Rattle.rules.proofs.Tests.{Known, holds, fails, known}
@@ -38,32 +39,32 @@ total-filled a =
 -- ---- its value
 
 module _ (m : ℕ) where
-  below-zero : Known (ltb 0 m) → asSum (asRead (record { pluses = 0; minuses = m })) ≡ record { pluses = 0; minuses = m }
-  below-zero (holds e) = let z : (0 - m) + (m - 0) ≡ m = omega arith in rw (e, z)
+  below-zero : Known (ltb 0 m) → amountAdds (asRead (record { pluses = 0; minuses = m })) ≡ record { pluses = 0; minuses = m }
+  below-zero (holds e) = let z : m - 0 ≡ m = omega arith in rw (e, z)
   below-zero (fails e) = let y : m ≡ 0 = omega (arith, ltb-false) in rw y
 
-  above-zero : asSum (asRead (record { pluses = m; minuses = 0 })) ≡ record { pluses = m; minuses = 0 }
-  above-zero = let z : (m - 0) + (0 - m) ≡ m = omega arith in rw (le-ltb m 0 (omega arith), z)
+  above-zero : amountAdds (asRead (record { pluses = m; minuses = 0 })) ≡ record { pluses = m; minuses = 0 }
+  above-zero = let z : m - 0 ≡ m = omega arith in rw (le-ltb m 0 (omega arith), z)
 
-by-sign : (negative : Bool) (m : ℕ) → asSum (asRead (asSum (record { negative = negative; magnitude = m }))) ≡ asSum (record { negative = negative; magnitude = m })
+by-sign : (negative : Bool) (m : ℕ) → amountAdds (asRead (asSum (record { negative = negative; magnitude = m }))) ≡ asSum (record { negative = negative; magnitude = m })
 by-sign true m = below-zero m (known (ltb 0 m))
 by-sign false m = above-zero m
 
 -- an amount reads as the number given, none as 0
-pub amount-reads : (a : Option Signed) → asSum (signed (amountBytes a)) ≡ sumGiven a
-unfolding signed startsWith withoutSign numberFrom
+pub amount-reads : (a : Option Signed) → amountAdds (amountIn (amountBytes a)) ≡ sumGiven a
+unfolding amountIn
 amount-reads none = refl
-amount-reads (some a) = ap asSum (total-read (asSum a)) ∙ by-sign (a .negative) (a .magnitude)
+amount-reads (some a) = ap amountAdds (total-read (asSum a)) ∙ by-sign (a .negative) (a .magnitude)
 
 -- a total reads as its sum's integer
-integer-step : (a : Sum) → Known (ltb (a .pluses) (a .minuses)) → asInteger (asSum (asRead a)) ≡ asInteger a
+integer-step : (a : Sum) → Known (ltb (a .pluses) (a .minuses)) → asInteger (amountAdds (asRead a)) ≡ asInteger a
 integer-step a (holds e) =
-    let d = (a .pluses - a .minuses) + (a .minuses - a .pluses) in
+    let d = a .minuses - a .pluses in
     let h = ltb-true (a .pluses) (a .minuses) e in
     let m : d - 1 ≡ a .minuses - suc (a .pluses) = omega arith in
     rw (e, lt-ltb 0 d (omega arith), m)
 integer-step a (fails e) =
-    let d = (a .pluses - a .minuses) + (a .minuses - a .pluses) in
+    let d = a .pluses - a .minuses in
     let h = ltb-false (a .pluses) (a .minuses) e in
     let m : d - 0 ≡ a .pluses - a .minuses = omega arith in
     rw (e, le-ltb d 0 (omega arith), m)

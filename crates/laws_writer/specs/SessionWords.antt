@@ -6,7 +6,8 @@ use mathlib.Core.Option.{Option, none, some}
 use lib.Dec.{eqb}
 use lib.IntN.{ℤ}
 use Rattle.rules.specs.Bytes.{Bytes, letter, slash, isEmpty, just}
-use Rattle.rules.specs.Numbers.{Signed, asSum, signed, asInteger}
+use Rattle.rules.specs.Numbers.{Signed, asSum, asInteger}
+use Rattle.rules.specs.Amounts.{amountIn, amountAdds}
 use Rattle.rules.specs.Numbers as numbers
 use Rattle.rules.specs.Lines.{Code, continuation, sameCode, codeOf, Record, fileRecords}
 use Rattle.rules.specs.Grammar.{Kind, sameKind, amount, statusAmount, total, itemCount, count, records, text}
@@ -27,7 +28,7 @@ pub data Value : Type 0 where
 -- a field that isn't empty, by its kind; "/" at a text's place says nothing
 unfoldable pub filled : Kind → Bytes → Value
 filled k bs =
-    cond (sameKind k amount || (sameKind k statusAmount || sameKind k total)) (units (asInteger (asSum (signed bs))))
+    cond (sameKind k amount || (sameKind k statusAmount || sameKind k total)) (units (asInteger (amountAdds (amountIn bs))))
     (cond (sameKind k itemCount || (sameKind k count || sameKind k records)) (number (numbers.number bs))
     (cond (sameKind k text && just slash bs) nothing (bytes bs)))
 

@@ -2,13 +2,13 @@
 use Prim.Native.Nat.{ℕ, _+_, _-_, _≤_}
 use native.Mathlib.Omega.{arith}
 use mathlib.Core.Path.{_≡_, refl, sym, ap, _∙_}
-use mathlib.Core.Bool.{Bool, true, false, cond, not}
-use mathlib.Core.List.{List, [], _∷_}
-use mathlib.Core.Option.{none, some}
+use mathlib.Core.Bool.{true, false, cond}
+use mathlib.Core.List.{List, []}
 use lib.ListN.{length, take, drop, length-drop}
 use lib.Seq.{slice, drop-drop, length-take-le}
-use Rattle.rules.specs.Bytes.{Bytes, slash, isEmpty, just}
-use Rattle.rules.specs.Numbers.{number, numberFrom, withoutSign}
+use Rattle.rules.specs.Bytes.{Bytes, slash, just}
+use Rattle.rules.specs.Numbers.{number}
+use Rattle.rules.specs.Amounts.{Amount, empty, amountIn}
 use Rattle.rules.specs.Outcome.{notRefused, Outcome, refused, fine, _>>=_, orElse}
 use Rattle.rules.specs.Lines.{detail, Record, recordBytes}
 use Rattle.rules.specs.Grammar.{Kind, detailType, amount, text, fieldsOf}
@@ -20,7 +20,6 @@ use Rattle.find_field.specs.FieldSearch.{Found, seekLines, inDetail}
 use Rattle.find_field.proofs.SearchAgrees.{found-is}
 use Rattle.read_lines.proofs.LineLaws.{take-drop}
 use Rattle.read_walk.proofs.LineParts.{part-slice, part-front}
-use Rattle.part_details.specs.DetailMeaning.{amountMeant}
 use Rattle.part_details.specs.TextPlace.{pieceAt}
 use Rattle.part_groups.specs.PartsEnclosed.{Numbered}
 use Rattle.part_groups.proofs.PartsStand.{DetailStands, detail-stands, detail-refuses}
@@ -50,19 +49,6 @@ pub some-piece : (file : Bytes) (a e s n : ℕ) (x : Found) → record { place =
 unfolding pieceAt
 some-piece file a e s n x is ae w t = rw (t, ← part-of-part file a e s n ae w) (ap (λ (y : Found). record { place = a + y .place; bytes = y .bytes }) is)
 
--- ---- the amount
-
-amount-is : (bs : Bytes) → amountMeant (not (isEmpty bs)) (number (withoutSign bs)) ≡ cond (isEmpty bs) none (some (number (withoutSign bs)))
-unfolding isEmpty
-amount-is [] = refl
-amount-is (b ∷ bs) = refl
-
--- it is 0 where none is given
-pub zero-without : (bs : Bytes) (given : Bool) (n : ℕ) → given ≡ not (isEmpty bs) → n ≡ number (withoutSign bs) → given ≡ false → n ≡ 0
-unfolding isEmpty withoutSign numberFrom
-zero-without [] given n g m z = m
-zero-without (b ∷ bs) given n g m z = let y : false ≡ true = sym z ∙ g in let x : _≡_ {A = ℕ} 0 1 = cc in absurd (omega arith)
-
 -- ---- a detail that stands
 
 module _ (file : Bytes) (x : Placed) (s : DetailStands file x) where
@@ -80,8 +66,7 @@ module _ (file : Bytes) (x : Placed) (s : DetailStands file x) where
   unfolding firstFields fieldsIn
   fields-are = ap (λ (rs : List Record). firstFields detail rs) (s .one) ∙ rw (s .walked)
 
-  module _ (ty : ℕ) (given : Bool) (am ts tl : ℕ) (t : ty ≡ number (inDetail detailType rec .bytes)) (g : given ≡ not (isEmpty (inDetail amount rec .bytes)))
-      (m : am ≡ number (withoutSign (inDetail amount rec .bytes)))
+  module _ (ty : ℕ) (am : Amount) (ts tl : ℕ) (t : ty ≡ number (inDetail detailType rec .bytes)) (m : am ≡ amountIn (inDetail amount rec .bytes))
       (p : record { place = ts; bytes = take tl (drop ts file) } ≡ pieceAt (x .place) (inDetail text rec)) (fits : ts + tl ≤ length file) where
     piece : record { place = ts; bytes = take tl (drop ts file) } ≡ pieceAt (x .place) (record { place = the text (s .fields) .place; bytes = the text (s .fields) .bytes })
     piece = p ∙ ap (pieceAt (x .place)) (found text)
@@ -93,14 +78,12 @@ module _ (file : Bytes) (x : Placed) (s : DetailStands file x) where
         ∙ piece-by (x .place) (record { place = the text (s .fields) .place; bytes = the text (s .fields) .bytes }) (known _) .1
         ∙ ap (λ (fs : List Field). cond (just slash (the text fs .bytes)) [] (the text fs .bytes)) (sym fields-are)
 
-    answer-is : record { refusal = notRefused; type = ty; amountGiven = amountMeant given am; textStart = ts; textLength = tl } ≡ detailAnswer (fine (detailIn x))
+    answer-is : record { refusal = notRefused; type = ty; amount = am; textStart = ts; textLength = tl } ≡ detailAnswer (fine (detailIn x))
     unfolding detailAnswer detailIn
     answer-is =
         let fs = s .fields in
         let type-eq : ty ≡ number (the detailType fs .bytes) = t ∙ ap number (found-bytes detailType) in
-        let amount-eq : amountMeant given am ≡ cond (isEmpty (the amount fs .bytes)) none (some (number (withoutSign (the amount fs .bytes)))) =
-        ap (λ (b : Bool). amountMeant b am) g ∙ ap (λ (n : ℕ). amountMeant (not (isEmpty (inDetail amount rec .bytes))) n) m
-        ∙ ap (λ (bs : Bytes). amountMeant (not (isEmpty bs)) (number (withoutSign bs))) (found-bytes amount) ∙ amount-is (the amount fs .bytes) in
+        let amount-eq : am ≡ amountIn (the amount fs .bytes) = m ∙ ap amountIn (found-bytes amount) in
         let place-eq : ts ≡ cond (just slash (the text fs .bytes)) 0 (x .place + the text fs .place) =
         ap (λ (y : Found). y .place) piece ∙ piece-by (x .place) (record { place = the text fs .place; bytes = the text fs .bytes }) (known _) .0 in
         let length-eq : tl ≡ length (detailIn x .textBytes) = sym (length-take-le tl (drop ts file) (omega (arith, length-drop ts file))) ∙ ap length text-is in
@@ -110,33 +93,32 @@ module _ (file : Bytes) (x : Placed) (s : DetailStands file x) where
 
 -- refused
 no-detail : (o : Outcome Placed) (q : PartAnswer) → q ≡ partAnswer o → ¬ (q .refusal .number ≡ 0)
-    → (record { refusal = q .refusal; type = 0; amountGiven = none; textStart = 0; textLength = 0 } ≡ detailAnswer (o >>= λ x. fine (detailIn x)))
+    → (record { refusal = q .refusal; type = 0; amount = empty; textStart = 0; textLength = 0 } ≡ detailAnswer (o >>= λ x. fine (detailIn x)))
     × ([] ≡ orElse (o >>= λ x. fine (detailIn x)) noDetail .textBytes)
 unfolding partAnswer detailAnswer
 no-detail (refused why) q e h = (rw e, refl)
 no-detail (fine x) q e h = absurd (h (ap (λ (y : PartAnswer). y .refusal .number) e))
 
 pub detail-refused : (file : Bytes) (g a d : ℕ) (q : PartAnswer) → q ≡ partAnswer (detailPartAt file g a d) → ¬ (q .refusal .number ≡ 0)
-    → (record { refusal = q .refusal; type = 0; amountGiven = none; textStart = 0; textLength = 0 } ≡ detailOfFile file g a d) × ([] ≡ orElse (detailAt file g a d) noDetail .textBytes)
+    → (record { refusal = q .refusal; type = 0; amount = empty; textStart = 0; textLength = 0 } ≡ detailOfFile file g a d) × ([] ≡ orElse (detailAt file g a d) noDetail .textBytes)
 unfolding detailOfFile detailAt
 detail-refused file g a d q e h = no-detail (detailPartAt file g a d) q e h
 
 -- found: the part's bytes are the record's
-module _ (file : Bytes) (q : PartAnswer) (ty : ℕ) (given : Bool) (am ts tl : ℕ) where
+module _ (file : Bytes) (q : PartAnswer) (ty : ℕ) (am : Amount) (ts tl : ℕ) where
   abbrev part : Bytes
   part = take (q .start + q .len - q .start) (drop (q .start) file)
 
   -- what the code found in it
   pub record Reads : Type 0 where
     pub type-is : ty ≡ number (inDetail detailType part .bytes)
-    pub given-is : given ≡ not (isEmpty (inDetail amount part .bytes))
-    pub amount-is : am ≡ number (withoutSign (inDetail amount part .bytes))
+    pub amount-is : am ≡ amountIn (inDetail amount part .bytes)
     pub text-is : record { place = ts; bytes = take tl (drop ts file) } ≡ pieceAt (q .start) (inDetail text part)
     pub inside : ts + tl ≤ length file
 
   abbrev Answers : Outcome Placed → Type 0
   Answers o =
-      (record { refusal = q .refusal; type = ty; amountGiven = amountMeant given am; textStart = ts; textLength = tl } ≡ detailAnswer (o >>= λ x. fine (detailIn x)))
+      (record { refusal = q .refusal; type = ty; amount = am; textStart = ts; textLength = tl } ≡ detailAnswer (o >>= λ x. fine (detailIn x)))
       × (take tl (drop ts file) ≡ orElse (o >>= λ x. fine (detailIn x)) noDetail .textBytes)
 
   answers : (x : Placed) → q ≡ partAnswer (fine x) → DetailStands file x → Reads → Answers (fine x)
@@ -146,14 +128,13 @@ module _ (file : Bytes) (q : PartAnswer) (ty : ℕ) (given : Bool) (am ts tl : �
       let size : q .start + q .len - q .start ≡ length (recordBytes (x .records)) = omega (arith, ap (λ (y : PartAnswer). y .len) e) in
       let bytes : part ≡ take (length (recordBytes (x .records))) (drop (x .place) file) = rw (size, at) in
       let t = r .type-is ∙ ap (λ (bs : Bytes). number (inDetail detailType bs .bytes)) bytes in
-      let g = r .given-is ∙ ap (λ (bs : Bytes). not (isEmpty (inDetail amount bs .bytes))) bytes in
-      let m = r .amount-is ∙ ap (λ (bs : Bytes). number (withoutSign (inDetail amount bs .bytes))) bytes in
+      let m = r .amount-is ∙ ap (λ (bs : Bytes). amountIn (inDetail amount bs .bytes)) bytes in
       let p =
       r .text-is
       ∙ ap (λ (bs : Bytes). pieceAt (q .start) (inDetail text bs)) bytes
       ∙ ap (λ (k : ℕ). pieceAt k (inDetail text (take (length (recordBytes (x .records))) (drop (x .place) file)))) at in
       let none-refused : q .refusal ≡ notRefused = ap (λ (y : PartAnswer). y .refusal) e in
-      (rw none-refused (answer-is file x s ty given am ts tl t g m p (r .inside)), text-is file x s ty given am ts tl t g m p (r .inside))
+      (rw none-refused (answer-is file x s ty am ts tl t m p (r .inside)), text-is file x s ty am ts tl t m p (r .inside))
 
   answers-by : (o : Outcome Placed) → q ≡ partAnswer o → q .refusal .number ≡ 0 → Numbered o → ((x : Placed) → o ≡ fine x → DetailStands file x) → Reads → Answers o
   unfolding partAnswer
@@ -161,7 +142,7 @@ module _ (file : Bytes) (q : PartAnswer) (ty : ℕ) (given : Bool) (am ts tl : �
   answers-by (fine x) e z never stands r = answers x e (stands x refl) r
 
   pub detail-found : (g a d : ℕ) → q ≡ partAnswer (detailPartAt file g a d) → q .refusal .number ≡ 0 → Reads
-      → (record { refusal = q .refusal; type = ty; amountGiven = amountMeant given am; textStart = ts; textLength = tl } ≡ detailOfFile file g a d)
+      → (record { refusal = q .refusal; type = ty; amount = am; textStart = ts; textLength = tl } ≡ detailOfFile file g a d)
       × (take tl (drop ts file) ≡ orElse (detailAt file g a d) noDetail .textBytes)
   unfolding detailOfFile detailAt
   detail-found g a d e z r = answers-by (detailPartAt file g a d) e z (detail-refuses file g a d) (detail-stands file g a d) r

@@ -1,6 +1,6 @@
 // A detail by number: its type, its amount and its first text piece, which is a slice of the lent file itself.
+use base_amounts::Amount;
 use base_codes::Code;
-use base_quantities::Magnitude;
 use base_quantities::Place;
 use base_refusals::Refusal;
 use find_field::Sought;
@@ -11,15 +11,14 @@ ghost use lib.ListN.{length};
 ghost use Rattle.rules.specs.Outcome.{orElse};
 ghost use Rattle.rules.specs.Parts as rules;
 ghost use Rattle.rules.specs.Answers.{detailOfFile, noDetail};
-ghost use Rattle.part_details.specs.DetailMeaning.{detailMeant, ZeroWithout, TextStands};
+ghost use Rattle.part_details.specs.DetailMeaning.{detailMeant, TextStands};
 ghost use Rattle.part_details.specs.TextPlace.{TextIs};
 
-// The refusal, by number 0 at place 0 where there is none; and a detail's type, whether its amount is given and which, and where its first text piece starts in the file, and its length: 0 where there is none.
+// The refusal, by number 0 at place 0 where there is none; and a detail's type, its amount as it was given, and where its first text piece starts in the file, and its length: 0 where there is none.
 pub struct DetailAnswer {
     pub refusal: Refusal,
     pub type_code: u64,
-    pub amount_given: bool,
-    pub amount: Magnitude,
+    pub amount: Amount,
     pub text_start: Place,
     pub text_length: usize,
 }
@@ -51,7 +50,7 @@ fn text_in(file: &[u8], from: Place, to: Place) -> Spot
 
 // The detail of this number in that account: reader's refusal, 17.
 pub fn detail(file: &[u8], g: u64, a: u64, n: u64) -> DetailAnswer
-    ensures { λ r. ⌜ (detailMeant r ≡ detailOfFile (now (file .entry)) g a n) × TextStands (now (file .entry)) r (orElse (rules.detailAt (now (file .entry)) g a n) noDetail .textBytes) × ZeroWithout r ⌝ }
+    ensures { λ r. ⌜ (detailMeant r ≡ detailOfFile (now (file .entry)) g a n) × TextStands (now (file .entry)) r (orElse (rules.detailAt (now (file .entry)) g a n) noDetail .textBytes) ⌝ }
 {
     let part = part_groups::find_detail(file, g, a, n);
     let refusal = part.refusal;
@@ -59,8 +58,7 @@ pub fn detail(file: &[u8], g: u64, a: u64, n: u64) -> DetailAnswer
         return DetailAnswer {
             refusal,
             type_code: 0,
-            amount_given: false,
-            amount: Magnitude(0),
+            amount: Amount::Empty,
             text_start: Place(0),
             text_length: 0,
         };
@@ -69,15 +67,12 @@ pub fn detail(file: &[u8], g: u64, a: u64, n: u64) -> DetailAnswer
     let from = start.0;
     let to = from + part.length;
     let rec = &file[from..to];
-    let amount = find_field::amount_of(rec);
     let text = text_in(file, start, Place(to));
-    let magnitude = amount.amount;
     let text_start = text.start;
     DetailAnswer {
         refusal,
         type_code: find_field::type_of(rec),
-        amount_given: amount.given,
-        amount: magnitude,
+        amount: find_field::amount_of(rec),
         text_start,
         text_length: text.length,
     }

@@ -159,7 +159,7 @@ account-envelope rs i k =
     (record { c-else = tt; d-else = tt; c-88 = tt; d-88 = tt; d-c = tt }) (i .enclosed)
     (details-begin (detailsIn rs) (i .details)) (inner-kept (detailsIn rs) rs (i .enclosed) k .are-records) (account-cut rs i)
 
-account-refuses : (file : Bytes) (g a : ℕ) → Numbered (accountAt file g a)
+pub account-refuses : (file : Bytes) (g a : ℕ) → Numbered (accountAt file g a)
 unfolding accountAt
 account-refuses file g a = bind-refuses (groupAt file g) _ (group-refuses file g) (λ x. in-refuses (x .place) (inAccounts (x .records)) a)
 
@@ -174,6 +174,29 @@ outer-account file g a =
             envelope = account-envelope (x .records) (account-part file g a x h .is-part) kept;
           };
       refuses = account-refuses file g a;
+    }
+
+-- a 03 that was read, before the account's other records, in a slice of the file that reads as they do
+pub record AccountStands (file : Bytes) (x : Placed) : Type 0 where
+  pub header : Record
+  pub others : List Record
+  pub whole : x .records ≡ header ∷ others
+  pub fields : List Field
+  pub walked : walkRecord accountHeader header ≡ fine fields
+  pub reads : fileRecords (take (length (recordBytes (x .records))) (drop (x .place) file)) ≡ x .records
+
+pub account-stands : (file : Bytes) (g a : ℕ) (x : Placed) → accountAt file g a ≡ fine x → AccountStands file x
+account-stands file g a x h =
+    let e = account-part file g a x h .is-part .enclosed in
+    let s = account-sound file g a x h in
+    let read = subst (All Read) (e .whole) (s .read) .0 in
+    record {
+      header = e .header;
+      others = concat (detailsIn (x .records)) ++ (e .trailer ∷ []);
+      whole = e .whole;
+      fields = read .fields;
+      walked = ap (λ (c : Code). walkRecord c (e .header)) (one-code accountHeader (read .code) (e .header) (e .is-header) (read .is-code)) ∙ read .walked;
+      reads = ap fileRecords (account-is-slice file g a x h) ∙ kept-alone (x .records) (s .kept);
     }
 
 -- ---- a detail

@@ -1,13 +1,13 @@
 -- After the fields, what is kept of them settles a record as the rules do. Assumes nothing.
 use Prim.Native.Nat.{ℕ}
-use mathlib.Core.Path.{_≡_, refl, ap, _∙_}
+use mathlib.Core.Path.{_≡_, refl, ap}
 use mathlib.Core.Bool.{Bool, true, false, cond, not}
 use mathlib.Core.List.{List}
 use lib.Dec.{eqb}
 use lib.ListN.{length}
 use Rattle.rules.specs.Bytes.{isEmpty}
 use Rattle.rules.specs.Outcome.{Outcome, refused, fine, _>>=_, _>>_, check}
-use Rattle.rules.specs.Numbers.{asSum, equals, magnitudes, number}
+use Rattle.rules.specs.Numbers.{equals, magnitudes, number}
 use Rattle.rules.specs.Lines.{Code, fileHeader, groupHeader, accountHeader, detail, accountTrailer, groupTrailer, fileTrailer, continuation, sameCode, Record}
 use Rattle.rules.specs.Grammar.{total, count, records, physicalLength}
 use Rattle.rules.specs.Records.{Field, the}
@@ -41,7 +41,7 @@ module _ (m : ℕ) (fs : List Field) (k : Kept) (is : KeptOf m fs k) where
 
   total-right : (s : Summary) → totalK s k ≡ rightTotal s fs
   unfolding totalK rightTotal
-  total-right s = ap (λ x. check (equals (s .sum) (asSum (x .1))) 11 (x .0)) (is .total)
+  total-right s = ap (λ x. check (equals (s .sum) (x .1)) 11 (x .0)) (is .total)
 
   count-right : (n : ℕ) → countK n k ≡ rightCount n fs
   unfolding countK rightCount

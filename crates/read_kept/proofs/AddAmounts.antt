@@ -6,7 +6,8 @@ use native.Mathlib.Omega.{arith}
 use borrow.Author.Tests.{le-leb, lt-leb, lt-ltb, le-ltb, ltb-true, ltb-false}
 use lib.Dec.{ltb}
 use Rattle.rules.specs.Bytes.{Bytes}
-use Rattle.rules.specs.Numbers.{Signed, Sum, asSum, _⊕_, magnitudes}
+use Rattle.rules.specs.Numbers.{Sum, _⊕_, magnitudes}
+use Rattle.rules.specs.Amounts.{Amount, empty, unsigned, withPlus, withMinus, magnitudeOf, amountAdds}
 use Rattle.rules.specs.Limits.{most}
 use Rattle.base_quantities.specs.QuantityMeanings.{sumMeant, unitsOf, wrappedSum}
 use Rattle.base_quantities.specs.declared.Units.{Units}
@@ -31,36 +32,33 @@ module _ (m a b n : ℕ) where
 
 -- ---- an amount
 
-amount-magnitude : (a : Signed) → (asSum a .pluses + asSum a .minuses) ≡ a .magnitude
-amount-magnitude a = by-sign (a .negative) refl
-  where
-    by-sign : (t : Bool) → a .negative ≡ t → (asSum a .pluses + asSum a .minuses) ≡ a .magnitude
-    by-sign true e = rw e (omega arith)
-    by-sign false e = rw e (omega arith)
+amount-magnitude : (a : Amount) → magnitudes (amountAdds a) ≡ magnitudeOf a
+amount-magnitude empty = refl
+amount-magnitude (unsigned n) = omega arith
+amount-magnitude (withPlus n) = omega arith
+amount-magnitude (withMinus n) = omega arith
 
-module _ (m : ℕ) (x : Amounts) (p : ℕ) (a : Signed) where
+module _ (m : ℕ) (x : Amounts) (p : ℕ) (a : Amount) where
   pub add-over : x .over ≡ true → x ≡ addTo m x p a
   unfolding addTo
   add-over h = rw h
 
   module _ (h : x .over ≡ false) where
-    pub add-past : most < m + magnitudes (sumMeant (x .sum)) + a .magnitude → (n : Bool) → a .negative ≡ n
-        → record { sum = x .sum; over = true; past = place p } ≡ addTo m x p a
+    pub add-past : most < m + magnitudes (sumMeant (x .sum)) + magnitudeOf a → record { sum = x .sum; over = true; past = place p } ≡ addTo m x p a
     unfolding addTo
-    add-past g true e = rw (h, e, lt-leb (m + (x .sum .0 + 0 + (x .sum .1 + a .magnitude))) most (omega arith))
-    add-past g false e = rw (h, e, lt-leb (m + (x .sum .0 + a .magnitude + (x .sum .1 + 0))) most (omega arith))
+    add-past g = rw (h, lt-leb (m + magnitudes (sumMeant (x .sum) ⊕ amountAdds a)) most (omega (arith, amount-magnitude a)))
 
-    module _ (g : m + magnitudes (sumMeant (x .sum)) + a .magnitude ≤ most) where
-      add-fits : addTo m x p a ≡ record { sum = unitsOf (sumMeant (x .sum) ⊕ asSum a); over = x .over; past = x .past }
+    module _ (g : m + magnitudes (sumMeant (x .sum)) + magnitudeOf a ≤ most) where
+      add-fits : addTo m x p a ≡ record { sum = unitsOf (sumMeant (x .sum) ⊕ amountAdds a); over = x .over; past = x .past }
       unfolding addTo
-      add-fits = rw (h, le-leb (m + magnitudes (sumMeant (x .sum) ⊕ asSum a)) most (omega (arith, amount-magnitude a)))
+      add-fits = rw (h, le-leb (m + magnitudes (sumMeant (x .sum) ⊕ amountAdds a)) most (omega (arith, amount-magnitude a)))
 
       -- the units that were added are the rules' sum: neither side wraps
-      pub add-more : (u v : Units) → sumMeant v ≡ asSum a → sumMeant u ≡ wrappedSum (sumMeant (x .sum) ⊕ sumMeant v)
+      pub add-more : (u v : Units) → sumMeant v ≡ amountAdds a → sumMeant u ≡ wrappedSum (sumMeant (x .sum) ⊕ sumMeant v)
           → record { sum = u; over = x .over; past = x .past } ≡ addTo m x p a
       add-more u v is-v is-u =
-          let sum : sumMeant u ≡ sumMeant (x .sum) ⊕ asSum a =
-          is-u ∙ ap (λ (b : Sum). wrappedSum (sumMeant (x .sum) ⊕ b)) is-v ∙ sum-not-wrapped (sumMeant (x .sum)) (asSum a) (omega (arith, amount-magnitude a)) (omega (arith, amount-magnitude a)) in
+          let sum : sumMeant u ≡ sumMeant (x .sum) ⊕ amountAdds a =
+          is-u ∙ ap (λ (b : Sum). wrappedSum (sumMeant (x .sum) ⊕ b)) is-v ∙ sum-not-wrapped (sumMeant (x .sum)) (amountAdds a) (omega (arith, amount-magnitude a)) (omega (arith, amount-magnitude a)) in
           ap (λ (b : Sum). record { sum = unitsOf b; over = x .over; past = x .past }) sum ∙ sym add-fits
 
 -- ---- a field that is kept for nothing

@@ -5,22 +5,25 @@ use mathlib.Core.Bool.{Bool, true, false, _||_}
 use mathlib.Core.List.{List, [], _∷_}
 use native.Mathlib.Omega.{arith}
 use Rattle.rules.specs.Bytes.{Bytes, isEmpty, oneOf, between, all}
-use Rattle.rules.specs.Numbers.{digits, number, numberFrom, signed}
+use Rattle.rules.specs.Numbers.{digits, number, numberFrom}
+use Rattle.rules.specs.Amounts.{amountIn}
 use Rattle.rules.specs.Grammar as kinds
 use Rattle.rules.specs.Grammar.{Kind, sameKind, physicalLength, statusAmount, amount, total, count, records, bad, good, fits, judged, isSigned, isUnsigned, isLength, isText, pieceOf}
-use Rattle.base_digits.specs.NumbersRead.{valueOf, amountIn}
+use Rattle.base_digits.specs.NumbersRead.{valueOf}
 use Rattle.base_digits.proofs.DigitTests.{and-left}
 use Rattle.base_digits.proofs.ReadingLaws.{value-is}
-use Rattle.base_digits.proofs.SignLaws.{unsigned-signed, amount-signed, amount-empty}
+use Rattle.base_digits.proofs.SignLaws.{unsigned-signed}
+use Rattle.base_amounts.specs.AmountsRead.{amountRead}
+use Rattle.base_amounts.proofs.AmountLaws.{amount-signed, amount-empty}
 use Rattle.read_wanted.specs.Wants.{forAmount, forTotal, forCount, forRecords, forLength, forNothing, samePurpose, purpose}
 use Rattle.read_kept.specs.declared.Kept.{Kept}
 use Rattle.read_kept.specs.KeepFields.{keepWith, keepRead, keepField}
 
 -- ---- good fields that are kept
 
--- read as the rules read it: as a signed number, or as a number
-abbrev pub Signs : Kind → Type 0
-Signs k = (bs : Bytes) (new : List Kind) → judged k bs ≡ good new → amountIn bs ≡ signed bs
+-- read as the rules read it: as an amount, or as a number
+abbrev pub Amounts : Kind → Type 0
+Amounts k = (bs : Bytes) (new : List Kind) → judged k bs ≡ good new → amountRead bs ≡ amountIn bs
 
 abbrev pub Numbers : Kind → Type 0
 Numbers k = (bs : Bytes) (new : List Kind) → judged k bs ≡ good new → valueOf bs ≡ number bs
@@ -28,8 +31,8 @@ Numbers k = (bs : Bytes) (new : List Kind) → judged k bs ≡ good new → valu
 -- what a field of this kind is kept for, and how it is read for that
 pub data Reads (k : Kind) : Type 0 where
   unread : purpose k ≡ forNothing → Reads k
-  amounts : purpose k ≡ forAmount → Signs k → Reads k
-  totals : purpose k ≡ forTotal → Signs k → Reads k
+  amounts : purpose k ≡ forAmount → Amounts k → Reads k
+  totals : purpose k ≡ forTotal → Amounts k → Reads k
   counts : purpose k ≡ forCount → Numbers k → Reads k
   record-counts : purpose k ≡ forRecords → Numbers k → Reads k
   lengths : purpose k ≡ forLength → Numbers k → Reads k
@@ -51,15 +54,15 @@ reads-length [] new e = refl
 reads-length (b ∷ bs) new e =
     digits-read 1 4 (b ∷ bs) (omega arith) (and-left (digits 1 4 (b ∷ bs)) (between 48 4096 (number (b ∷ bs))) (fitted _ new e))
 
-reads-status : Signs statusAmount
+pub reads-status : Amounts statusAmount
 unfolding judged
 reads-status bs new e = either (isEmpty bs) (isSigned bs) (fitted _ new e) (amount-empty bs) (amount-signed bs)
 
-pub reads-amount : Signs amount
+pub reads-amount : Amounts amount
 unfolding judged
 reads-amount bs new e = either (isEmpty bs) (isUnsigned bs) (fitted _ new e) (amount-empty bs) (λ h. amount-signed bs (unsigned-signed bs h))
 
-pub reads-total : Signs total
+pub reads-total : Amounts total
 unfolding judged
 reads-total bs new e = amount-signed bs (fitted _ new e)
 

@@ -2,12 +2,14 @@
 use Prim.Native.Nat.{ℕ, _≤_}
 use mathlib.Core.Path.{_≡_, refl}
 use mathlib.Core.List.{List}
-use Rattle.rules.specs.Bytes.{isEmpty, startsWith}
-use Rattle.rules.specs.Numbers.{signed, withoutSign, numberFrom}
+use Rattle.rules.specs.Bytes.{isEmpty}
+use Rattle.rules.specs.Numbers.{numberFrom}
+use Rattle.rules.specs.Amounts.{amountIn}
 use Rattle.rules.specs.Limits.{most}
 use Rattle.rules.specs.Grammar.{total, count, records, physicalLength}
 use Rattle.rules.specs.Records.{Field, the}
 use Rattle.rules.proofs.Tests.{Known, holds, fails, known}
+use Rattle.base_amounts.proofs.AmountLaws.{adds-signed}
 use Rattle.read_wanted.specs.Wants.{forTotal, forCount, forRecords, forLength, samePurpose, purpose}
 use Rattle.read_kept.specs.declared.Kept.{Kept}
 use Rattle.read_kept.specs.KeepFields.{firstOf, nothingKept, keepWith, keepField, keepAll}
@@ -21,7 +23,7 @@ total-gets : (k : Kept) (f : Field) → Known (samePurpose forTotal (purpose (f 
     → keptTotal (keepField k f) ≡ firstOf (samePurpose forTotal (purpose (f .kind))) (k .«total_seen») (keptTotal k) (totalOf f)
 unfolding keepField keepWith
 total-gets k f (holds e) (holds h) = rw (e, h)
-total-gets k f (holds e) (fails h) = rw (e, h)
+total-gets k f (holds e) (fails h) = rw (e, h, adds-signed (amountIn (f .bytes)))
 total-gets k f (fails e) h = rw e
 
 count-gets : (k : Kept) (f : Field) → Known (samePurpose forCount (purpose (f .kind))) → Known (k .«count_seen»)
@@ -46,7 +48,7 @@ length-gets k f (holds e) (fails h) = rw (e, h)
 length-gets k f (fails e) h = rw e
 
 pub kept-of : (m : ℕ) (fs : List Field) → m ≤ most → KeptOf m fs (keepAll (nothingKept m) fs)
-unfolding keepField keepWith the isEmpty signed startsWith withoutSign numberFrom
+unfolding keepField keepWith the isEmpty amountIn numberFrom
 kept-of m fs h =
     record {
       bound = bounded m fs h;

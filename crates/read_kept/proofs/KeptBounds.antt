@@ -6,7 +6,8 @@ use native.Mathlib.Omega.{arith}
 use lib.Dec.{leb}
 use borrow.Author.Tests.{leb-true}
 use Rattle.rules.specs.Bytes.{Bytes}
-use Rattle.rules.specs.Numbers.{Signed, asSum, _⊕_, magnitudes}
+use Rattle.rules.specs.Numbers.{_⊕_, magnitudes}
+use Rattle.rules.specs.Amounts.{Amount, amountAdds}
 use Rattle.rules.specs.Limits.{most}
 use Rattle.rules.proofs.Tests.{Known, holds, fails, known}
 use Rattle.base_quantities.specs.QuantityMeanings.{sumMeant}
@@ -29,17 +30,17 @@ module _ (n : ℕ) (p : ℕ) (at : p ≤ n) where
   abbrev Fits : ℕ → Amounts → Type 0
   Fits m x = (m ≤ most → m + magnitudes (sumMeant (x .sum)) ≤ most) × (x .past .0 ≤ n)
 
-  amounts-within : (t : Bool) (m : ℕ) (x : Amounts) (a : Signed) → Fits m x → Fits m (addIf t m x p a)
+  amounts-within : (t : Bool) (m : ℕ) (x : Amounts) (a : Amount) → Fits m x → Fits m (addIf t m x p a)
   unfolding addTo
-  amounts-within true m x a h = go (known (x .over)) (known (leb (m + magnitudes (sumMeant (x .sum) ⊕ asSum a)) most))
+  amounts-within true m x a h = go (known (x .over)) (known (leb (m + magnitudes (sumMeant (x .sum) ⊕ amountAdds a)) most))
     where
-      go : Known (x .over) → Known (leb (m + magnitudes (sumMeant (x .sum) ⊕ asSum a)) most) → Fits m (addTo m x p a)
+      go : Known (x .over) → Known (leb (m + magnitudes (sumMeant (x .sum) ⊕ amountAdds a)) most) → Fits m (addTo m x p a)
       go (holds o) l = rw o h
-      go (fails o) (holds l) = rw (o, l) (λ _. leb-true (m + magnitudes (sumMeant (x .sum) ⊕ asSum a)) most l, h .1)
+      go (fails o) (holds l) = rw (o, l) (λ _. leb-true (m + magnitudes (sumMeant (x .sum) ⊕ amountAdds a)) most l, h .1)
       go (fails o) (fails l) = rw (o, l) (h .0, at)
   amounts-within false m x a h = h
 
-  keep-within : (m : ℕ) (u : Purpose) (k : Kept) (g : Bool) (a : Signed) (i : ℕ) → Within n m k → Within n m (keepWith u k p g a i)
+  keep-within : (m : ℕ) (u : Purpose) (k : Kept) (g : Bool) (a : Amount) (i : ℕ) → Within n m k → Within n m (keepWith u k p g a i)
   unfolding keepWith
   keep-within m u k g a i w =
       let x = amounts-within (samePurpose forAmount u) (k .before .0) (amountsOf k) a (rw (w .before) (w .sum), w .past) in

@@ -8,7 +8,8 @@ use mathlib.Core.List.{List, [], _∷_}
 use lib.Dec.{leb}
 use borrow.Author.Tests.{le-leb, lt-leb, leb-true, leb-false}
 use Rattle.rules.specs.Bytes.{isEmpty}
-use Rattle.rules.specs.Numbers.{Signed, signed, number, Sum, zeroSum, asSum, _⊕_, magnitudes}
+use Rattle.rules.specs.Numbers.{number, Sum, zeroSum, _⊕_, magnitudes}
+use Rattle.rules.specs.Amounts.{Amount, amountIn, amountAdds}
 use Rattle.rules.specs.Limits.{most}
 use Rattle.rules.specs.Outcome.{_>>=_, check}
 use Rattle.rules.specs.Records.{Field}
@@ -31,15 +32,15 @@ data After (k : Kept) (d : Sum) (p : ℕ) (j : Kept) : Type 0 where
   added : j .before .0 ≡ k .before .0 → j .over ≡ false → sumMeant (j .sum) ≡ sumMeant (k .sum) ⊕ d → size k + magnitudes d ≤ most → After k d p j
   passed : j .over ≡ true → j .past .0 ≡ p → most < size k + magnitudes d → After k d p j
 
-module _ (u : Purpose) (k : Kept) (p : ℕ) (g : Bool) (a : Signed) (n : ℕ) where
-  amount-after : k .over ≡ false → samePurpose forAmount u ≡ true → Known (leb (k .before .0 + magnitudes (sumMeant (k .sum) ⊕ asSum a)) most)
-      → After k (asSum a) p (keepWith u k p g a n)
+module _ (u : Purpose) (k : Kept) (p : ℕ) (g : Bool) (a : Amount) (n : ℕ) where
+  amount-after : k .over ≡ false → samePurpose forAmount u ≡ true → Known (leb (k .before .0 + magnitudes (sumMeant (k .sum) ⊕ amountAdds a)) most)
+      → After k (amountAdds a) p (keepWith u k p g a n)
   unfolding keepWith addTo
   amount-after o e (holds l) =
-      let h = leb-true (k .before .0 + magnitudes (sumMeant (k .sum) ⊕ asSum a)) most l in
+      let h = leb-true (k .before .0 + magnitudes (sumMeant (k .sum) ⊕ amountAdds a)) most l in
       added refl (rw (e, o, l)) (rw (e, o, l)) (omega arith)
   amount-after o e (fails l) =
-      let h = leb-false (k .before .0 + magnitudes (sumMeant (k .sum) ⊕ asSum a)) most l in
+      let h = leb-false (k .before .0 + magnitudes (sumMeant (k .sum) ⊕ amountAdds a)) most l in
       passed (rw (e, o, l)) (rw (e, o, l)) (omega arith)
 
   other-after : k .over ≡ false → size k ≤ most → samePurpose forAmount u ≡ false → After k zeroSum p (keepWith u k p g a n)
@@ -47,8 +48,8 @@ module _ (u : Purpose) (k : Kept) (p : ℕ) (g : Bool) (a : Signed) (n : ℕ) wh
   other-after o h e = added refl (rw e o) (rw e (simp add-zero)) (omega arith)
 
   keep-after : k .over ≡ false → size k ≤ most → Known (samePurpose forAmount u)
-      → After k (cond (samePurpose forAmount u) (asSum a) zeroSum) p (keepWith u k p g a n)
-  keep-after o h (holds e) = rw e (amount-after o e (known (leb (k .before .0 + magnitudes (sumMeant (k .sum) ⊕ asSum a)) most)))
+      → After k (cond (samePurpose forAmount u) (amountAdds a) zeroSum) p (keepWith u k p g a n)
+  keep-after o h (holds e) = rw e (amount-after o e (known (leb (k .before .0 + magnitudes (sumMeant (k .sum) ⊕ amountAdds a)) most)))
   keep-after o h (fails e) = rw e (other-after o h e)
 
   keep-over : k .over ≡ true → Known (samePurpose forAmount u) → (keepWith u k p g a n .over ≡ true) × (keepWith u k p g a n .past ≡ k .past)
@@ -60,7 +61,7 @@ field-after : (k : Kept) (f : Field) → k .over ≡ false → size k ≤ most �
 unfolding amountOf keepField
 field-after k f o h =
     rw (told (f .kind) .0)
-    (keep-after (purpose (f .kind)) k (f .place) (not (isEmpty (f .bytes))) (signed (f .bytes)) (number (f .bytes)) o h (known (samePurpose forAmount (purpose (f .kind)))))
+    (keep-after (purpose (f .kind)) k (f .place) (not (isEmpty (f .bytes))) (amountIn (f .bytes)) (number (f .bytes)) o h (known (samePurpose forAmount (purpose (f .kind)))))
 
 -- once past, it stays so
 over-stays : (fs : List Field) (k : Kept) → k .over ≡ true → (keepAll k fs .over ≡ true) × (keepAll k fs .past ≡ k .past)
@@ -68,7 +69,7 @@ unfolding keepAll keepField
 over-stays [] k o = (o, refl)
 over-stays (f ∷ fs) k o =
     let u = purpose (f .kind) in
-    let one = keep-over u k (f .place) (not (isEmpty (f .bytes))) (signed (f .bytes)) (number (f .bytes)) o (known (samePurpose forAmount u)) in
+    let one = keep-over u k (f .place) (not (isEmpty (f .bytes))) (amountIn (f .bytes)) (number (f .bytes)) o (known (samePurpose forAmount u)) in
     let i = over-stays fs (keepField k f) (one .0) in
     (i .0, i .1 ∙ one .1)
 

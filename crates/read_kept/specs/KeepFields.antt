@@ -7,13 +7,15 @@ use mathlib.Core.Bool.{Bool, true, false, cond, not, _||_}
 use mathlib.Core.List.{List, [], _∷_}
 use lib.Dec.{leb}
 use Rattle.rules.specs.Bytes.{Bytes, isEmpty}
-use Rattle.rules.specs.Numbers.{Signed, signed, number, zeroSum, asSum, _⊕_, magnitudes}
+use Rattle.rules.specs.Numbers.{number, zeroSum, _⊕_, magnitudes}
+use Rattle.rules.specs.Amounts.{Amount, amountIn, magnitudeOf, amountAdds}
 use Rattle.rules.specs.Limits.{most}
 use Rattle.rules.specs.Records.{Field}
 use Rattle.base_quantities.specs.declared.Units.{Units}
 use Rattle.base_quantities.specs.declared.Place.{Place}
 use Rattle.base_quantities.specs.QuantityMeanings.{sumMeant, unitsOf}
-use Rattle.base_digits.specs.NumbersRead.{valueOf, amountIn}
+use Rattle.base_digits.specs.NumbersRead.{valueOf}
+use Rattle.base_amounts.specs.AmountsRead.{amountRead, isMinus}
 use Rattle.read_wanted.specs.Wants.{Purpose, forAmount, forTotal, forCount, forRecords, forLength, samePurpose, purpose}
 use Rattle.read_kept.specs.declared.Kept.{Kept}
 
@@ -58,16 +60,16 @@ withAmounts k x =
     }
 
 -- with an amount at p, after magnitudes m: added, unless it or one before it passes the largest
-unfoldable pub addTo : ℕ → Amounts → ℕ → Signed → Amounts
+unfoldable pub addTo : ℕ → Amounts → ℕ → Amount → Amounts
 addTo m x p a =
-    let next = sumMeant (x .sum) ⊕ asSum a in
+    let next = sumMeant (x .sum) ⊕ amountAdds a in
     cond (x .over) x
     (cond (leb (m + magnitudes next) most)
     (record { sum = unitsOf next; over = x .over; past = x .past })
     (record { sum = x .sum; over = true; past = place p }))
 
 -- where the field is an amount
-abbrev pub addIf : Bool → ℕ → Amounts → ℕ → Signed → Amounts
+abbrev pub addIf : Bool → ℕ → Amounts → ℕ → Amount → Amounts
 addIf true m x p a = addTo m x p a
 addIf false m x p a = x
 
@@ -93,8 +95,8 @@ nothingKept m =
       «length_given» = false;
     }
 
--- with a field at p for this purpose, given or empty, that is the signed number a and the number n: amounts and totals take the one, counts and L the other
-unfoldable pub keepWith : Purpose → Kept → ℕ → Bool → Signed → ℕ → Kept
+-- with a field at p for this purpose, given or empty, that is the amount a and the number n: amounts and totals take the one, counts and L the other
+unfoldable pub keepWith : Purpose → Kept → ℕ → Bool → Amount → ℕ → Kept
 keepWith u k p g a n =
     let x = addIf (samePurpose forAmount u) (k .before .0) (amountsOf k) p a in
     record {
@@ -102,9 +104,9 @@ keepWith u k p g a n =
       sum = x .sum;
       over = x .over;
       past = x .past;
-      total = firstOf (samePurpose forTotal u) (k .«total_seen») (k .total) (record { at = place p; magnitude = record { 0 = a .magnitude } });
+      total = firstOf (samePurpose forTotal u) (k .«total_seen») (k .total) (record { at = place p; magnitude = record { 0 = magnitudeOf a } });
       «total_seen» = samePurpose forTotal u || k .«total_seen»;
-      «total_negative» = firstOf (samePurpose forTotal u) (k .«total_seen») (k .«total_negative») (a .negative);
+      «total_negative» = firstOf (samePurpose forTotal u) (k .«total_seen») (k .«total_negative») (isMinus a);
       count = firstOf (samePurpose forCount u) (k .«count_seen») (k .count) (record { at = place p; count = record { 0 = n } });
       «count_seen» = samePurpose forCount u || k .«count_seen»;
       records = firstOf (samePurpose forRecords u) (k .«records_seen») (k .records) (record { at = place p; records = record { 0 = n } });
@@ -115,15 +117,15 @@ keepWith u k p g a n =
     }
 
 -- with an amount at p
-abbrev pub addedTo : Kept → ℕ → Signed → Kept
+abbrev pub addedTo : Kept → ℕ → Amount → Kept
 addedTo k p a = withAmounts k (addTo (k .before .0) (amountsOf k) p a)
 
 -- a field's bytes as the code reads them; a field as the rules do; and one field after the other
 unfoldable pub keepRead : Purpose → Kept → ℕ → Bytes → Kept
-keepRead u k p bs = keepWith u k p (not (isEmpty bs)) (amountIn bs) (valueOf bs)
+keepRead u k p bs = keepWith u k p (not (isEmpty bs)) (amountRead bs) (valueOf bs)
 
 unfoldable pub keepField : Kept → Field → Kept
-keepField k f = keepWith (purpose (f .kind)) k (f .place) (not (isEmpty (f .bytes))) (signed (f .bytes)) (number (f .bytes))
+keepField k f = keepWith (purpose (f .kind)) k (f .place) (not (isEmpty (f .bytes))) (amountIn (f .bytes)) (number (f .bytes))
 
 unfoldable pub keepAll : Kept → List Field → Kept
 keepAll k [] = k

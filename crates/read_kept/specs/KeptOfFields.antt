@@ -4,7 +4,8 @@ use mathlib.Core.Path.{_≡_}
 use mathlib.Core.Bool.{Bool, false, cond, not}
 use mathlib.Core.List.{List}
 use Rattle.rules.specs.Bytes.{isEmpty}
-use Rattle.rules.specs.Numbers.{Signed, signed, number}
+use Rattle.rules.specs.Numbers.{Sum, number, asSum}
+use Rattle.rules.specs.Amounts.{amountIn, amountAdds}
 use Rattle.rules.specs.Outcome.{Outcome, refuse, fine}
 use Rattle.rules.specs.Grammar.{total, count, records, physicalLength}
 use Rattle.rules.specs.Records.{Field, the}
@@ -12,9 +13,9 @@ use Rattle.rules.specs.Totals.{sumOf, boundedFrom}
 use Rattle.base_quantities.specs.QuantityMeanings.{sumMeant}
 use Rattle.read_kept.specs.declared.Kept.{Kept}
 
--- what is kept of a trailer's total: its place and its number; of its count and its record count; and of L: whether it was given, and its number
-abbrev pub keptTotal : Kept → ℕ × Signed
-keptTotal k = (k .total .at .0, record { negative = k .«total_negative»; magnitude = k .total .magnitude .0 })
+-- what is kept of a trailer's total: its place and its sum; of its count and its record count; and of L: whether it was given, and its number
+abbrev pub keptTotal : Kept → ℕ × Sum
+keptTotal k = (k .total .at .0, asSum (record { negative = k .«total_negative»; magnitude = k .total .magnitude .0 }))
 
 abbrev pub keptCount : Kept → ℕ × ℕ
 keptCount k = (k .count .at .0, k .count .count .0)
@@ -26,8 +27,8 @@ abbrev pub keptLength : Kept → Bool × ℕ
 keptLength k = (k .«length_given», k .length)
 
 -- what a field gives for them
-abbrev pub totalOf : Field → ℕ × Signed
-totalOf f = (f .place, signed (f .bytes))
+abbrev pub totalOf : Field → ℕ × Sum
+totalOf f = (f .place, amountAdds (amountIn (f .bytes)))
 
 abbrev pub countOf : Field → ℕ × ℕ
 countOf f = (f .place, number (f .bytes))

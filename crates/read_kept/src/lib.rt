@@ -15,7 +15,7 @@ ghost use Rattle.rules.specs.Numbers.{magnitudes};
 ghost use Rattle.rules.specs.Limits.{most};
 ghost use Rattle.rules.specs.Grammar.{nextKind};
 ghost use Rattle.base_quantities.specs.QuantityMeanings.{sumMeant};
-ghost use Rattle.base_digits.specs.NumbersRead.{amountIn};
+ghost use Rattle.base_amounts.specs.AmountsRead.{amountRead};
 ghost use Rattle.read_wanted.specs.Wants.{wantedOf, forTotal, forCount, forRecords, forLength, forNothing, samePurpose, purpose};
 ghost use Rattle.read_kept.specs.KeepFields.{nothingKept, addedTo, keepRead};
 
@@ -123,20 +123,20 @@ impl Kept {
 
     // With an amount more, unless it or one before it passes the largest.
     fn add_amount(self, at: Place, f: &[u8]) -> Kept
-        ensures { λ r. ⌜ r ≡ addedTo self (at .0) (amountIn (now (f .entry))) ⌝ }
+        ensures { λ r. ⌜ r ≡ addedTo self (at .0) (amountRead (now (f .entry))) ⌝ }
     {
         if self.over {
             return self;
         }
         let mut kept = self;
-        let a = base_digits::amount_in(f);
-        if self.passes(a.magnitude) {
+        let a = base_amounts::amount_in(f);
+        if self.passes(base_amounts::magnitude_of(a)) {
             kept.over = true;
             kept.past = at;
             return kept;
         }
         let sum = self.sum;
-        let more = sum.add(Units::of(a.negative, a.magnitude));
+        let more = sum.add(base_amounts::adds(a));
         kept.sum = more;
         kept
     }
@@ -149,11 +149,11 @@ impl Kept {
             return self;
         }
         let mut kept = self;
-        let a = base_digits::amount_in(f);
-        let magnitude = a.magnitude;
+        let a = base_amounts::amount_in(f);
+        let magnitude = base_amounts::magnitude_of(a);
         let total = StatedTotal { at, magnitude };
         kept.total = total;
-        kept.total_negative = a.negative;
+        kept.total_negative = base_amounts::is_minus(a);
         kept.total_seen = true;
         kept
     }

@@ -80,7 +80,7 @@ and-true : (t : Bool) → (t && true) ≡ t
 and-true true = refl
 and-true false = refl
 
-eqb-swap : (a b : ℕ) → eqb a b ≡ eqb b a
+pub eqb-swap : (a b : ℕ) → eqb a b ≡ eqb b a
 eqb-swap a b = by-test (known (eqb a b))
   where
     by-test : Known (eqb a b) → eqb a b ≡ eqb b a

@@ -9,7 +9,9 @@ use lib.ListN.{length}
 use Rattle.rules.specs.Bytes.{Bytes}
 use Rattle.rules.specs.Outcome.{Refusal, Outcome, orElse, refusalOf}
 use Rattle.rules.specs.CodeList.{Level, isStatus, isSummary, isDetail, Entry, unlisted, NA, CR, DB, entryOf}
+use Rattle.rules.specs.Amounts.{Amount, empty, unsigned, withPlus, withMinus}
 use Rattle.rules.specs.Parts.{Placed, groupAt, accountAt, partBytes, Detail, detailAt}
+use Rattle.rules.specs.Items.{AccountItem, itemAt}
 
 -- a part of the file: where it starts, and its length
 pub record PartAnswer : Type 0 where
@@ -26,16 +28,16 @@ groupPart file g = partAnswer (groupAt file g)
 unfoldable pub accountPart : Bytes → ℕ → ℕ → PartAnswer
 accountPart file g a = partAnswer (accountAt file g a)
 
--- a detail: its type, its amount if any, and where its first text piece starts, and its length
+-- a detail: its type, its amount as it was given, and where its first text piece starts, and its length
 pub record DetailAnswer : Type 0 where
   pub refusal : Refusal
   pub type : ℕ
-  pub amountGiven : Option ℕ
+  pub amount : Amount
   pub textStart : ℕ
   pub textLength : ℕ
 
 abbrev pub noDetail : Detail
-noDetail = record { type = 0; amountGiven = none; textPlace = 0; textBytes = [] }
+noDetail = record { type = 0; amount = empty; textPlace = 0; textBytes = [] }
 
 unfoldable pub detailAnswer : Outcome Detail → DetailAnswer
 detailAnswer o =
@@ -43,13 +45,36 @@ detailAnswer o =
     record {
       refusal = refusalOf o;
       type = d .type;
-      amountGiven = d .amountGiven;
+      amount = d .amount;
       textStart = d .textPlace;
       textLength = length (d .textBytes);
     }
 
 unfoldable pub detailOfFile : Bytes → ℕ → ℕ → ℕ → DetailAnswer
 detailOfFile file g a d = detailAnswer (detailAt file g a d)
+
+-- an item of an account: its type, its amount as it was given, and its item count, if any
+pub record ItemAnswer : Type 0 where
+  pub refusal : Refusal
+  pub type : ℕ
+  pub amount : Amount
+  pub count : Option ℕ
+
+abbrev pub noItem : AccountItem
+noItem = record { type = 0; amount = empty; count = none }
+
+unfoldable pub itemAnswer : Outcome AccountItem → ItemAnswer
+itemAnswer o = let i = orElse o noItem in record { refusal = refusalOf o; type = i .type; amount = i .amount; count = i .count }
+
+unfoldable pub itemOfFile : Bytes → ℕ → ℕ → ℕ → ItemAnswer
+itemOfFile file g a n = itemAnswer (itemAt file g a n)
+
+-- how an amount was given, as a number
+abbrev pub formNumber : Amount → ℕ
+formNumber empty = 0
+formNumber (unsigned n) = 1
+formNumber (withPlus n) = 2
+formNumber (withMinus n) = 3
 
 -- what the uniform list says of a type code: 1 or 0 for listed, status, summary and detail; the side, 0 neither, 1 credit, 2 debit; unlisted, all 0
 pub record CodeAnswer : Type 0 where

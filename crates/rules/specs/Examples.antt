@@ -9,7 +9,8 @@ use Rattle.rules.specs.Bytes.{Bytes, bytes, letter, LF, isEmpty, all, sa
 use Rattle.rules.specs.Outcome.{moved}
 use Rattle.rules.specs.Lines.{longerLine, longerFirst, linesOf, begins, codeIn, codeOf, lineBefore, recordsOf, recordSize, lineBytes, recordBytes, fileRecords}
 use Rattle.rules.specs.Cells.{lengthened, cellsFrom, cellsOf, leadingBlanks}
-use Rattle.rules.specs.Numbers.{digits, numberFrom, withoutSign, signed, decimalWithin, decimal, totalBytes}
+use Rattle.rules.specs.Numbers.{digits, numberFrom, withoutSign, decimalWithin, decimal, totalBytes}
+use Rattle.rules.specs.Amounts.{amountIn}
 use Rattle.rules.specs.Dates.{daysOf, isDate, isTime}
 use Rattle.rules.specs.TypeCodes.{classOf, typeClass}
 use Rattle.rules.specs.Grammar.{fieldsOf, isCurrency, isUnsigned, isSigned, isLength, fundsOf, pairs, pairsOf, pieceOf, judged, andThen, takeNext}
@@ -116,7 +117,7 @@ unfolding
     isEmpty all sameBytes startsWith oneOf trimmedBefore trimmed moved
     longerLine longerFirst linesOf begins codeIn codeOf lineBefore recordsOf recordSize lineBytes recordBytes fileRecords
     lengthened cellsFrom cellsOf leadingBlanks
-    digits numberFrom withoutSign signed decimalWithin decimal totalBytes
+    digits numberFrom withoutSign amountIn decimalWithin decimal totalBytes
     daysOf isDate isTime classOf typeClass
     fieldsOf isCurrency isUnsigned isSigned isLength fundsOf pairs pairsOf pieceOf judged andThen takeNext
     walkAfter taken pastSlash takenTo walkCells walkLines walkRecord the

@@ -5,6 +5,7 @@ pub mod Outcome
 pub mod Lines
 pub mod Cells
 pub mod Numbers
+pub mod Amounts
 pub mod Dates
 pub mod TypeCodes
 pub mod CodeList
@@ -15,6 +16,7 @@ pub mod Totals
 pub mod Order
 pub mod Verdict
 pub mod Parts
+pub mod Items
 pub mod Combine
 pub mod Split
 pub mod Writer

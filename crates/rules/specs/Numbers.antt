@@ -6,7 +6,7 @@ use lib.Dec.{leb, ltb, eqb}
 use lib.IntN.{ℤ, subℕ}
 use lib.ListN.{length}
 use Rattle.rules.specs.Limits.{most}
-use Rattle.rules.specs.Bytes.{Bytes, letter, plus, minus, between, all, startsWith}
+use Rattle.rules.specs.Bytes.{Bytes, letter, plus, minus, between, all}
 
 -- ---- reading
 
@@ -25,7 +25,7 @@ numberFrom n (b ∷ bs) = numberFrom (n * 10 + (b - letter "0")) bs
 abbrev pub number : Bytes → ℕ
 number bs = numberFrom 0 bs
 
--- a sign and a magnitude, as a field or a call of the writer gives them
+-- a sign and a magnitude, as a call of the writer gives them
 pub record Signed : Type 0 where
   pub negative : Bool
   pub magnitude : ℕ
@@ -34,9 +34,6 @@ pub record Signed : Type 0 where
 unfoldable pub withoutSign : Bytes → Bytes
 withoutSign [] = []
 withoutSign (b ∷ bs) = cond (eqb b plus || eqb b minus) bs (b ∷ bs)
-
-unfoldable pub signed : Bytes → Signed
-signed bs = record { negative = startsWith minus bs; magnitude = number (withoutSign bs) }
 
 -- ---- sums
 

@@ -2,9 +2,9 @@
 use Prim.Native.Nat.{ℕ, zero, suc, _+_}
 use mathlib.Core.Bool.{Bool, false, cond}
 use mathlib.Core.List.{List, [], _∷_}
-use mathlib.Core.Option.{Option, none, some}
-use Rattle.rules.specs.Bytes.{Bytes, slash, isEmpty, just}
-use Rattle.rules.specs.Numbers.{number, withoutSign}
+use Rattle.rules.specs.Bytes.{Bytes, slash, just}
+use Rattle.rules.specs.Numbers.{number}
+use Rattle.rules.specs.Amounts.{Amount, amountIn}
 use Rattle.rules.specs.Outcome.{Outcome, refused, refuse, fine, _>>=_, orElse}
 use Rattle.rules.specs.Lines.{Code, groupHeader, accountHeader, detail, accountTrailer, groupTrailer, fileTrailer, begins, Record, recordSize, recordBytes, fileRecords}
 use Rattle.rules.specs.Grammar.{ultimateReceiver, detailType, amount, text}
@@ -99,22 +99,21 @@ firstFields c (r ∷ rs) = fieldsIn c r
 unfoldable pub receiverOf : List Record → Bytes
 receiverOf g = the ultimateReceiver (firstFields groupHeader g) .bytes
 
--- a detail's answer: its type, its amount if any, and its first text piece with its place in the file; an empty one, at 0, if none
+-- a detail's answer: its type, its amount as it was given, and its first text piece with its place in the file; an empty one, at 0, if none
 pub record Detail : Type 0 where
   pub type : ℕ
-  pub amountGiven : Option ℕ
+  pub amount : Amount
   pub textPlace : ℕ
   pub textBytes : Bytes
 
 unfoldable pub detailIn : Placed → Detail
 detailIn x =
     let fs = firstFields detail (x .records) in
-    let given = the amount fs .bytes in
     let piece = the text fs in
     let noText = just slash (piece .bytes) in
     record {
       type = number (the detailType fs .bytes);
-      amountGiven = cond (isEmpty given) none (some (number (withoutSign given)));
+      amount = amountIn (the amount fs .bytes);
       textPlace = cond noText 0 (x .place + piece .place);
       textBytes = cond noText [] (piece .bytes);
     }

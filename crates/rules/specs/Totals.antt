@@ -4,7 +4,8 @@ use mathlib.Core.Bool.{cond, _||_}
 use mathlib.Core.List.{List, [], _∷_}
 use lib.Dec.{leb, eqb}
 use lib.ListN.{length}
-use Rattle.rules.specs.Numbers.{Sum, zeroSum, _⊕_, asSum, signed, number, magnitudes, equals, withinMost}
+use Rattle.rules.specs.Numbers.{Sum, zeroSum, _⊕_, number, magnitudes, equals, withinMost}
+use Rattle.rules.specs.Amounts.{amountIn, amountAdds}
 use Rattle.rules.specs.Limits.{most}
 use Rattle.rules.specs.Outcome.{Outcome, fine, _>>=_, _>>_, check}
 use Rattle.rules.specs.Lines.{Code, fileHeader, groupHeader, accountHeader, detail, accountTrailer, groupTrailer, fileTrailer, continuation, sameCode, Record}
@@ -35,9 +36,9 @@ _⊞_ a b =
       records = a .records + b .records;
     }
 
--- a field's amount: an empty one adds 0, a debit is added, and funds amounts are left out
+-- what a field's amount adds: a debit is added, and funds amounts are left out
 unfoldable pub amountOf : Field → Sum
-amountOf f = cond (sameKind (f .kind) amount || sameKind (f .kind) statusAmount) (asSum (signed (f .bytes))) zeroSum
+amountOf f = cond (sameKind (f .kind) amount || sameKind (f .kind) statusAmount) (amountAdds (amountIn (f .bytes))) zeroSum
 
 unfoldable pub sumOf : List Field → Sum
 sumOf [] = zeroSum
@@ -71,7 +72,7 @@ sumWithin s fs = check (withinMost (s .sum)) 14 (the total fs .place)
 
 -- 11: a trailer's total; 12: its count of accounts or groups; 13: its record count
 unfoldable pub rightTotal : Summary → List Field → Outcome (Unit {0})
-rightTotal s fs = let f = the total fs in check (equals (s .sum) (asSum (signed (f .bytes)))) 11 (f .place)
+rightTotal s fs = let f = the total fs in check (equals (s .sum) (amountAdds (amountIn (f .bytes)))) 11 (f .place)
 
 unfoldable pub rightCount : ℕ → List Field → Outcome (Unit {0})
 rightCount n fs = let f = the count fs in check (eqb n (number (f .bytes))) 12 (f .place)

@@ -1,5 +1,7 @@
 // Splits, combinations and parts of the files in data/: each call with its answer in figures, and below it the bytes that it gave.
+use base_amounts::Amount;
 use base_refusals::Refusal;
+use find_item::ItemCount;
 use libc::STDOUT_FILENO;
 ghost use Rattle.io.specs.Counts.{Counts};
 
@@ -9,6 +11,7 @@ fn main() {
     groups();
     accounts();
     details();
+    items();
 }
 
 // K2, K3, and splits that are refused.
@@ -132,7 +135,7 @@ fn details() {
     detail(b"k05.bai", 0, 0, 0);
 }
 
-// One call for a detail: its type, its amount or none, and its text.
+// One call for a detail: its type, how its amount was given and its magnitude, and its text.
 fn detail(path: &[u8], g: u64, a: u64, n: u64) {
     let mut file = io::buffer();
     let k = load(path, &mut file);
@@ -143,14 +146,51 @@ fn detail(path: &[u8], g: u64, a: u64, n: u64) {
     figure(a);
     figure(n);
     answer(d.refusal);
+    let amount = d.amount;
     figure(d.type_code);
-    if d.amount_given {
-        let amount = d.amount;
-        figure(amount.0);
-    }
+    say_amount(amount);
     say(b" \"");
     say(part_details::detail_text(&file[..k], g, a, n));
     say(b"\"\n");
+}
+
+// Items of a status with a minus, of a summary with a count over two lines, of the sole empty item, and one past the last.
+fn items() {
+    item(b"two.bai", 0, 0, 0);
+    item(b"two.bai", 0, 1, 0);
+    item(b"two.bai", 0, 1, 1);
+    item(b"two.bai", 0, 1, 2);
+    item(b"two.bai", 1, 0, 0);
+    item(b"k05.bai", 0, 0, 0);
+}
+
+// One call for an item: its type, how its amount was given and its magnitude, and its item count or none.
+fn item(path: &[u8], g: u64, a: u64, n: u64) {
+    let mut file = io::buffer();
+    let k = load(path, &mut file);
+    let i = part_items::item(&file[..k], g, a, n);
+    say(b"item ");
+    say(path);
+    figure(g);
+    figure(a);
+    figure(n);
+    answer(i.refusal);
+    let amount = i.amount;
+    let count = i.count;
+    figure(i.type_code);
+    say_amount(amount);
+    match count {
+        ItemCount::NoCount => {}
+        ItemCount::Given(given) => figure(given.0),
+    }
+    say(b"\n");
+}
+
+// How an amount was given, by number, and its magnitude.
+fn say_amount(amount: Amount) {
+    let magnitude = base_amounts::magnitude_of(amount);
+    figure(base_amounts::form_of(amount));
+    figure(magnitude.0);
 }
 
 // The file's bytes at the front of buf: how many.

@@ -1,11 +1,11 @@
 // Amounts to give.
-use base_digits::Amount;
 use base_quantities::Magnitude;
+use base_quantities::Signed;
 use write_line::MaybeAmount;
 
 // An amount with a plus.
 pub fn plus(magnitude: u64) -> MaybeAmount {
-    MaybeAmount::Given(Amount {
+    MaybeAmount::Given(Signed {
         negative: false,
         magnitude: Magnitude(magnitude),
     })
@@ -13,7 +13,7 @@ pub fn plus(magnitude: u64) -> MaybeAmount {
 
 // An amount with a minus.
 pub fn minus(magnitude: u64) -> MaybeAmount {
-    MaybeAmount::Given(Amount {
+    MaybeAmount::Given(Signed {
         negative: true,
         magnitude: Magnitude(magnitude),
     })

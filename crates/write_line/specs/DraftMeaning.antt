@@ -14,7 +14,7 @@ use Rattle.rules.specs.Outcome.{Outcome, fine, _>>=_, _>>_, check}
 use Rattle.rules.specs.Lines.{Code, codeBytes}
 use Rattle.rules.specs.Grammar.{Kind, takeNext}
 use Rattle.rules.specs.Writer.{orTwenty, goodText}
-use Rattle.base_digits.specs.NumbersRead.{amountMeant}
+use Rattle.base_quantities.specs.QuantityMeanings.{signedMeant}
 use Rattle.read_wanted.specs.TakenMeaning.{judgedOf}
 use Rattle.read_wanted.specs.declared.Taken.the-variants.{Next}
 use Rattle.read_wanted.specs.declared.want.Want.{Want}
@@ -78,7 +78,7 @@ textAdded t o = o >>= λ x. withText t x
 
 -- an amount or none; a number or none
 abbrev pub amountGiven : MaybeAmount → Option Signed
-amountGiven (amounts.Given a) = some (amountMeant a)
+amountGiven (amounts.Given a) = some (signedMeant a)
 amountGiven amounts.NoAmount = none
 
 abbrev pub itemsGiven : MaybeItems → Option ℕ

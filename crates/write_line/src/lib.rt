@@ -1,10 +1,10 @@
 // A line in the making: it stands in a space of its own until the call that writes it is accepted.
 use base_codes::Code;
-use base_digits::Amount;
 use base_limits::LONGEST_NAME;
 use base_quantities::Count;
 use base_quantities::Place;
 use base_quantities::Records;
+use base_quantities::Signed;
 use base_quantities::Units;
 use base_refusals::WRONG_FIELD_GIVEN;
 use read_wanted::Taken;
@@ -31,7 +31,7 @@ pub struct Draft {
 
 // An amount or none.
 pub enum MaybeAmount {
-    Given(Amount),
+    Given(Signed),
     NoAmount,
 }
 
@@ -191,7 +191,7 @@ pub fn sum_given(amount: MaybeAmount) -> Units
     ensures { λ r. ⌜ sumMeant r ≡ sumGiven (amountGiven amount) ⌝ }
 {
     match amount {
-        MaybeAmount::Given(a) => Units::of(a.negative, a.magnitude),
+        MaybeAmount::Given(a) => Units::of(a),
         MaybeAmount::NoAmount => Units::none(),
     }
 }
@@ -201,7 +201,7 @@ pub fn add_amount(line: &mut [u8; LINE_SPACE], d: Draft, amount: MaybeAmount, ma
     ensures { λ r. ⌜ drawnOf (now (line .exit)) r ≡ fieldDrawn (amountBytes (amountGiven amount)) mark (drawnOf (now (line .entry)) d) ⌝ }
 {
     match amount {
-        MaybeAmount::Given(a) => add_total(line, d, Units::of(a.negative, a.magnitude), mark),
+        MaybeAmount::Given(a) => add_total(line, d, Units::of(a), mark),
         MaybeAmount::NoAmount => add_empty(line, d, mark),
     }
 }

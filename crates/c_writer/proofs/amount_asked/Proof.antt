@@ -18,7 +18,7 @@ returns-2 : tie.Need-returns-2
 unfolding orNone
 returns-2 c =
     rw (ne-eqb (c .before .before .args .given) 0 (c .before .if1 .left))
-    (ap (λ (a : Signed). some a) (c .amount-of .ensures ∙ ap signedOf (toZ-ofZ w64 (c .before .before .args .n) (c .before .before .fits .n))))
+    (ap (λ (a : Signed). some a) (c .signed-of .ensures ∙ ap signedOf (toZ-ofZ w64 (c .before .before .args .n) (c .before .before .fits .n))))
 
 pub amount-asked-spec : {M : Type 1} → statement M
 amount-asked-spec = tie.close (tie.spec returns (λ c κs. search needs) returns-2)

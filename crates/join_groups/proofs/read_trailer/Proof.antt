@@ -1,11 +1,11 @@
 -- `join_groups::read_trailer` meets its contract. Assumes nothing.
-use mathlib.Core.Path.{_≡_, ap, _∙_}
+use mathlib.Core.Path.{ap, _∙_}
 use borrow.Author.Needs.{needs}
-use Rattle.rules.specs.Bytes.{Bytes}
-use Rattle.rules.specs.Numbers.{asSum}
+use Rattle.rules.specs.Amounts.{amountAdds}
 use Rattle.rules.specs.Lines.{groupTrailer, linesOf}
 use Rattle.rules.specs.Grammar.{fieldsOf}
-use Rattle.base_digits.specs.NumbersRead.{valueOf, amountIn}
+use Rattle.base_digits.specs.NumbersRead.{valueOf}
+use Rattle.base_amounts.specs.AmountsRead.{amountRead}
 use Rattle.find_field.proofs.DetailFields.{total-found, records-found}
 use Rattle.join_groups.proofs.read_trailer.Statement.{statement}
 use Rattle.join_groups.proofs.read_trailer.Tie as tie
@@ -14,7 +14,7 @@ returns : tie.Need-returns
 returns c =
     let r = linesOf (c .before .before .before .before .before .before .args .rec .now) in
     let total = c .before .before .before in (
-      c .of .ensures ∙ ap asSum (total .amount-in .ensures .0 ∙ ap amountIn (total .before .field .ensures) ∙ total-found (fieldsOf groupTrailer) r),
+      c .adds .ensures ∙ ap amountAdds (total .amount-in .ensures ∙ ap amountRead (total .before .field .ensures) ∙ total-found (fieldsOf groupTrailer) r),
       c .before .value .ensures .0 ∙ ap valueOf (c .before .before .field2 .ensures) ∙ records-found (fieldsOf groupTrailer) r,
     )
 

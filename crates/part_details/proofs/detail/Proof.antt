@@ -1,9 +1,8 @@
 -- `part_details::detail` meets its contract. Assumes nothing.
 use Prim.Native.Nat.{zero-le}
 use native.Mathlib.Omega.{arith}
-use mathlib.Core.Path.{refl}
 use Rattle.part_groups.specs.PartMeaning.{partMeant}
-use Rattle.part_details.proofs.DetailLaws.{zero-without, detail-refused, detail-found}
+use Rattle.part_details.proofs.DetailLaws.{detail-refused, detail-found}
 use borrow.Author.Needs.{needs}
 use Rattle.part_details.proofs.detail.Statement.{statement}
 use Rattle.part_details.proofs.detail.Tie as tie
@@ -13,7 +12,7 @@ returns c =
     let a = c .before .before .before .before .before .args in
     let f = c .before .before .before .find-detail in
     let said = detail-refused (a .file .now) (a .g) (a .a) (a .n) (partMeant (f .result)) (f .ensures .0) (c .if1 .taken) in
-    (said .0, record { bytes = said .1; inside = zero-le }, λ z. refl)
+    (said .0, record { bytes = said .1; inside = zero-le })
 
 add-to : tie.Need-add-to
 add-to c = let f = c .before .before .before .before .before in omega (arith, f .find-detail .ensures .1, f .before .before .good)
@@ -22,19 +21,17 @@ part-rec-end : tie.Need-part-rec-end
 part-rec-end c = c .before .before .before .before .before .find-detail .ensures .1
 
 text-in-requires : tie.Need-text-in-requires
-text-in-requires c κs = (omega arith, c .before .before .before .before .before .before .before .find-detail .ensures .1)
+text-in-requires c κs = (omega arith, c .before .before .before .before .before .before .find-detail .ensures .1)
 
 returns-2 : tie.Need-returns-2
 returns-2 c =
-    let lent = c .before .before .before .before in
-    let here = lent .before .before .before .before in
+    let t = c .before .before .before in
+    let here = t .before .before .before .before in
     let a = here .before .before .before .before .before .args in
     let f = here .before .before .before .find-detail in
-    let m = lent .amount-of in
-    let t = c .before .before .before .text-in in
-    let said = detail-found (a .file .now) (partMeant (f .result)) _ _ _ _ _ (a .g) (a .a) (a .n) (f .ensures .0) (here .if1 .left)
-    (record { type-is = c .type-of .ensures; given-is = m .ensures .0; amount-is = m .ensures .1; text-is = t .ensures .answer; inside = t .ensures .inside }) in
-    (said .0, record { bytes = said .1; inside = t .ensures .inside }, zero-without _ _ _ (m .ensures .0) (m .ensures .1))
+    let said = detail-found (a .file .now) (partMeant (f .result)) _ _ _ _ (a .g) (a .a) (a .n) (f .ensures .0) (here .if1 .left)
+    (record { type-is = c .before .type-of .ensures; amount-is = c .amount-of .ensures; text-is = t .text-in .ensures .answer; inside = t .text-in .ensures .inside }) in
+    (said .0, record { bytes = said .1; inside = t .text-in .ensures .inside })
 
 pub detail-spec : {M : Type 1} → statement M
 detail-spec =
@@ -46,7 +43,7 @@ detail-spec =
     (λ c. search needs)
     (λ c. search needs)
     part-rec-end
-    (λ c κs. search needs)
     text-in-requires
+    (λ c κs. search needs)
     (λ c κs. search needs)
     returns-2)

@@ -1,0 +1,2 @@
+-- The amount that is read is the rules' amount.
+pub mod AmountLaws

@@ -1,0 +1,2 @@
+-- What reading an amount finds.
+pub mod AmountsRead

@@ -1,0 +1,2 @@
+-- What an item's answer says.
+pub mod ItemMeaning

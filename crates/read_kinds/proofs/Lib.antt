@@ -1,0 +1,2 @@
+-- Kinds by their numbers.
+pub mod KindLaws
