@@ -1,5 +1,6 @@
 /* Times the library beside plain C, in one run, on files of several shapes.
      bench          16 MiB of each shape, then one shape from 1 to 16 MiB: the library's reader and the plain C reader;
+                    each shape once more beside the reader of an older archive, where one is linked;
                     split and combine, each beside the library's own reading of the same files and a plain copy
                     of as many bytes as the result has; handing out all records and fields, beside the library's reading
      bench once N   1 MiB of the Nth shape, from 0 on, read once by each reader, for a tool that counts instructions; the
@@ -26,6 +27,7 @@ enum {
     TAIL = 200,
     RUNS = 7,
     EACH = 10000000, /* receivers: each group has its own */
+    VARIED = 10,     /* digits of a varied amount, at most */
     SMALL_STACK = 64 * 1024
 };
 
@@ -33,10 +35,15 @@ enum {
 typedef struct {
     char *bytes;
     size_t length;
-    long long total, group_total;
+    long long total, group_total, account_total;
+    uint64_t random; /* from which the next varied amount is made */
     unsigned long lines, group_lines, account_lines, accounts, groups;
     unsigned long receivers; /* the groups go to so many receivers in turn */
 } file;
+
+/* A 03 whose amounts are short, and one whose amounts have leading zeros up to 18 digits; each is worth nothing. */
+#define ACCOUNT "03,0975312468,USD,010,0,,,015,+100,,,040,-100,,/"
+#define ZERO_ACCOUNT "03,0975312468,USD,010,000000000000000000,,,015,+000000000000000100,,,040,-000000000000000100,,/"
 
 /* Adds one line that belongs to the open account. */
 static void add_line(file *f, const char *line)
@@ -61,47 +68,67 @@ static void open_group(file *f)
     f->accounts = 0;
 }
 
-/* Opens an account worth nothing. */
-static void open_account(file *f)
+/* What stands in an account of each shape. */
+typedef struct {
+    const char *name;
+    const char *account;              /* a 03 worth nothing */
+    const char *front, *rest;         /* a 16, before its amount and behind it */
+    const char *further;              /* an 88 after it */
+    long long worth;                  /* of each 16; 0: varied amounts */
+    int furthers, details, accounts;  /* 88s for a 16, 16s for an account, accounts for a group (0: one huge group) */
+    int amount_digits, count_digits;  /* at least so many in 16s and trailers, filled up with zeros */
+} shape;
+
+/* The next 16's amount; varied amounts, of 1 to 10 digits, come in a sequence that is the same in every run. */
+static long long next_amount(file *f, const shape *s)
 {
-    f->account_lines = 0;
-    add_line(f, "03,0975312468,USD,010,0,,,015,+100,,,040,-100,,/");
+    long long limit = 1;
+    if (s->worth != 0)
+        return s->worth;
+    f->random = f->random * 6364136223846793005u + 1442695040888963407u;
+    for (uint64_t digits = 1 + (f->random >> 32) % VARIED; digits > 0; digits--)
+        limit *= 10;
+    return (long long)(f->random >> 8) % limit;
 }
 
-/* Closes the account, whose details add up to this. */
-static void close_account(file *f, long long total)
+/* Adds a 16 with its 88s. */
+static void add_detail(file *f, const shape *s)
 {
-    ADD(f, "49,%lld,%lu/\n", total, f->account_lines + 1);
-    f->group_total += total;
+    long long amount = next_amount(f, s);
+    f->account_total += amount;
+    ADD(f, "%s%0*lld", s->front, s->amount_digits, amount);
+    add_line(f, s->rest);
+    for (int i = 0; i < s->furthers; i++)
+        add_line(f, s->further);
+}
+
+/* Closes the account. */
+static void close_account(file *f, const shape *s)
+{
+    ADD(f, "49,%0*lld,%0*lu/\n", s->amount_digits, f->account_total, s->count_digits, f->account_lines + 1);
+    f->group_total += f->account_total;
     f->group_lines += f->account_lines + 1;
     f->accounts++;
 }
 
 /* Closes the group. */
-static void close_group(file *f)
+static void close_group(file *f, const shape *s)
 {
-    ADD(f, "98,%lld,%lu,%lu/\n", f->group_total, f->accounts, f->group_lines + 1);
+    ADD(f, "98,%0*lld,%0*lu,%0*lu/\n", s->amount_digits, f->group_total, s->count_digits, f->accounts, s->count_digits,
+        f->group_lines + 1);
     f->total += f->group_total;
     f->lines += f->group_lines + 1;
 }
 
-/* What stands in an account of each shape. */
-typedef struct {
-    const char *name;
-    const char *line, *further; /* a 16 worth 1500, and the 88s after it */
-    int furthers, details, accounts; /* 88s for a 16, 16s for an account, accounts for a group (0: one huge group) */
-} shape;
-
 /* Adds one account of this shape. */
 static void add_account(file *f, const shape *s)
 {
-    open_account(f);
-    for (int i = 0; i < s->details; i++) {
-        add_line(f, s->line);
-        for (int j = 0; j < s->furthers; j++)
-            add_line(f, s->further);
-    }
-    close_account(f, 1500LL * s->details);
+    f->account_lines = 0;
+    f->account_total = 0;
+    add_line(f, s->account);
+    for (int i = 0; i < s->details; i++)
+        add_detail(f, s);
+    close_account(f, s);
 }
 
 /* A file of this shape of at most `size` bytes, as full as whole accounts make it, for so many receivers. */
@@ -112,16 +139,16 @@ static void make_file(file *f, const shape *s, size_t size, unsigned long receiv
     open_group(f);
     size_t start = f->length;
     add_account(f, s);
-    size_t room = f->length - start + TAIL;
+    size_t room = f->length - start + TAIL + (size_t)(s->details * VARIED); /* another account's amounts may be longer */
     while (f->length + room < size) {
         if (s->accounts != 0 && f->accounts == (unsigned long)s->accounts) {
-            close_group(f);
+            close_group(f, s);
             open_group(f);
         }
         add_account(f, s);
     }
-    close_group(f);
-    ADD(f, "99,%lld,%lu,%lu/\n", f->total, f->groups, f->lines + 2);
+    close_group(f, s);
+    ADD(f, "99,%0*lld,%0*lu,%0*lu/\n", s->amount_digits, f->total, s->count_digits, f->groups, s->count_digits, f->lines + 2);
 }
 
 /* Something to be timed, and what it is done with. */
@@ -145,6 +172,15 @@ static uint64_t plain_read(task *t)
 static uint64_t library_read(task *t)
 {
     return bai2_read(BYTES(t->a)).number;
+}
+
+/* bai2_read of the older archive; null where none is linked. */
+extern bai2_summary before_bai2_read(const uint8_t *file, size_t file_length) __attribute__((weak));
+
+/* Its reader. */
+static uint64_t before_read(task *t)
+{
+    return before_bai2_read(BYTES(t->a)).number;
 }
 
 /* The library's split. */
@@ -270,12 +306,14 @@ static void small_stack(file *f)
     printf("stack\n");
 }
 
-/* Both readers, and the library's reader beside handing out, on 16 MiB of each shape. */
+/* The library's reader beside plain C, beside the older archive and beside handing out, on 16 MiB of each shape. */
 static void measure_shapes(const shape *shapes, size_t count, file *f, uint8_t *out)
 {
     for (size_t i = 0; i < count; i++) {
         make_file(f, &shapes[i], LARGEST, EACH);
         measure("shapes", shapes[i].name, &(task){.a = f}, plain_read, library_read);
+        if (before_bai2_read != NULL)
+            measure("before", shapes[i].name, &(task){.a = f}, before_read, library_read);
         measure("hands", shapes[i].name, &(task){.a = f, .out = out}, library_read, hand_out);
     }
 }
@@ -307,7 +345,7 @@ static int read_once(const shape *s, file *f)
     make_file(f, s, MIB, EACH);
     task t = {.a = f};
     printf("%lu %s\n", f->lines + 2, s->name);
-    return plain_read(&t) != 0 || library_read(&t) != 0;
+    return plain_read(&t) != 0 || library_read(&t) != 0 || (before_bai2_read != NULL && before_read(&t) != 0);
 }
 
 /* Writes a file of 16 MiB of this shape to standard output. */
@@ -320,15 +358,21 @@ static int write_shape(const shape *s, file *f)
 /* Makes the shapes and prints the times, or does something with one shape. */
 int main(int argc, char **argv)
 {
-    static char text[4001];
+    static char text[3990];
     memset(text, 'T', sizeof text - 1);
-    memcpy(text, "16,165,1500,Z,B,C,", 18);
+    memcpy(text, ",Z,B,C,", 7);
     const shape shapes[] = {
-        {"many short lines", "16,165,1500,,,,/", "", 0, 50, 20},
-        {"usual lines", "16,165,1500,1,DD1620,,DEALER PAYMENTS", "", 0, 20, 20},
-        {"long texts", text, "", 0, 10, 20},
-        {"many 88s", "16,165,1500,1,DD1620,,DEALER PAYMENTS", "88,AND A FURTHER PIECE OF TEXT", 10, 20, 20},
-        {"one huge group", "16,475,1500,V,040620,2359,DD1620,REF 12,CHEQUE /77", "", 0, 1000, 0},
+        {"many short lines", ACCOUNT, "16,165,", ",,,,/", "", 1500, 0, 50, 20, 1, 1},
+        {"usual lines", ACCOUNT, "16,165,", ",1,DD1620,,DEALER PAYMENTS", "", 1500, 0, 20, 20, 1, 1},
+        {"long texts", ACCOUNT, "16,165,", text, "", 1500, 0, 10, 20, 1, 1},
+        {"many 88s", ACCOUNT, "16,165,", ",1,DD1620,,DEALER PAYMENTS", "88,AND A FURTHER PIECE OF TEXT", 1500, 10, 20, 20, 1, 1},
+        {"one huge group", ACCOUNT, "16,475,", ",V,040620,2359,DD1620,REF 12,CHEQUE /77", "", 1500, 0, 1000, 0, 1, 1},
+        {"varied amounts", ACCOUNT, "16,165,", ",,,,/", "", 0, 0, 50, 20, 1, 1},
+        {"varied amounts, 12 digits", ACCOUNT, "16,165,", ",,,,/", "", 0, 0, 50, 20, 12, 1},
+        {"accounts alone", ACCOUNT, "", "", "", 1, 0, 0, 20, 1, 1},
+        {"15 leading zeros", ZERO_ACCOUNT, "16,165,", ",,,,/", "", 150, 0, 50, 20, 18, 9},
+        {"varied amounts, 18 digits", ZERO_ACCOUNT, "16,165,", ",,,,/", "", 0, 0, 50, 20, 18, 9},
+        {"accounts alone, 18 digits", ZERO_ACCOUNT, "", "", "", 1, 0, 0, 20, 18, 9},
     };
     const size_t count = sizeof shapes / sizeof *shapes;
     file a = {.bytes = malloc(ROOM)}, b = {.bytes = malloc(ROOM)};

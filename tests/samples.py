@@ -899,6 +899,94 @@ refused("funds_d_minus_0.bai", detail(b"16,165,1500,D,1,0,-0,,,/"), 8, 131, b"-0
 refused("funds_d_19.bai", detail(b"16,165,1500,D,1,0,0" + ZEROS + b",,,/"), 8, 131, b"0" + ZEROS + b",")
 refused("funds_d_minus_in_03.bai", k1(line3=b"03,0975312468,USD,100,5,,D,1,0,-5/"), 8, 114, b"-5/")
 
+# ---- 2026-04: leading zeros are skipped first; answers, refusals and places stay ----
+
+# Two amounts, both as summaries of the 03 and both as details, so the total is twice their sum. Lines:
+# 01, 02, 03, two 16s, 49, 98, 99; the account has 4, the group 6, the file 8.
+for name, one, other, total in (
+        # 14 and 18 digits, 7 zeros first: 1234567 + 10000000001 = 10001234568.
+        ("8th", b"0" * 7 + b"1234567", b"0" * 7 + b"10000000001", 20002469136),
+        # 15 and 16 digits, 8 zeros first: 8765432 + 10000000 = 18765432.
+        ("9th", b"0" * 8 + b"8765432", b"0" * 8 + b"10000000", 37530864),
+        # 16 and 17 digits, 9 zeros first: 1020304 + 90000009 = 91020313.
+        ("10th", b"0" * 9 + b"1020304", b"0" * 9 + b"90000009", 182040626),
+        # 16 and 17 digits, 15 zeros first: 9 + 10 = 19.
+        ("16th", b"0" * 15 + b"9", b"0" * 15 + b"10", 38),
+        # 17 and 18 digits, 16 zeros first: 7 + 20 = 27.
+        ("17th", b"0" * 16 + b"7", b"0" * 16 + b"20", 54),
+        # 18 digits each, 17 zeros first: 6 + 5 = 11.
+        ("18th", b"0" * 17 + b"6", b"+" + b"0" * 17 + b"5", 22),
+        # No zeros, but eight nines: 99999999 + 999999991234567 = 1000000091234566.
+        ("not_nines", b"99999999", b"999999991234567", 2000000182469132),
+        # Zeros at the end, 17 behind the 1, and in the middle, 14 between 2 and 3, all count:
+        # 100000000000000000 + 2000000000000003 = 102000000000000003.
+        ("not_first", b"100000000000000000", b"2000000000000003", 204000000000000006)):
+    accepted(f"zeros_{name}.bai", after_short_headers(
+        b"03,X,,100," + one + b",,,110," + other + b",,/", b"16,165," + other + b",,,,/",
+        b"16,165," + one + b",,,,/", b"49,%d,4/" % total, b"98,%d,1,6/" % total, b"99,%d,1,8/" % total),
+        total, 1, 1, 2, 8)
+# Nothing but zeros, 1, 8, 9, 15, 16 and 17 of them: in each of six accounts a summary, a detail and the
+# total, so all is 0. 03, 16 and 49 six times are 18 lines, the group has 20, the file 22.
+accepted("zeros_alone.bai", after_short_headers(
+    *[row for zeros in (b"0", b"0" * 8, b"0" * 9, b"0" * 15, b"0" * 16, b"0" * 17)
+      for row in (b"03,X,,100," + zeros + b",000000000,/", b"16,165," + zeros + b",,,,/",
+                  b"49," + zeros + b",3/")],
+    b"98,0,6,20/", b"99,0,1,22/"), 0, 1, 6, 6, 22)
+# Behind a sign 15, 16 and 17 zeros: 25 + 4 + 3 = 32 on the 03, -900 - 60 - 8 = -968 on its 88; -936 in
+# all. The account has 03, 88 and 49.
+accepted("zeros_status.bai", after_short_headers(
+    b"03,X,,010,+" + b"0" * 15 + b"25,,,015,+" + b"0" * 16 + b"4,,,040,+" + b"0" * 17 + b"3,,/",
+    b"88,045,-" + b"0" * 15 + b"900,,,050,-" + b"0" * 16 + b"60,,,055,-" + b"0" * 17 + b"8,,/",
+    b"49,-936,3/", b"98,-936,1,5/", b"99,-936,1,7/"), -936, 1, 1, 0, 7)
+
+# Totals of 16, 17 and 18 digits in 49, 98 and 99: -1493 + 1500 = 7 behind 15, 16 and 17 zeros; ...
+accepted("zeros_totals.bai", with_totals(
+    b"-1493", b"0" * 15 + b"7", b"0" * 16 + b"7", b"0" * 17 + b"7"), 7, 1, 1, 1, 7)
+# ... -1509 + 1500 = -9 likewise; K1's own 1000 behind a plus and 12, 13 and 14 zeros; ...
+accepted("zeros_totals_minus.bai", with_totals(
+    b"-1509", b"-" + b"0" * 15 + b"9", b"-" + b"0" * 16 + b"9", b"-" + b"0" * 17 + b"9"),
+    -9, 1, 1, 1, 7)
+accepted("zeros_totals_plus.bai", with_totals(
+    b"-500", b"+" + b"0" * 12 + b"1000", b"+" + b"0" * 13 + b"1000", b"+" + b"0" * 14 + b"1000"),
+    1000, 1, 1, 1, 7)
+# ... and 12344178 + 1500 = 12345678 behind 8, 9 and 10.
+accepted("zeros_totals_9th.bai", with_totals(
+    b"12344178", b"0" * 8 + b"12345678", b"0" * 9 + b"12345678", b"0" * 10 + b"12345678"),
+    12345678, 1, 1, 1, 7)
+# K1 with every count behind eight zeros.
+accepted("zeros_counts.bai", k1(line5=b"49,1000,000000003/", line6=b"98,1000,000000001,000000005/",
+                                line7=b"99,1000,000000001,000000007/"), 1000, 1, 1, 1, 7)
+# No group: a total of 17 zeros, nine zeros for the groups, two lines.
+accepted("zeros_no_group.bai", lines(K1[0], b"99," + b"0" * 17 + b",000000000,000000002/"),
+         0, 0, 0, 0, 2)
+
+# The digits behind the zeros, or between them, make another total: 1001 for K1's 1000, in the 49 at
+# 154; ...
+refused("zeros_total_49_off.bai", with_totals(b"-500", b"0" * 12 + b"1001", b"1000", b"1000"),
+        11, 154, b"0000000000001001,3/")
+# ... 17 for 7, its 1 in the 16th place: -1493 has one byte more than -500, so the 49 is at 152; it has
+# 7 + 1 bytes, the 98 is at 160 and its total at 163; ...
+refused("zeros_total_98_off.bai", with_totals(b"-1493", b"7", b"0" * 15 + b"17", b"7"),
+        11, 163, b"00000000000000017,1,5/")
+# ... 10000001000 for 1000, its first 1 in the 8th place: in the 99 at 178.
+refused("zeros_total_99_off.bai", with_totals(b"-500", b"1000", b"1000", b"0" * 7 + b"10000001000"),
+        11, 178, b"000000010000001000,1,7/")
+# Four records for three, in the 49 at 159; ten groups for one, in the 99 at 183.
+refused("zeros_records_49_off.bai", k1(line5=b"49,1000,000000004/"), 13, 159, b"000000004/")
+refused("zeros_groups_99_off.bai", k1(line7=b"99,1000,000000010,000000007/"),
+        12, 183, b"000000010,000000007/")
+# No digit behind 8 or 15 zeros: the amount is wrong at its start, of a detail at 120, of a 03 at 105.
+# The colon is the byte above 9; the slash is the one below 0 and ends a field, so the dot below it.
+refused("zeros_8_colon.bai", detail(b"16,165,00000000:1500,1,DD1620,,/"), 8, 120, b"00000000:1500,1")
+refused("zeros_8_dot.bai", k1(line3=b"03,0975312468,USD,100,00000000.,,/"), 8, 105, b"00000000.,,/")
+refused("zeros_15_letter.bai", detail(b"16,165,000000000000000A5,1,DD1620,,/"),
+        8, 120, b"000000000000000A5,1")
+refused("zeros_15_colon.bai", k1(line3=b"03,0975312468,USD,010,-000000000000000:,,/"),
+        8, 105, b"-000000000000000:,,/")
+# 18 zeros and a 5 are 19 digits, however small the number.
+refused("zeros_19_digits.bai", detail(b"16,165," + ZEROS + b"5,1,DD1620,,/"),
+        8, 120, b"0000000000000000005,1")
+
 # ---- Long continuations ----
 
 # Every record broken at every field: 01 in 8 lines, 02 in 7, 03 in 6, 16 in 6 (the text is on the
