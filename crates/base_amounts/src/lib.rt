@@ -1,9 +1,9 @@
 // Amounts as fields give them: empty, unsigned, with plus, with minus; what they add, and how they are told.
 ghost use Rattle.std.specs.Prelude.{◌≡◌};
-ghost use Rattle.rules.specs.Amounts.{magnitudeOf, amountAdds};
-ghost use Rattle.rules.specs.Answers.{formNumber};
-ghost use Rattle.base_quantities.specs.QuantityMeanings.{sumMeant};
-ghost use Rattle.base_amounts.specs.AmountsRead.{amountMeant, amountRead, isMinus};
+ghost use Rattle.rules.specs.Amounts.{magnitude_of, amount_adds};
+ghost use Rattle.rules.specs.Answers.{form_number};
+ghost use Rattle.base_quantities.specs.QuantityMeanings.{sum_meant};
+ghost use Rattle.base_amounts.specs.AmountsRead.{amount_meant, amount_read, is_minus};
 
 use base_quantities::{Magnitude, Units};
 
@@ -18,7 +18,7 @@ pub enum Amount {
 
 // The amount in a field; its magnitude is 0 where no number of up to 18 digits is given.
 pub fn amount_in(f: &[u8]) -> Amount
-    ensures { amountMeant result ≡ amountRead f.now }
+    ensures { amount_meant result ≡ amount_read f.now }
 {
     if f.len() == 0 {
         return Amount::Empty;
@@ -35,7 +35,7 @@ pub fn amount_in(f: &[u8]) -> Amount
 
 // Its magnitude; 0 where it is empty.
 pub fn magnitude_of(a: Amount) -> Magnitude
-    ensures { result.0 ≡ magnitudeOf (amountMeant a) }
+    ensures { result.0 ≡ magnitude_of (amount_meant a) }
 {
     match a {
         Amount::Empty => Magnitude(0),
@@ -47,7 +47,7 @@ pub fn magnitude_of(a: Amount) -> Magnitude
 
 // It has a minus.
 pub fn is_minus(a: Amount) -> bool
-    ensures { result ≡ isMinus (amountMeant a) }
+    ensures { result ≡ is_minus (amount_meant a) }
 {
     match a {
         Amount::Empty => false,
@@ -59,7 +59,7 @@ pub fn is_minus(a: Amount) -> bool
 
 // What it adds to a total.
 pub fn adds(a: Amount) -> Units
-    ensures { sumMeant result ≡ amountAdds (amountMeant a) }
+    ensures { sum_meant result ≡ amount_adds (amount_meant a) }
 {
     match a {
         Amount::Empty => Units(0, 0),
@@ -71,7 +71,7 @@ pub fn adds(a: Amount) -> Units
 
 // How it was given, as a number: 0 empty, 1 unsigned, 2 with plus, 3 with minus.
 pub fn form_of(a: Amount) -> u64
-    ensures { result ≡ formNumber (amountMeant a) }
+    ensures { result ≡ form_number (amount_meant a) }
 {
     match a {
         Amount::Empty => 0,

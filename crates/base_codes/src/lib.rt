@@ -1,7 +1,7 @@
 // The codes of records, one type for every crate that reads or writes them, and the two digits of each.
 ghost use Rattle.std.specs.Prelude.{◌≡◌};
-ghost use Rattle.rules.specs.Lines.{codeBytes, codeNumber, sameCode};
-ghost use Rattle.base_codes.specs.CodeMeaning.{codeMeant, bytesMeant};
+ghost use Rattle.rules.specs.Lines.{code_bytes, code_number, same_code};
+ghost use Rattle.base_codes.specs.CodeMeaning.{code_meant, bytes_meant};
 
 #[derive(Drop)]
 pub enum Code {
@@ -21,7 +21,7 @@ pub struct Digits(pub u8, pub u8);
 
 // The code's two digits as a number.
 pub fn number_of(code: Code) -> u8
-    ensures { result ≡ codeNumber (codeMeant code) }
+    ensures { result ≡ code_number (code_meant code) }
 {
     match code {
         Code::FileHeader => 1,
@@ -37,7 +37,7 @@ pub fn number_of(code: Code) -> u8
 
 // A code's digits.
 pub fn digits_of(code: Code) -> Digits
-    ensures { bytesMeant result ≡ codeBytes (codeMeant code) }
+    ensures { bytes_meant result ≡ code_bytes (code_meant code) }
 {
     let n = number_of(code);
     let first = b'0' + n / 10;
@@ -47,7 +47,7 @@ pub fn digits_of(code: Code) -> Digits
 
 // The codes are the same.
 pub fn same_code(a: Code, b: Code) -> bool
-    ensures { result ≡ sameCode (codeMeant a) (codeMeant b) }
+    ensures { result ≡ same_code (code_meant a) (code_meant b) }
 {
     number_of(a) == number_of(b)
 }

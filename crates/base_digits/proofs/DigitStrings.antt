@@ -4,14 +4,14 @@ use native.Mathlib.Nat.{pow-zero, one-le-pow}
 use mathlib.Core.Bool.{and_assoc}
 use lib.ListN.{get_or-append}
 use Rattle.rules.specs.Bytes.{Bytes, all}
-use Rattle.rules.specs.Numbers.{isDigit, digits, numberFrom, number, decimalWithin, decimal}
+use Rattle.rules.specs.Numbers.{is_digit, digits, number_from, number, decimal_within, decimal}
 use Rattle.base_digits.proofs.DigitTests.{below-or-from, and_left, and_right, within, at_least, at_most}
 
 -- ---- a number's digits, by tenths
 
 -- more steps than enough change nothing
-steps-enough : (k l : ℕ) (b : Bool) (n : ℕ) → ltb n 10 ≡ b → n ≤ k → n ≤ l → decimalWithin k b n ≡ decimalWithin l b n
-unfolding decimalWithin
+steps-enough : (k l : ℕ) (b : Bool) (n : ℕ) → ltb n 10 ≡ b → n ≤ k → n ≤ l → decimal_within k b n ≡ decimal_within l b n
+unfolding decimal_within
 steps-enough zero zero b n e h g = refl
 steps-enough zero (suc l) true n e h g = refl
 steps-enough (suc k) zero true n e h g = refl
@@ -24,13 +24,13 @@ steps-enough (suc k) (suc l) false n e h g =
 
 -- a number below 10 is one digit
 pub decimal-small : (n : ℕ) → n < 10 → decimal n ≡ (48 + n) ∷ []
-unfolding decimal decimalWithin
+unfolding decimal decimal_within
 decimal-small zero h = refl
 decimal-small (suc m) h = rw (lt-ltb (suc m) 10 h)
 
 -- any other is the digits of its tenth, then its last
 pub decimal_step : (n : ℕ) → 10 ≤ n → decimal n ≡ decimal (n / 10) ++ ((48 + n % 10) ∷ [])
-unfolding decimal decimalWithin
+unfolding decimal decimal_within
 decimal_step zero h = absurd (omega arith)
 decimal_step (suc m) h =
     rw (le-ltb (suc m) 10 h)
@@ -49,19 +49,19 @@ module _ {ℓ} (P : ℕ → Type ℓ) (small : (n : ℕ) → n < 10 → P n) (st
 -- ---- the number that digits stand for
 
 -- digits after others go on from the number of those
-pub number_append : (n : ℕ) (xs ys : Bytes) → numberFrom n (xs ++ ys) ≡ numberFrom (numberFrom n xs) ys
-unfolding numberFrom
+pub number_append : (n : ℕ) (xs ys : Bytes) → number_from n (xs ++ ys) ≡ number_from (number_from n xs) ys
+unfolding number_from
 number_append n [] ys = refl
 number_append n (x ∷ xs) ys = number_append (n * 10 + (x - 48)) xs ys
 
 -- one digit more at the end: ten times the number, and the digit
 pub number-snoc : (xs : Bytes) (b : ℕ) → number (xs ++ (b ∷ [])) ≡ number xs * 10 + (b - 48)
-unfolding numberFrom
+unfolding number_from
 number-snoc xs b = number_append 0 xs (b ∷ [])
 
 -- a number's digits stand for it
 pub number-decimal : (n : ℕ) → number (decimal n) ≡ n
-unfolding numberFrom
+unfolding number_from
 number-decimal =
     by-tenths (λ n. number (decimal n) ≡ n)
     (λ n h. rw (decimal-small n h) (omega arith))
@@ -69,7 +69,7 @@ number-decimal =
 
 -- leading zeros count nothing
 pub number-zeros : (k : ℕ) (xs : Bytes) → number (replicate k 48 ++ xs) ≡ number xs
-unfolding numberFrom
+unfolding number_from
 number-zeros zero xs = refl
 number-zeros (suc k) xs = number-zeros k xs
 
@@ -86,10 +86,10 @@ all_append test [] ys = refl
 all_append test (x ∷ xs) ys = rw (all_append test xs ys) (sym (and_assoc (test x) (all test xs) (all test ys)))
 
 -- of some digits the first is one, and those after it are
-module _ (x : ℕ) (xs : Bytes) (e : all isDigit (x ∷ xs) ≡ true) where
-  first-is : isDigit x ≡ true
+module _ (x : ℕ) (xs : Bytes) (e : all is_digit (x ∷ xs) ≡ true) where
+  first-is : is_digit x ≡ true
   unfolding all
-  first-is = and_left (isDigit x) (all isDigit xs) e
+  first-is = and_left (is_digit x) (all is_digit xs) e
 
   pub first-low : 48 ≤ x
   first-low = at_least 48 57 x first-is
@@ -97,19 +97,19 @@ module _ (x : ℕ) (xs : Bytes) (e : all isDigit (x ∷ xs) ≡ true) where
   pub first-high : x ≤ 57
   first-high = at_most 48 57 x first-is
 
-  pub after-are : all isDigit xs ≡ true
+  pub after-are : all is_digit xs ≡ true
   unfolding all
-  after-are = and_right (isDigit x) (all isDigit xs) e
+  after-are = and_right (is_digit x) (all is_digit xs) e
 
 -- a number below 10 as a digit
-digit-of : (n : ℕ) → n < 10 → all isDigit ((48 + n) ∷ []) ≡ true
+digit-of : (n : ℕ) → n < 10 → all is_digit ((48 + n) ∷ []) ≡ true
 unfolding all
 digit-of n h = rw (within 48 57 (48 + n) (omega arith) (omega arith))
 
 -- a number's digits are digits
-pub decimal-digits : (n : ℕ) → all isDigit (decimal n) ≡ true
+pub decimal-digits : (n : ℕ) → all is_digit (decimal n) ≡ true
 decimal-digits =
-    by-tenths (λ n. all isDigit (decimal n) ≡ true)
+    by-tenths (λ n. all is_digit (decimal n) ≡ true)
     (λ n h. rw (decimal-small n h) (digit-of n h))
     (λ n h ih. rw (decimal_step n h, all_append, ih) (digit-of (n % 10) (omega arith)))
 
@@ -172,8 +172,8 @@ decimal-no-leading-zero (suc n) e = absurd (omega (arith, decimal-first (suc n) 
 -- ---- how large the number is
 
 -- after those that stand for n, the number of k digits is below (n + 1) * 10^k
-below_power : (n : ℕ) (xs : Bytes) → all isDigit xs ≡ true → numberFrom n xs < (n + 1) * 10 ^ length xs
-unfolding numberFrom
+below_power : (n : ℕ) (xs : Bytes) → all is_digit xs ≡ true → number_from n xs < (n + 1) * 10 ^ length xs
+unfolding number_from
 below_power n [] e = rw (pow-zero 10, mul-one (n + 1)) (omega arith)
 below_power n (x ∷ xs) e =
     let up : n * 10 + (x - 48) + 1 ≤ (n + 1) * 10 = omega (arith, first-high x xs e) in
@@ -181,14 +181,14 @@ below_power n (x ∷ xs) e =
     (lt_of_lt_of_le (below_power (n * 10 + (x - 48)) xs (after-are x xs e)) (mul-le-mul_right (10 ^ length xs) up))
 
 -- the number of k digits is below 10^k
-pub number-below : (xs : Bytes) → all isDigit xs ≡ true → number xs < 10 ^ length xs
+pub number-below : (xs : Bytes) → all is_digit xs ≡ true → number xs < 10 ^ length xs
 number-below xs e = omega (arith, below_power 0 xs e)
 
 -- ---- the digits of the number that digits stand for
 
 -- after those of a number other than 0, digits are the whole number's
-decimal-from : (n : ℕ) (xs : Bytes) → 0 < n → all isDigit xs ≡ true → decimal (numberFrom n xs) ≡ decimal n ++ xs
-unfolding numberFrom
+decimal-from : (n : ℕ) (xs : Bytes) → 0 < n → all is_digit xs ≡ true → decimal (number_from n xs) ≡ decimal n ++ xs
+unfolding number_from
 decimal-from n [] h e = sym (append-nil (decimal n))
 decimal-from n (x ∷ xs) h e =
     let lo = first-low x xs e in
@@ -199,8 +199,8 @@ decimal-from n (x ∷ xs) h e =
     ∙ rw (decimal_step (n * 10 + (x - 48)) (omega arith), tenth, last) (append_assoc (decimal n) (x ∷ []) xs)
 
 -- digits that start with no zero are their number's
-pub decimal-number : (x : ℕ) (xs : Bytes) → all isDigit (x ∷ xs) ≡ true → 48 < x → decimal (number (x ∷ xs)) ≡ x ∷ xs
-unfolding numberFrom
+pub decimal-number : (x : ℕ) (xs : Bytes) → all is_digit (x ∷ xs) ≡ true → 48 < x → decimal (number (x ∷ xs)) ≡ x ∷ xs
+unfolding number_from
 decimal-number x xs e h =
     let hi = first-high x xs e in
     let first : 0 * 10 + (x - 48) ≡ x - 48 = omega arith in

@@ -1,9 +1,9 @@
 // Numbers in fields, read: digits and signs.
 ghost use Rattle.std.specs.Prelude.{◌≡◌, ◌≤◌};
 ghost use Rattle.rules.specs.Bytes.{all, between, minus, starts_with};
-ghost use Rattle.rules.specs.Numbers.{digits, withoutSign};
+ghost use Rattle.rules.specs.Numbers.{digits, without_sign};
 ghost use Rattle.rules.specs.Limits.{most};
-ghost use Rattle.rules.specs.Grammar.{is_signed, isUnsigned};
+ghost use Rattle.rules.specs.Grammar.{is_signed, is_unsigned};
 ghost use Rattle.base_digits.specs.NumbersRead.{value_of};
 
 // An amount or total has no more digits.
@@ -94,7 +94,7 @@ pub fn is_negative(f: &[u8]) -> bool
 
 // The bytes less a plus or minus in front.
 pub fn without_sign(f: &[u8]) -> &[u8]
-    ensures { result.now ≡ withoutSign f.now }
+    ensures { result.now ≡ without_sign f.now }
 {
     if f.len() == 0 {
         return f;
@@ -117,7 +117,7 @@ pub fn is_signed(f: &[u8]) -> bool
 
 // 1 to 18 digits, with at most a plus.
 pub fn is_unsigned(f: &[u8]) -> bool
-    ensures { result ≡ isUnsigned f.now }
+    ensures { result ≡ is_unsigned f.now }
 {
     if is_negative(f) {
         return false;

@@ -1,7 +1,7 @@
 // Numbers written: their digits without leading zeros, and totals with a minus in front where one is due.
 ghost use Rattle.std.specs.Prelude.{◌≡◌, ◌∷◌, ◌≤◌, length};
-ghost use Rattle.rules.specs.Numbers.{decimal, totalBytes};
-ghost use Rattle.base_quantities.specs.QuantityMeanings.{sumMeant};
+ghost use Rattle.rules.specs.Numbers.{decimal, total_bytes};
+ghost use Rattle.base_quantities.specs.QuantityMeanings.{sum_meant};
 ghost use Rattle.base_numerals.specs.PutBytes.{Put};
 
 use base_quantities::Units;
@@ -52,7 +52,7 @@ pub fn put_digits_after(out: &mut [u8], first: u8, n: u64) -> usize
 
 // A sum as one number at the front of out, its minus first: how many bytes; or 0, and nothing changed, where they don't fit.
 pub fn put_total(out: &mut [u8], total: Units) -> usize
-    ensures { Put (totalBytes (sumMeant total)) out.old result out.new }
+    ensures { Put (total_bytes (sum_meant total)) out.old result out.new }
 {
     let pluses = total.0;
     let minuses = total.1;

@@ -1,7 +1,7 @@
 // Quantities that must not mix: minor units, counts of groups, accounts and details, counts of records, and places of bytes.
 ghost use Rattle.std.specs.Prelude.{◌≡◌, ◌+◌, min};
-ghost use Rattle.rules.specs.Numbers.{zeroSum, as_sum, ◌⊕◌};
-ghost use Rattle.base_quantities.specs.QuantityMeanings.{sumMeant, signedMeant, wrappedSum, unitsWithin, mostRecords};
+ghost use Rattle.rules.specs.Numbers.{zero_sum, as_sum, ◌⊕◌};
+ghost use Rattle.base_quantities.specs.QuantityMeanings.{sum_meant, signed_meant, wrapped_sum, units_within, most_records};
 
 use base_limits::MOST;
 
@@ -45,14 +45,14 @@ pub struct Place(pub usize);
 impl Units {
     // The sum of no amounts.
     pub fn none() -> Units
-        ensures { sumMeant result ≡ zeroSum }
+        ensures { sum_meant result ≡ zero_sum }
     {
         Units(0, 0)
     }
 
     // A magnitude with its sign, as a sum: a debit is a plus like a credit, and only a minus sign counts as a minus.
     pub fn of(given: Signed) -> Units
-        ensures { sumMeant result ≡ as_sum (signedMeant given) }
+        ensures { sum_meant result ≡ as_sum (signed_meant given) }
     {
         let magnitude = given.magnitude;
         if given.negative {
@@ -63,7 +63,7 @@ impl Units {
 
     // Both sums in one, pluses to pluses and minuses to minuses; a side past the largest number of 64 bits wraps.
     pub fn add(self, other: Units) -> Units
-        ensures { sumMeant result ≡ wrappedSum (sumMeant self ⊕ sumMeant other) }
+        ensures { sum_meant result ≡ wrapped_sum (sum_meant self ⊕ sum_meant other) }
     {
         Units(
             std::num::wrapping_add_u64(self.0, other.0),
@@ -73,7 +73,7 @@ impl Units {
 
     // Both sums in one, unless the magnitudes pass the largest sum.
     pub fn join(self, other: Units) -> UnitsSum
-        ensures { result ≡ unitsWithin (sumMeant self ⊕ sumMeant other) }
+        ensures { result ≡ units_within (sum_meant self ⊕ sum_meant other) }
     {
         let pluses = self.0;
         let minuses = self.1;
@@ -97,7 +97,7 @@ impl Units {
 impl Records {
     // Both counts together, and the largest where they would pass it.
     pub fn add(self, more: Records) -> Records
-        ensures { result.0 ≡ min (self.0 + more.0) mostRecords }
+        ensures { result.0 ≡ min (self.0 + more.0) most_records }
     {
         let a = self.0;
         let b = more.0;

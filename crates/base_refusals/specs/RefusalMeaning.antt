@@ -2,5 +2,5 @@
 use Rattle.rules.specs.Outcome as rules
 use Rattle.base_refusals.specs.declared.Refusal.{Refusal}
 
-abbrev pub refusalMeant : Refusal → rules.Refusal
-refusalMeant why = record { number = why.number; place = why.place.0 }
+abbrev pub refusal_meant : Refusal → rules.Refusal
+refusal_meant why = record { number = why.number; place = why.place.0 }

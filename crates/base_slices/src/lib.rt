@@ -1,14 +1,14 @@
 // Bytes compared, a part of a slice, and bytes put into a lent slice.
 ghost use Rattle.std.specs.Prelude.{◌≡◌, min, take};
 ghost use Rattle.std.proofs.Math.Seq.{slice};
-ghost use Rattle.rules.specs.Bytes.{sameBytes};
+ghost use Rattle.rules.specs.Bytes.{same_bytes};
 ghost use Rattle.base_numerals.specs.PutBytes.{Put};
 
 use base_quantities::Place;
 
 // Equal byte for byte.
 pub fn same_bytes(a: &[u8], b: &[u8]) -> bool
-    ensures { result ≡ sameBytes a.now b.now }
+    ensures { result ≡ same_bytes a.now b.now }
 {
     if a.len() != b.len() {
         return false;

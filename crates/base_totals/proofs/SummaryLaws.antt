@@ -3,13 +3,13 @@ use Rattle.std.proofs.Common.{◌≡◌, ◌+◌, arith}
 use Rattle.rules.specs.Totals.{Summary, ◌⊞◌}
 use Rattle.base_quantities.proofs.UnitsLaws.{not-wrapped}
 use Rattle.base_totals.specs.declared.Summary as code
-use Rattle.base_totals.specs.SummaryMeaning.{summaryMeant, wrappedSummary, Small}
+use Rattle.base_totals.specs.SummaryMeaning.{summary_meant, wrapped_summary, Small}
 
 pub same_numbers : (a b : Summary) → a.sum ≡ b.sum → a.groups ≡ b.groups → a.accounts ≡ b.accounts → a.details ≡ b.details
     → a.records ≡ b.records → a ≡ b
 same_numbers a b s g c d n = λ i. record { sum = s i; groups = g i; accounts = c i; details = d i; records = n i }
 
-pub small-sum : (a b : code.Summary) → Small a → Small b → wrappedSummary (summaryMeant a ⊞ summaryMeant b) ≡ summaryMeant a ⊞ summaryMeant b
+pub small-sum : (a b : code.Summary) → Small a → Small b → wrapped_summary (summary_meant a ⊞ summary_meant b) ≡ summary_meant a ⊞ summary_meant b
 unfolding ◌⊞◌
 small-sum a b x y =
     rw (

@@ -1,10 +1,10 @@
 // What records add up to, for the reader and the writer: a file's summary, a group's, an account's; what each record adds, and two summaries in one.
 ghost use Rattle.std.specs.Prelude.{◌≡◌, ◌+◌, if◌then◌else◌};
-ghost use Rattle.rules.specs.Totals.{noSummary, ◌⊞◌};
+ghost use Rattle.rules.specs.Totals.{no_summary, ◌⊞◌};
 ghost use Rattle.rules.specs.Totals as totals;
-ghost use Rattle.base_codes.specs.CodeMeaning.{codeMeant};
-ghost use Rattle.base_quantities.specs.QuantityMeanings.{sumMeant, wrapped};
-ghost use Rattle.base_totals.specs.SummaryMeaning.{nothingYet, summaryMeant, wrappedSummary};
+ghost use Rattle.base_codes.specs.CodeMeaning.{code_meant};
+ghost use Rattle.base_quantities.specs.QuantityMeanings.{sum_meant, wrapped};
+ghost use Rattle.base_totals.specs.SummaryMeaning.{nothing_yet, summary_meant, wrapped_summary};
 
 use base_codes::Code;
 use base_quantities::{Count, Records, Units};
@@ -21,7 +21,7 @@ pub struct Summary {
 
 // The summary of no records.
 pub fn no_summary() -> Summary
-    ensures { result ≡ nothingYet }
+    ensures { result ≡ nothing_yet }
 {
     Summary {
         total: Units(0, 0),
@@ -34,7 +34,7 @@ pub fn no_summary() -> Summary
 
 // 1 where the codes are the same, else 0.
 fn one(code: Code, of: Code) -> Count
-    ensures { result.0 ≡ totals.one (codeMeant code) (codeMeant of) }
+    ensures { result.0 ≡ totals.one (code_meant code) (code_meant of) }
 {
     if base_codes::same_code(code, of) {
         return Count(1);
@@ -44,7 +44,7 @@ fn one(code: Code, of: Code) -> Count
 
 // What so many lines of a record of this code add, with this sum of amounts.
 pub fn adding(code: Code, total: Units, records: Records) -> Summary
-    ensures { summaryMeant result ≡ totals.adding (codeMeant code) (sumMeant total) records.0 }
+    ensures { summary_meant result ≡ totals.adding (code_meant code) (sum_meant total) records.0 }
 {
     Summary {
         total,
@@ -64,7 +64,7 @@ fn both(a: Count, b: Count) -> Count
 
 // Both summaries in one; a number past the largest of 64 bits wraps.
 pub fn add(a: Summary, b: Summary) -> Summary
-    ensures { summaryMeant result ≡ wrappedSummary (summaryMeant a ⊞ summaryMeant b) }
+    ensures { summary_meant result ≡ wrapped_summary (summary_meant a ⊞ summary_meant b) }
 {
     let total = a.total;
     let m = a.records;
@@ -80,7 +80,7 @@ pub fn add(a: Summary, b: Summary) -> Summary
 
 // The summary of a group or account that is open; none where it is not.
 pub fn while_open(is_open: bool, summary: Summary) -> Summary
-    ensures { summaryMeant result ≡ (if is_open then summaryMeant summary else noSummary) }
+    ensures { summary_meant result ≡ (if is_open then summary_meant summary else no_summary) }
 {
     if is_open {
         return summary;

@@ -3,9 +3,9 @@
 use Rattle.std.specs.Prelude.{ℕ, cond, leb, ℤ, pos}
 use Rattle.rules.specs.Bytes.{Bytes}
 use Rattle.rules.specs.Limits.{most}
-use Rattle.rules.specs.Outcome.{Refusal, Outcome, or_else, refusalOf}
-use Rattle.rules.specs.Numbers.{Sum, magnitudes, asInteger}
-use Rattle.rules.specs.Totals.{Summary, noSummary}
+use Rattle.rules.specs.Outcome.{Refusal, Outcome, or_else, refusal_of}
+use Rattle.rules.specs.Numbers.{Sum, magnitudes, as_integer}
+use Rattle.rules.specs.Totals.{Summary, no_summary}
 use Rattle.rules.specs.Combine as combine
 use Rattle.c_figures.specs.declared.Bai2Summary.{Bai2Summary}
 use Rattle.c_figures.specs.declared.Bai2Answer.{Bai2Answer}
@@ -21,16 +21,16 @@ pub record SummaryFigures : Type 0 where
   pub records : ℕ
 
 -- with this total
-abbrev pub figuresWith : ℤ → Outcome Summary → SummaryFigures
-figuresWith total o =
-    let s = or_else o noSummary in
-    record { refusal = refusalOf o; total = total; groups = s.groups; accounts = s.accounts; details = s.details; records = s.records }
+abbrev pub figures_with : ℤ → Outcome Summary → SummaryFigures
+figures_with total o =
+    let s = or_else o no_summary in
+    record { refusal = refusal_of o; total = total; groups = s.groups; accounts = s.accounts; details = s.details; records = s.records }
 
-unfoldable pub summaryFigures : Outcome Summary → SummaryFigures
-summaryFigures o = figuresWith (asInteger (or_else o noSummary).sum) o
+unfoldable pub summary_figures : Outcome Summary → SummaryFigures
+summary_figures o = figures_with (as_integer (or_else o no_summary).sum) o
 
-abbrev pub readMeant : Bai2Summary → SummaryFigures
-readMeant r =
+abbrev pub read_meant : Bai2Summary → SummaryFigures
+read_meant r =
     record {
       refusal = record { number = r.number; place = r.place };
       total = r.total;
@@ -40,15 +40,15 @@ readMeant r =
       records = r.records;
     }
 
--- a sum as one signed number, and the figures with it; stand for `asInteger` (rules/specs/Numbers.antt) and for `summaryFigures`, which they are where the
+-- a sum as one signed number, and the figures with it; stand for `as_integer` (rules/specs/Numbers.antt) and for `summary_figures`, which they are where the
 -- magnitudes are within the largest, as those of an accepted file are; joined by `figures-are` (proofs/VerdictFigures.antt)
-unfoldable pub totalFigure : Sum → ℤ
-totalFigure a = cond (leb (magnitudes a) most) (asInteger a) (pos 0)
+unfoldable pub total_figure : Sum → ℤ
+total_figure a = cond (leb (magnitudes a) most) (as_integer a) (pos 0)
 
-unfoldable pub verdictFigures : Outcome Summary → SummaryFigures
-verdictFigures o = figuresWith (totalFigure (or_else o noSummary).sum) o
+unfoldable pub verdict_figures : Outcome Summary → SummaryFigures
+verdict_figures o = figures_with (total_figure (or_else o no_summary).sum) o
 
 -- ---- an answer of a call that writes a file, with what the output slice holds
 
-abbrev pub answerFigures : Bai2Answer → Bytes → combine.Answer
-answerFigures r out = record { refusal = record { number = r.number; place = r.place }; which = 0; len = r.length; output = out }
+abbrev pub answer_figures : Bai2Answer → Bytes → combine.Answer
+answer_figures r out = record { refusal = record { number = r.number; place = r.place }; which = 0; len = r.length; output = out }

@@ -1,8 +1,8 @@
 // Figures that several calls answer C: those of a verdict, and those of a file that was written. include/bai2.h declares them.
 ghost use Rattle.std.specs.Prelude.{◌≡◌};
-ghost use Rattle.base_quantities.specs.QuantityMeanings.{sumMeant};
-ghost use Rattle.read_file.specs.FileMeanings.{verdictMeant};
-ghost use Rattle.c_figures.specs.CFigures.{totalFigure, verdictFigures, readMeant};
+ghost use Rattle.base_quantities.specs.QuantityMeanings.{sum_meant};
+ghost use Rattle.read_file.specs.FileMeanings.{verdict_meant};
+ghost use Rattle.c_figures.specs.CFigures.{total_figure, verdict_figures, read_meant};
 
 use base_limits::MOST;
 use base_quantities::Units;
@@ -33,7 +33,7 @@ pub struct Bai2Answer {
 
 // A sum as one signed number; 0 where its magnitudes pass the largest, as those of no accepted file do.
 fn total_of(sum: Units) -> i64
-    ensures { result ≡ totalFigure (sumMeant sum) }
+    ensures { result ≡ total_figure (sum_meant sum) }
 {
     let pluses = sum.0;
     let minuses = sum.1;
@@ -51,7 +51,7 @@ fn total_of(sum: Units) -> i64
 
 // A verdict's figures.
 pub fn summary_of(verdict: Verdict) -> Bai2Summary
-    ensures { readMeant result ≡ verdictFigures (verdictMeant verdict) }
+    ensures { read_meant result ≡ verdict_figures (verdict_meant verdict) }
 {
     match verdict {
         Verdict::Accepted(s) => {

@@ -1,8 +1,8 @@
 // The call for C that hands out an item of an account's 03.
 ghost use Rattle.std.specs.Prelude.{◌≡◌};
-ghost use Rattle.rules.specs.Answers.{itemOfFile};
-ghost use Rattle.find_item.specs.ItemSearch.{countMeant};
-ghost use Rattle.c_items.specs.ItemFigures.{isGiven, or_zero, itemFigures};
+ghost use Rattle.rules.specs.Answers.{item_of_file};
+ghost use Rattle.find_item.specs.ItemSearch.{count_meant};
+ghost use Rattle.c_items.specs.ItemFigures.{is_given, or_zero, item_figures};
 
 use find_item::ItemCount;
 
@@ -21,7 +21,7 @@ pub struct Bai2Item {
 
 // 1 where an item count is given, else 0.
 fn is_given(count: ItemCount) -> u64
-    ensures { result ≡ isGiven (countMeant count) }
+    ensures { result ≡ is_given (count_meant count) }
 {
     match count {
         ItemCount::NoCount => 0,
@@ -31,7 +31,7 @@ fn is_given(count: ItemCount) -> u64
 
 // The item count, and 0 where none is given.
 fn count_or_zero(count: ItemCount) -> u64
-    ensures { result ≡ or_zero (countMeant count) }
+    ensures { result ≡ or_zero (count_meant count) }
 {
     match count {
         ItemCount::NoCount => 0,
@@ -42,7 +42,7 @@ fn count_or_zero(count: ItemCount) -> u64
 // The item of this number in the 03 of that account of that group.
 #[unsafe(no_mangle)]
 pub extern "C" fn bai2_item_of(file: &[u8], group: u64, account: u64, item: u64) -> Bai2Item
-    ensures { result ≡ itemFigures (itemOfFile file.now group account item) }
+    ensures { result ≡ item_figures (item_of_file file.now group account item) }
 {
     let i = part_items::item(file, group, account, item);
     let refusal = i.refusal;

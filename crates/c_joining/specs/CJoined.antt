@@ -5,5 +5,5 @@ use Rattle.rules.specs.Combine as combine
 use Rattle.c_joining.specs.declared.Bai2Combined.{Bai2Combined}
 
 -- an answer of combine, with what the output slice holds
-abbrev pub combineMeant : Bai2Combined → Bytes → combine.Answer
-combineMeant r out = record { refusal = record { number = r.number; place = r.place }; which = r.file; len = r.length; output = out }
+abbrev pub combine_meant : Bai2Combined → Bytes → combine.Answer
+combine_meant r out = record { refusal = record { number = r.number; place = r.place }; which = r.file; len = r.length; output = out }

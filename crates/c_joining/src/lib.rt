@@ -2,15 +2,15 @@
 ghost use Rattle.std.specs.Prelude.{◌≡◌};
 ghost use Rattle.rules.specs.Split.{split};
 ghost use Rattle.rules.specs.Combine.{combine};
-ghost use Rattle.c_figures.specs.CFigures.{answerFigures};
-ghost use Rattle.c_joining.specs.CJoined.{combineMeant};
+ghost use Rattle.c_figures.specs.CFigures.{answer_figures};
+ghost use Rattle.c_joining.specs.CJoined.{combine_meant};
 
 use c_figures::Bai2Answer;
 
 // The file with one receiver's groups alone, at the front of out.
 #[unsafe(no_mangle)]
 pub extern "C" fn bai2_split(name: &[u8], file: &[u8], out: &mut [u8]) -> Bai2Answer
-    ensures { answerFigures result out.new ≡ split name.now file.now out.old }
+    ensures { answer_figures result out.new ≡ split name.now file.now out.old }
 {
     let r = join_split::split(name, file, out);
     c_figures::answer_of(r.refusal, r.length)
@@ -29,7 +29,7 @@ pub struct Bai2Combined {
 // The first file's header and groups, then the second's groups, at the front of out.
 #[unsafe(no_mangle)]
 pub extern "C" fn bai2_combine(a: &[u8], b: &[u8], out: &mut [u8]) -> Bai2Combined
-    ensures { combineMeant result out.new ≡ combine a.now b.now out.old }
+    ensures { combine_meant result out.new ≡ combine a.now b.now out.old }
 {
     let r = join_combine::combine(a, b, out);
     let refusal = r.refusal;

@@ -10,14 +10,14 @@ use Rattle.rules.specs.Bytes.{Bytes}
 use Rattle.rules.specs.Outcome.{fine}
 use Rattle.rules.specs.Totals.{Summary}
 use Rattle.rules.specs.Verdict.{judge}
-use Rattle.rules.specs.Writer.{Call, endFile, Written, write}
-use Rattle.laws_writer.specs.SessionWords.{Session, freshSession, called, calledAll}
+use Rattle.rules.specs.Writer.{Call, end_file, Written, write}
+use Rattle.laws_writer.specs.SessionWords.{Session, fresh_session, called, called_all}
 use Rattle.laws_writer.proofs.WriterTheorems.{reader-accepts}
-use Rattle.c_writer.specs.WriterFigures.{figuresOf, numbersOf, numbersAfter, answer_of, Reply, replied, replyTo, Sitting, asked, askedAll, inNumbers}
+use Rattle.c_writer.specs.WriterFigures.{figures_of, numbers_of, numbers_after, answer_of, Reply, replied, reply_to, Sitting, asked, asked_all, in_numbers}
 use Rattle.c_writer.specs.declared.Bai2Writer.{Bai2Writer}
 use Rattle.c_writer.specs.declared.Bai2Written.{Bai2Written}
 use Rattle.c_writer.proofs.WriterStateLaws.{numbers-back, calls-from-c}
-use Rattle.c_figures.specs.CFigures.{SummaryFigures, summaryFigures, readMeant}
+use Rattle.c_figures.specs.CFigures.{SummaryFigures, summary_figures, read_meant}
 use Rattle.c_figures.specs.declared.Bai2Summary.{Bai2Summary}
 use Rattle.c_laws.specs.CWords.{Reached, new, next, OwnSummary, written, ReadsOwn, CReadsBack}
 
@@ -27,17 +27,17 @@ use Rattle.c_laws.specs.CWords.{Reached, new, next, OwnSummary, written, ReadsOw
 record Led (w : Bai2Writer) (out : Bytes) : Type 0 where
   pub first : Bytes
   pub calls : List Call
-  pub same : record { writer = w; output = out } ≡ inNumbers (calledAll (freshSession first) calls)
+  pub same : record { writer = w; output = out } ≡ in_numbers (called_all (fresh_session first) calls)
 
-called-last : (s : Session) (calls : List Call) (c : Call) → calledAll s (calls ++ (c ∷ [])) ≡ called (calledAll s calls) c
-unfolding calledAll
+called-last : (s : Session) (calls : List Call) (c : Call) → called_all s (calls ++ (c ∷ [])) ≡ called (called_all s calls) c
+unfolding called_all
 called-last s [] c = refl
 called-last s (d ∷ calls) c = called-last (called s d) calls c
 
-one_more : (w : Bai2Writer) (before after : Bytes) (a : Bai2Written) (call : Call) → replied a after ≡ replyTo w call before → Led w before → Led a.writer after
-unfolding asked askedAll calledAll
+one_more : (w : Bai2Writer) (before after : Bytes) (a : Bai2Written) (call : Call) → replied a after ≡ reply_to w call before → Led w before → Led a.writer after
+unfolding asked asked_all called_all
 one_more w before after a call h s =
-    let t = calledAll (freshSession s.first) s.calls in
+    let t = called_all (fresh_session s.first) s.calls in
     record {
       first = s.first;
       calls = s.calls ++ (call ∷ []);
@@ -45,26 +45,26 @@ one_more w before after a call h s =
           ap (λ (r : Reply). record { writer = r.answer.writer; output = r.output }) h
           ∙ ap (λ (x : Sitting). asked x call) s.same
           ∙ calls-from-c t (call ∷ [])
-          ∙ ap inNumbers (sym (called-last (freshSession s.first) s.calls call));
+          ∙ ap in_numbers (sym (called-last (fresh_session s.first) s.calls call));
     }
 
 led-by : {w : Bai2Writer} {out : Bytes} → Reached w out → Led w out
-unfolding calledAll
+unfolding called_all
 led-by {w} {out} (new e) = record { first = out; calls = []; same = ap (λ (x : Bai2Writer). record { writer = x; output = out }) e }
 led-by (next {w} {before} {after} {a} r call h) = one_more w before after a call h (led-by r)
 
 -- ---- an accepted end of the file
 
 -- what the rules' call answers, from what C's answers
-module _ (s : Session) (a : Bai2Written) (after : Bytes) (h : replied a after ≡ replyTo (numbersOf s.writer) endFile s.output) (z : a.number ≡ 0) where
+module _ (s : Session) (a : Bai2Written) (after : Bytes) (h : replied a after ≡ reply_to (numbers_of s.writer) end_file s.output) (z : a.number ≡ 0) where
   abbrev end : Written
-  end = write s.writer endFile s.output
+  end = write s.writer end_file s.output
 
-  reply-is : replied a after ≡ replied (answer_of (numbersOf s.writer) end) end.output
-  unfolding replyTo
+  reply-is : replied a after ≡ replied (answer_of (numbers_of s.writer) end) end.output
+  unfolding reply_to
   reply-is = h ∙ rw (numbers-back s.writer)
 
-  answer-is : a ≡ answer_of (numbersOf s.writer) end
+  answer-is : a ≡ answer_of (numbers_of s.writer) end
   answer-is = ap (λ (r : Reply). r.answer) reply-is
 
   end-accepted : end.refusal.number ≡ 0
@@ -73,8 +73,8 @@ module _ (s : Session) (a : Bai2Written) (after : Bytes) (h : replied a after �
   file-is : written a after ≡ take end.len end.output
   file-is = ap (λ (r : Reply). written r.answer r.output) reply-is
 
-  own_is : a.writer.file ≡ figuresOf end.writer.file
-  unfolding numbersAfter
+  own_is : a.writer.file ≡ figures_of end.writer.file
+  unfolding numbers_after
   own_is = ap (λ (x : Bai2Written). x.writer.file) answer-is ∙ rw end-accepted
 
 -- ---- the reader's figures
@@ -83,10 +83,10 @@ minus_is : (p m : ℕ) → sub_ℕ p m ≡ pos p -ℤ pos m
 minus_is p zero = let e : p - 0 ≡ p + 0 = omega arith in rw (le-ltb p 0 (omega arith), e)
 minus_is p (suc m) = refl
 
-own-summary : (file : Bytes) (s : Summary) (read : Bai2Summary) → judge file ≡ fine s → readMeant read ≡ summaryFigures (judge file) → OwnSummary read (figuresOf s)
-unfolding summaryFigures
+own-summary : (file : Bytes) (s : Summary) (read : Bai2Summary) → judge file ≡ fine s → read_meant read ≡ summary_figures (judge file) → OwnSummary read (figures_of s)
+unfolding summary_figures
 own-summary file s read j e =
-    let f : readMeant read ≡ summaryFigures (fine s) = e ∙ ap summaryFigures j in
+    let f : read_meant read ≡ summary_figures (fine s) = e ∙ ap summary_figures j in
     record {
       number = ap (λ (x : SummaryFigures). x.refusal.number) f;
       place = ap (λ (x : SummaryFigures). x.refusal.place) f;
@@ -100,10 +100,10 @@ own-summary file s read j e =
 -- ---- the theorem
 
 session-reads-own : (first : Bytes) (calls : List Call) (a : Bai2Written) (after : Bytes)
-    → replied a after ≡ (let s = calledAll (freshSession first) calls in replyTo (numbersOf s.writer) endFile s.output) → a.number ≡ 0 → ReadsOwn a after
+    → replied a after ≡ (let s = called_all (fresh_session first) calls in reply_to (numbers_of s.writer) end_file s.output) → a.number ≡ 0 → ReadsOwn a after
 session-reads-own first calls a after h z =
-    let s = calledAll (freshSession first) calls in
-    let j : judge (written a after) ≡ fine (write s.writer endFile s.output).writer.file =
+    let s = called_all (fresh_session first) calls in
+    let j : judge (written a after) ≡ fine (write s.writer end_file s.output).writer.file =
     rw (file-is s a after h z) (reader-accepts calls first (end-accepted s a after h z)) in
     record {
       accepted = rw (own_is s a after h z) j;
@@ -114,4 +114,4 @@ session-reads-own first calls a after h z =
 pub c-reads-back : CReadsBack
 c-reads-back w before after a r h z =
     let s = led-by r in
-    session-reads-own s.first s.calls a after (h ∙ ap (λ (x : Sitting). replyTo x.writer endFile x.output) s.same) z
+    session-reads-own s.first s.calls a after (h ∙ ap (λ (x : Sitting). reply_to x.writer end_file x.output) s.same) z

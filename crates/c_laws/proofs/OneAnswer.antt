@@ -12,68 +12,68 @@ use Rattle.rules.specs.Bytes.{Bytes}
 use Rattle.rules.specs.Outcome.{Outcome, refused, fine, ◌>>=◌}
 use Rattle.rules.specs.Outcome as outcome
 use Rattle.rules.specs.Totals as totals
-use Rattle.rules.specs.Lines.{recordsOf}
+use Rattle.rules.specs.Lines.{records_of}
 use Rattle.rules.specs.Verdict.{start, run, judge}
-use Rattle.rules.specs.Parts.{headerIn, groupsIn, sizeOfAll}
-use Rattle.rules.specs.CodeList.{isStatus, isSummary, Entry, unlisted, NA, CR, DB, entry_of}
-use Rattle.rules.specs.Amounts.{Amount, empty, unsigned, withPlus, withMinus}
+use Rattle.rules.specs.Parts.{header_in, groups_in, size_of_all}
+use Rattle.rules.specs.CodeList.{is_status, is_summary, Entry, unlisted, NA, CR, DB, entry_of}
+use Rattle.rules.specs.Amounts.{Amount, empty, unsigned, with_plus, with_minus}
 use Rattle.rules.specs.Answers as rules
 use Rattle.rules.specs.Combine as combine
 use Rattle.rules.specs.Split.{split}
-use Rattle.rules.specs.Blocks.{blockLength, judgeBlocks, blocksToLines}
+use Rattle.rules.specs.Blocks.{block_length, judge_blocks, blocks_to_lines}
 use Rattle.rules.specs.Writer as writing
-use Rattle.rules.specs.HandedOut.{recordAt, RecordAnswer, recordAnswer, FieldsAnswer, fieldsOfRecord}
+use Rattle.rules.specs.HandedOut.{record_at, RecordAnswer, record_answer, FieldsAnswer, fields_of_record}
 use Rattle.laws.specs.LawWords.{Left}
 use Rattle.laws.proofs.OneAnswer.{one_answer}
 use Rattle.laws_handing.proofs.FieldsTold.{fields_told}
 use Rattle.base_codes.specs.declared.Code.{Code}
 use Rattle.base_codes.specs.declared.Code.TheVariants as codes
-use Rattle.base_quantities.specs.QuantityMeanings.{unitsOf}
+use Rattle.base_quantities.specs.QuantityMeanings.{units_of}
 use Rattle.name_codes.specs.declared.CodeClass.{CodeClass}
 use Rattle.name_codes.specs.declared.CodeClass.TheVariants as classes
-use Rattle.name_codes.specs.ClassMeaning.{classMeant}
+use Rattle.name_codes.specs.ClassMeaning.{class_meant}
 use Rattle.base_totals.specs.declared.Summary.{Summary}
 use Rattle.read_file.specs.declared.Verdict.{Verdict}
 use Rattle.read_file.specs.declared.Verdict.TheVariants.{Accepted, Refused}
 use Rattle.read_file.specs.declared.Judged.{Judged}
 use Rattle.read_file.specs.declared.Judged.TheVariants as judged
-use Rattle.base_totals.specs.SummaryMeaning.{summaryMeant}
-use Rattle.read_file.specs.FileMeanings.{verdictMeant}
-use Rattle.read_lines.specs.Cuts.{linesBy}
-use Rattle.read_file.specs.FileAnswers.{judgeBy, lastStart, JudgedBy, JudgedIs}
+use Rattle.base_totals.specs.SummaryMeaning.{summary_meant}
+use Rattle.read_file.specs.FileMeanings.{verdict_meant}
+use Rattle.read_lines.specs.Cuts.{lines_by}
+use Rattle.read_file.specs.FileAnswers.{judge_by, last_start, JudgedBy, JudgedIs}
 use Rattle.read_blocks.specs.declared.JudgedBlocks.{JudgedBlocks}
 use Rattle.read_blocks.specs.declared.JudgedBlocks.TheVariants as blocks
 use Rattle.read_blocks.specs.BlockAnswers.{BlocksAre}
 use Rattle.read_blocks.proofs.BlockLaws.{judged-cut}
 use Rattle.join_answer.specs.declared.Answer.{Answer}
-use Rattle.join_answer.specs.AnswerMeaning.{answerMeant}
+use Rattle.join_answer.specs.AnswerMeaning.{answer_meant}
 use Rattle.join_combine.specs.declared.Combined.{Combined}
-use Rattle.join_combine.specs.CombineAnswers.{combinedMeant}
+use Rattle.join_combine.specs.CombineAnswers.{combined_meant}
 use Rattle.part_groups.specs.declared.Part.{Part}
 use Rattle.base_refusals.specs.declared.Refusal.{Refusal}
-use Rattle.base_refusals.specs.RefusalMeaning.{refusalMeant}
+use Rattle.base_refusals.specs.RefusalMeaning.{refusal_meant}
 use Rattle.base_amounts.specs.declared.Amount as amounts
 use Rattle.base_amounts.specs.declared.Amount.TheVariants as forms
-use Rattle.base_amounts.specs.AmountsRead.{amountMeant}
+use Rattle.base_amounts.specs.AmountsRead.{amount_meant}
 use Rattle.find_item.specs.declared.ItemCount.{ItemCount}
 use Rattle.find_item.specs.declared.ItemCount.TheVariants as counts
-use Rattle.find_item.specs.ItemSearch.{countMeant}
+use Rattle.find_item.specs.ItemSearch.{count_meant}
 use Rattle.part_items.specs.declared.ItemAnswer.{ItemAnswer}
-use Rattle.part_items.specs.ItemMeaning.{itemMeant}
+use Rattle.part_items.specs.ItemMeaning.{item_meant}
 use Rattle.part_details.specs.declared.DetailAnswer.{DetailAnswer}
 use Rattle.part_groups.specs.PartMeaning as parts
 use Rattle.part_details.specs.DetailMeaning as details
 use Rattle.part_records.specs.declared.Found.{Found}
 use Rattle.part_records.specs.declared.Found.TheVariants as found
-use Rattle.part_records.specs.RecordsFound.{recordMeant, Finds}
+use Rattle.part_records.specs.RecordsFound.{record_meant, Finds}
 use Rattle.part_fields.specs.declared.Fields.{Fields}
 use Rattle.part_fields.specs.declared.Fields.TheVariants as fields
-use Rattle.part_fields.specs.FieldAnswers.{fieldsMeant}
+use Rattle.part_fields.specs.FieldAnswers.{fields_meant}
 use Rattle.write_state.specs.declared.Phase.{Phase}
 use Rattle.write_state.specs.declared.Phase.TheVariants as phases
 use Rattle.write_state.specs.declared.Writer.{Writer}
 use Rattle.write_state.specs.declared.Written.{Written}
-use Rattle.write_state.specs.WriterMeaning.{phaseMeant, writerMeant, writtenMeant}
+use Rattle.write_state.specs.WriterMeaning.{phase_meant, writer_meant, written_meant}
 use Rattle.c_items.specs.declared.Bai2Item.{Bai2Item}
 use Rattle.c_figures.specs.declared.Bai2Summary.{Bai2Summary}
 use Rattle.c_figures.specs.declared.Bai2Answer.{Bai2Answer}
@@ -85,32 +85,32 @@ use Rattle.c_reading.specs.declared.handing.Bai2Fields.{Bai2Fields}
 use Rattle.c_naming.specs.declared.Bai2Code.{Bai2Code}
 use Rattle.c_writer.specs.declared.Bai2Writer.{Bai2Writer}
 use Rattle.c_writer.specs.declared.Bai2Written.{Bai2Written}
-use Rattle.c_figures.specs.CFigures.{SummaryFigures, summaryFigures, readMeant, answerFigures}
-use Rattle.c_reading.specs.CAnswers.{partMeant, recordFigures, fieldsFigures}
-use Rattle.c_naming.specs.CNamed.{codeMeant}
-use Rattle.c_joining.specs.CJoined.{combineMeant}
-use Rattle.c_writer.specs.WriterFigures.{numbersOf, Reply, replied, replyTo}
+use Rattle.c_figures.specs.CFigures.{SummaryFigures, summary_figures, read_meant, answer_figures}
+use Rattle.c_reading.specs.CAnswers.{part_meant, record_figures, fields_figures}
+use Rattle.c_naming.specs.CNamed.{code_meant}
+use Rattle.c_joining.specs.CJoined.{combine_meant}
+use Rattle.c_writer.specs.WriterFigures.{numbers_of, Reply, replied, reply_to}
 
 -- the code's refusal that stands for one of the rules
-abbrev refusalFrom : outcome.Refusal → Refusal
-refusalFrom why = record { number = why.number; place = record { 0 = why.place } }
+abbrev refusal_from : outcome.Refusal → Refusal
+refusal_from why = record { number = why.number; place = record { 0 = why.place } }
 
 -- ---- reading
 
-abbrev summaryOf : totals.Summary → Summary
-summaryOf s = record { total = unitsOf s.sum; groups = record { 0 = s.groups }; accounts = record { 0 = s.accounts }; details = record { 0 = s.details }; records = record { 0 = s.records } }
+abbrev summary_of : totals.Summary → Summary
+summary_of s = record { total = units_of s.sum; groups = record { 0 = s.groups }; accounts = record { 0 = s.accounts }; details = record { 0 = s.details }; records = record { 0 = s.records } }
 
-abbrev verdictOf : Outcome totals.Summary → Verdict
-verdictOf (fine s) = Accepted (summaryOf s)
-verdictOf (refused why) = Refused (refusalFrom why)
+abbrev verdict_of : Outcome totals.Summary → Verdict
+verdict_of (fine s) = Accepted (summary_of s)
+verdict_of (refused why) = Refused (refusal_from why)
 
-same-verdict : (v : Verdict) → verdictOf (verdictMeant v) ≡ v
+same-verdict : (v : Verdict) → verdict_of (verdict_meant v) ≡ v
 same-verdict (Accepted s) = refl
 same-verdict (Refused why) = refl
 
 -- read_file::read
-pub read_one : (file : Bytes) (v w : Verdict) → verdictMeant v ≡ judge file → verdictMeant w ≡ judge file → v ≡ w
-read_one file = one_answer verdictMeant verdictOf same-verdict (judge file)
+pub read_one : (file : Bytes) (v w : Verdict) → verdict_meant v ≡ judge file → verdict_meant w ≡ judge file → v ≡ w
+read_one file = one_answer verdict_meant verdict_of same-verdict (judge file)
 
 -- what is known of an accepted file: its summary, its longest line, and where its 99 starts
 record Known : Type 0 where
@@ -118,49 +118,49 @@ record Known : Type 0 where
   limit : ℕ
   last : ℕ
 
-abbrev judgedMeant : Judged → Outcome Known
-judgedMeant (judged.Accepted g) = fine (record { summary = summaryMeant g.summary; limit = g.limit; last = g.last.0 })
-judgedMeant (judged.Refused why) = refused (refusalMeant why)
+abbrev judged_meant : Judged → Outcome Known
+judged_meant (judged.Accepted g) = fine (record { summary = summary_meant g.summary; limit = g.limit; last = g.last.0 })
+judged_meant (judged.Refused why) = refused (refusal_meant why)
 
-abbrev judgedOf : Outcome Known → Judged
-judgedOf (fine k) = judged.Accepted (record { summary = summaryOf k.summary; limit = k.limit; last = record { 0 = k.last } })
-judgedOf (refused why) = judged.Refused (refusalFrom why)
+abbrev judged_of : Outcome Known → Judged
+judged_of (fine k) = judged.Accepted (record { summary = summary_of k.summary; limit = k.limit; last = record { 0 = k.last } })
+judged_of (refused why) = judged.Refused (refusal_from why)
 
-same-judged : (v : Judged) → judgedOf (judgedMeant v) ≡ v
+same-judged : (v : Judged) → judged_of (judged_meant v) ≡ v
 same-judged (judged.Accepted g) = refl
 same-judged (judged.Refused why) = refl
 
 abbrev known : Bytes → Outcome Known
 known file =
     judge file
-    >>= λ s. fine (record { summary = s; limit = combine.limitOf (headerIn file); last = sizeOfAll (headerIn file ++ combine.concat (groupsIn file)) })
+    >>= λ s. fine (record { summary = s; limit = combine.limit_of (header_in file); last = size_of_all (header_in file ++ combine.concat (groups_in file)) })
 
-judged-says : (file : Bytes) (v : Judged) → JudgedIs v file → judgedMeant v ≡ known file
+judged-says : (file : Bytes) (v : Judged) → JudgedIs v file → judged_meant v ≡ known file
 judged-says file (judged.Accepted g) good = rw (good.accepts, good.limit, good.last)
 judged-says file (judged.Refused why) e = rw e
 
 -- read_file::judge_file
 pub judged-one : (file : Bytes) (v w : Judged) → JudgedIs v file → JudgedIs w file → v ≡ w
-judged-one file v w x y = one_answer judgedMeant judgedOf same-judged (known file) v w (judged-says file v x) (judged-says file w y)
+judged-one file v w x y = one_answer judged_meant judged_of same-judged (known file) v w (judged-says file v x) (judged-says file w y)
 
 -- the same by either cut; read_file::judge_lines
 abbrev known_by : ℕ → Bytes → Outcome Known
 known_by cut file =
-    judgeBy cut file
-    >>= λ s. run 0 start (recordsOf (linesBy cut file))
-    >>= λ t. fine (record { summary = s; limit = t.limit; last = lastStart 0 0 (recordsOf (linesBy cut file)) })
+    judge_by cut file
+    >>= λ s. run 0 start (records_of (lines_by cut file))
+    >>= λ t. fine (record { summary = s; limit = t.limit; last = last_start 0 0 (records_of (lines_by cut file)) })
 
-judged-by-says : (cut : ℕ) (file : Bytes) (v : Judged) → JudgedBy v cut file → judgedMeant v ≡ known_by cut file
+judged-by-says : (cut : ℕ) (file : Bytes) (v : Judged) → JudgedBy v cut file → judged_meant v ≡ known_by cut file
 judged-by-says cut file (judged.Accepted g) good = rw (good.accepts, good.runs, good.limit, good.last)
 judged-by-says cut file (judged.Refused why) e = rw e
 
 pub judged-by-one : (cut : ℕ) (file : Bytes) (v w : Judged) → JudgedBy v cut file → JudgedBy w cut file → v ≡ w
-judged-by-one cut file v w x y = one_answer judgedMeant judgedOf same-judged (known_by cut file) v w (judged-by-says cut file v x) (judged-by-says cut file w y)
+judged-by-one cut file v w x y = one_answer judged_meant judged_of same-judged (known_by cut file) v w (judged-by-says cut file v x) (judged-by-says cut file w y)
 
 -- a verdict's figures
-c-verdict-one : (o : Outcome totals.Summary) (r s : Bai2Summary) → readMeant r ≡ summaryFigures o → readMeant s ≡ summaryFigures o → r ≡ s
+c-verdict-one : (o : Outcome totals.Summary) (r s : Bai2Summary) → read_meant r ≡ summary_figures o → read_meant s ≡ summary_figures o → r ≡ s
 c-verdict-one o =
-    one_answer readMeant
+    one_answer read_meant
     (λ (m : SummaryFigures). record {
       number = m.refusal.number;
       place = m.refusal.place;
@@ -170,35 +170,35 @@ c-verdict-one o =
       details = m.details;
       records = m.records;
     })
-    (λ r. refl) (summaryFigures o)
+    (λ r. refl) (summary_figures o)
 
 -- bai2_read
-pub c-read-one : (file : Bytes) (r s : Bai2Summary) → readMeant r ≡ summaryFigures (judge file) → readMeant s ≡ summaryFigures (judge file) → r ≡ s
+pub c-read-one : (file : Bytes) (r s : Bai2Summary) → read_meant r ≡ summary_figures (judge file) → read_meant s ≡ summary_figures (judge file) → r ≡ s
 c-read-one file = c-verdict-one (judge file)
 
 -- ---- splitting
 
 -- an answer of the code, and of C, with what the output slice holds
-file-one : (m : combine.Answer) (x y : Left Answer) → answerMeant x.answer x.slice ≡ m → answerMeant y.answer y.slice ≡ m → x ≡ y
+file-one : (m : combine.Answer) (x y : Left Answer) → answer_meant x.answer x.slice ≡ m → answer_meant y.answer y.slice ≡ m → x ≡ y
 file-one m =
-    one_answer (λ (x : Left Answer). answerMeant x.answer x.slice)
-    (λ (a : combine.Answer). record { answer = record { refusal = refusalFrom a.refusal; length = a.len }; slice = a.output })
+    one_answer (λ (x : Left Answer). answer_meant x.answer x.slice)
+    (λ (a : combine.Answer). record { answer = record { refusal = refusal_from a.refusal; length = a.len }; slice = a.output })
     (λ x. refl) m
 
-c-file-one : (m : combine.Answer) (x y : Left Bai2Answer) → answerFigures x.answer x.slice ≡ m → answerFigures y.answer y.slice ≡ m → x ≡ y
+c-file-one : (m : combine.Answer) (x y : Left Bai2Answer) → answer_figures x.answer x.slice ≡ m → answer_figures y.answer y.slice ≡ m → x ≡ y
 c-file-one m =
-    one_answer (λ (x : Left Bai2Answer). answerFigures x.answer x.slice)
+    one_answer (λ (x : Left Bai2Answer). answer_figures x.answer x.slice)
     (λ (a : combine.Answer). record { answer = record { number = a.refusal.number; place = a.refusal.place; length = a.len }; slice = a.output })
     (λ x. refl) m
 
 -- join_split::split
 pub split_one : (name file before : Bytes) (x y : Left Answer)
-    → answerMeant x.answer x.slice ≡ split name file before → answerMeant y.answer y.slice ≡ split name file before → x ≡ y
+    → answer_meant x.answer x.slice ≡ split name file before → answer_meant y.answer y.slice ≡ split name file before → x ≡ y
 split_one name file before = file-one (split name file before)
 
 -- bai2_split
 pub c-split-one : (name file before : Bytes) (x y : Left Bai2Answer)
-    → answerFigures x.answer x.slice ≡ split name file before → answerFigures y.answer y.slice ≡ split name file before → x ≡ y
+    → answer_figures x.answer x.slice ≡ split name file before → answer_figures y.answer y.slice ≡ split name file before → x ≡ y
 c-split-one name file before = c-file-one (split name file before)
 
 -- ---- blocks
@@ -208,62 +208,62 @@ record KnownBlocks : Type 0 where
   summary : totals.Summary
   size : ℕ
 
-abbrev blocksMeant : JudgedBlocks → Outcome KnownBlocks
-blocksMeant (blocks.Accepted s n) = fine (record { summary = summaryMeant s; size = n })
-blocksMeant (blocks.Refused why) = refused (refusalMeant why)
+abbrev blocks_meant : JudgedBlocks → Outcome KnownBlocks
+blocks_meant (blocks.Accepted s n) = fine (record { summary = summary_meant s; size = n })
+blocks_meant (blocks.Refused why) = refused (refusal_meant why)
 
 abbrev blocks_from : Outcome KnownBlocks → JudgedBlocks
-blocks_from (fine k) = blocks.Accepted (summaryOf k.summary) k.size
-blocks_from (refused why) = blocks.Refused (refusalFrom why)
+blocks_from (fine k) = blocks.Accepted (summary_of k.summary) k.size
+blocks_from (refused why) = blocks.Refused (refusal_from why)
 
-same_blocks : (v : JudgedBlocks) → blocks_from (blocksMeant v) ≡ v
+same_blocks : (v : JudgedBlocks) → blocks_from (blocks_meant v) ≡ v
 same_blocks (blocks.Accepted s n) = refl
 same_blocks (blocks.Refused why) = refl
 
-abbrev knownBlocks : Bytes → Outcome KnownBlocks
-knownBlocks file = judgeBlocks file >>= λ s. blockLength file >>= λ n. fine (record { summary = s; size = n })
+abbrev known_blocks : Bytes → Outcome KnownBlocks
+known_blocks file = judge_blocks file >>= λ s. block_length file >>= λ n. fine (record { summary = s; size = n })
 
-blocks-say : (file : Bytes) (v : JudgedBlocks) → BlocksAre v file → blocksMeant v ≡ knownBlocks file
+blocks-say : (file : Bytes) (v : JudgedBlocks) → BlocksAre v file → blocks_meant v ≡ known_blocks file
 blocks-say file (blocks.Accepted s n) (good, accepts) = rw (judged-cut file _ good.cuts ∙ accepts, good.given)
 blocks-say file (blocks.Refused why) e = rw e
 
 -- read_blocks::judge_blocks
 pub judged-blocks-one : (file : Bytes) (v w : JudgedBlocks) → BlocksAre v file → BlocksAre w file → v ≡ w
-judged-blocks-one file v w x y = one_answer blocksMeant blocks_from same_blocks (knownBlocks file) v w (blocks-say file v x) (blocks-say file w y)
+judged-blocks-one file v w x y = one_answer blocks_meant blocks_from same_blocks (known_blocks file) v w (blocks-say file v x) (blocks-say file w y)
 
 -- read_blocks::read_blocks
-pub read-blocks-one : (file : Bytes) (v w : Verdict) → verdictMeant v ≡ judgeBlocks file → verdictMeant w ≡ judgeBlocks file → v ≡ w
-read-blocks-one file = one_answer verdictMeant verdictOf same-verdict (judgeBlocks file)
+pub read-blocks-one : (file : Bytes) (v w : Verdict) → verdict_meant v ≡ judge_blocks file → verdict_meant w ≡ judge_blocks file → v ≡ w
+read-blocks-one file = one_answer verdict_meant verdict_of same-verdict (judge_blocks file)
 
 -- join_lines::blocks_to_lines
 pub lines-one : (file before : Bytes) (x y : Left Answer)
-    → answerMeant x.answer x.slice ≡ blocksToLines file before → answerMeant y.answer y.slice ≡ blocksToLines file before → x ≡ y
-lines-one file before = file-one (blocksToLines file before)
+    → answer_meant x.answer x.slice ≡ blocks_to_lines file before → answer_meant y.answer y.slice ≡ blocks_to_lines file before → x ≡ y
+lines-one file before = file-one (blocks_to_lines file before)
 
 -- bai2_read_blocks
-pub c-read-blocks-one : (file : Bytes) (r s : Bai2Summary) → readMeant r ≡ summaryFigures (judgeBlocks file) → readMeant s ≡ summaryFigures (judgeBlocks file) → r ≡ s
-c-read-blocks-one file = c-verdict-one (judgeBlocks file)
+pub c-read-blocks-one : (file : Bytes) (r s : Bai2Summary) → read_meant r ≡ summary_figures (judge_blocks file) → read_meant s ≡ summary_figures (judge_blocks file) → r ≡ s
+c-read-blocks-one file = c-verdict-one (judge_blocks file)
 
 -- bai2_blocks_to_lines
 pub c-lines-one : (file before : Bytes) (x y : Left Bai2Answer)
-    → answerFigures x.answer x.slice ≡ blocksToLines file before → answerFigures y.answer y.slice ≡ blocksToLines file before → x ≡ y
-c-lines-one file before = c-file-one (blocksToLines file before)
+    → answer_figures x.answer x.slice ≡ blocks_to_lines file before → answer_figures y.answer y.slice ≡ blocks_to_lines file before → x ≡ y
+c-lines-one file before = c-file-one (blocks_to_lines file before)
 
 -- ---- combining
 
 -- join_combine::combine
 pub combine-one : (a b before : Bytes) (x y : Left Combined)
-    → combinedMeant x.answer x.slice ≡ combine.combine a b before → combinedMeant y.answer y.slice ≡ combine.combine a b before → x ≡ y
+    → combined_meant x.answer x.slice ≡ combine.combine a b before → combined_meant y.answer y.slice ≡ combine.combine a b before → x ≡ y
 combine-one a b before =
-    one_answer (λ (x : Left Combined). combinedMeant x.answer x.slice)
-    (λ (m : combine.Answer). record { answer = record { refusal = refusalFrom m.refusal; length = m.len; file = m.which }; slice = m.output })
+    one_answer (λ (x : Left Combined). combined_meant x.answer x.slice)
+    (λ (m : combine.Answer). record { answer = record { refusal = refusal_from m.refusal; length = m.len; file = m.which }; slice = m.output })
     (λ x. refl) (combine.combine a b before)
 
 -- bai2_combine
 pub c-combine-one : (a b before : Bytes) (x y : Left Bai2Combined)
-    → combineMeant x.answer x.slice ≡ combine.combine a b before → combineMeant y.answer y.slice ≡ combine.combine a b before → x ≡ y
+    → combine_meant x.answer x.slice ≡ combine.combine a b before → combine_meant y.answer y.slice ≡ combine.combine a b before → x ≡ y
 c-combine-one a b before =
-    one_answer (λ (x : Left Bai2Combined). combineMeant x.answer x.slice)
+    one_answer (λ (x : Left Bai2Combined). combine_meant x.answer x.slice)
     (λ (m : combine.Answer). record { answer = record { number = m.refusal.number; place = m.refusal.place; length = m.len; file = m.which }; slice = m.output })
     (λ x. refl) (combine.combine a b before)
 
@@ -274,49 +274,49 @@ pub slice-one : (promised x y : Bytes) → x ≡ promised → y ≡ promised →
 slice-one = one_answer (λ (x : Bytes). x) (λ (x : Bytes). x) (λ x. refl)
 
 -- part_groups::find_group, find_account, find_detail
-pub part-one : (promised : rules.PartAnswer) (x y : Part) → parts.partMeant x ≡ promised → parts.partMeant y ≡ promised → x ≡ y
+pub part-one : (promised : rules.PartAnswer) (x y : Part) → parts.part_meant x ≡ promised → parts.part_meant y ≡ promised → x ≡ y
 part-one =
-    one_answer parts.partMeant (λ (m : rules.PartAnswer). record { refusal = refusalFrom m.refusal; start = record { 0 = m.start }; length = m.len })
+    one_answer parts.part_meant (λ (m : rules.PartAnswer). record { refusal = refusal_from m.refusal; start = record { 0 = m.start }; length = m.len })
     (λ x. refl)
 
 -- bai2_group, bai2_account
-pub c-part-one : (promised : rules.PartAnswer) (x y : Bai2Part) → partMeant x ≡ promised → partMeant y ≡ promised → x ≡ y
+pub c-part-one : (promised : rules.PartAnswer) (x y : Bai2Part) → part_meant x ≡ promised → part_meant y ≡ promised → x ≡ y
 c-part-one =
-    one_answer partMeant (λ (m : rules.PartAnswer). record { number = m.refusal.number; place = m.refusal.place; start = m.start; length = m.len })
+    one_answer part_meant (λ (m : rules.PartAnswer). record { number = m.refusal.number; place = m.refusal.place; start = m.start; length = m.len })
     (λ x. refl)
 
 -- part_groups::group_refusal, account_refusal
-pub refusal-one : (promised : outcome.Refusal) (x y : Refusal) → refusalMeant x ≡ promised → refusalMeant y ≡ promised → x ≡ y
-refusal-one = one_answer refusalMeant refusalFrom (λ x. refl)
+pub refusal-one : (promised : outcome.Refusal) (x y : Refusal) → refusal_meant x ≡ promised → refusal_meant y ≡ promised → x ≡ y
+refusal-one = one_answer refusal_meant refusal_from (λ x. refl)
 
 -- an amount of the code from its meaning
-abbrev amountFrom : Amount → amounts.Amount
-amountFrom empty = forms.Empty
-amountFrom (unsigned n) = forms.Unsigned (record { 0 = n })
-amountFrom (withPlus n) = forms.WithPlus (record { 0 = n })
-amountFrom (withMinus n) = forms.WithMinus (record { 0 = n })
+abbrev amount_from : Amount → amounts.Amount
+amount_from empty = forms.Empty
+amount_from (unsigned n) = forms.Unsigned (record { 0 = n })
+amount_from (with_plus n) = forms.WithPlus (record { 0 = n })
+amount_from (with_minus n) = forms.WithMinus (record { 0 = n })
 
-same-amount : (a : amounts.Amount) → amountFrom (amountMeant a) ≡ a
+same-amount : (a : amounts.Amount) → amount_from (amount_meant a) ≡ a
 same-amount forms.Empty = refl
 same-amount (forms.Unsigned n) = refl
 same-amount (forms.WithPlus n) = refl
 same-amount (forms.WithMinus n) = refl
 
 -- base_amounts::amount_in
-pub amount-one : (promised : Amount) (x y : amounts.Amount) → amountMeant x ≡ promised → amountMeant y ≡ promised → x ≡ y
-amount-one = one_answer amountMeant amountFrom same-amount
+pub amount-one : (promised : Amount) (x y : amounts.Amount) → amount_meant x ≡ promised → amount_meant y ≡ promised → x ≡ y
+amount-one = one_answer amount_meant amount_from same-amount
 
-abbrev detailFrom : rules.DetailAnswer → DetailAnswer
-detailFrom m =
+abbrev detail_from : rules.DetailAnswer → DetailAnswer
+detail_from m =
     record {
-      refusal = refusalFrom m.refusal;
+      refusal = refusal_from m.refusal;
       type_code = m.type;
-      amount = amountFrom m.amount;
-      text_start = record { 0 = m.textStart };
-      text_length = m.textLength;
+      amount = amount_from m.amount;
+      text_start = record { 0 = m.text_start };
+      text_length = m.text_length;
     }
 
-same-detail : (d : DetailAnswer) → detailFrom (details.detailMeant d) ≡ d
+same-detail : (d : DetailAnswer) → detail_from (details.detail_meant d) ≡ d
 same-detail d =
     ap
     (λ (a : amounts.Amount). record {
@@ -329,8 +329,8 @@ same-detail d =
     (same-amount d.amount)
 
 -- part_details::detail
-pub detail-one : (promised : rules.DetailAnswer) (x y : DetailAnswer) → details.detailMeant x ≡ promised → details.detailMeant y ≡ promised → x ≡ y
-detail-one = one_answer details.detailMeant detailFrom same-detail
+pub detail-one : (promised : rules.DetailAnswer) (x y : DetailAnswer) → details.detail_meant x ≡ promised → details.detail_meant y ≡ promised → x ≡ y
+detail-one = one_answer details.detail_meant detail_from same-detail
 
 -- bai2_detail_of: the figures are promised themselves
 pub c-detail-one : (promised x y : Bai2Detail) → x ≡ promised → y ≡ promised → x ≡ y
@@ -338,24 +338,24 @@ c-detail-one = one_answer (λ (x : Bai2Detail). x) (λ (x : Bai2Detail). x) (λ 
 
 -- ---- items
 
-abbrev countFrom : Option ℕ → ItemCount
-countFrom none = counts.NoCount
-countFrom (some n) = counts.Given (record { 0 = n })
+abbrev count_from : Option ℕ → ItemCount
+count_from none = counts.NoCount
+count_from (some n) = counts.Given (record { 0 = n })
 
-same_count : (c : ItemCount) → countFrom (countMeant c) ≡ c
+same_count : (c : ItemCount) → count_from (count_meant c) ≡ c
 same_count counts.NoCount = refl
 same_count (counts.Given n) = refl
 
-abbrev itemFrom : rules.ItemAnswer → ItemAnswer
-itemFrom m = record { refusal = refusalFrom m.refusal; type_code = m.type; amount = amountFrom m.amount; count = countFrom m.count }
+abbrev item_from : rules.ItemAnswer → ItemAnswer
+item_from m = record { refusal = refusal_from m.refusal; type_code = m.type; amount = amount_from m.amount; count = count_from m.count }
 
-same_item : (i : ItemAnswer) → itemFrom (itemMeant i) ≡ i
+same_item : (i : ItemAnswer) → item_from (item_meant i) ≡ i
 same_item i =
     ap₂ (λ (a : amounts.Amount) (c : ItemCount). record { refusal = i.refusal; type_code = i.type_code; amount = a; count = c }) (same-amount i.amount) (same_count i.count)
 
 -- part_items::item
-pub item-one : (promised : rules.ItemAnswer) (x y : ItemAnswer) → itemMeant x ≡ promised → itemMeant y ≡ promised → x ≡ y
-item-one = one_answer itemMeant itemFrom same_item
+pub item-one : (promised : rules.ItemAnswer) (x y : ItemAnswer) → item_meant x ≡ promised → item_meant y ≡ promised → x ≡ y
+item-one = one_answer item_meant item_from same_item
 
 -- bai2_item_of: the figures are promised themselves
 pub c-item-one : (promised x y : Bai2Item) → x ≡ promised → y ≡ promised → x ≡ y
@@ -364,8 +364,8 @@ c-item-one = one_answer (λ (x : Bai2Item). x) (λ (x : Bai2Item). x) (λ x. ref
 -- ---- records and fields
 
 -- the code of this number
-abbrev codeFrom : ℕ → Code
-codeFrom n =
+abbrev code_from : ℕ → Code
+code_from n =
     cond (eqb n 1) codes.FileHeader
     (cond (eqb n 2) codes.GroupHeader
     (cond (eqb n 3) codes.AccountHeader
@@ -374,9 +374,9 @@ codeFrom n =
 
 -- no code has the number 0
 abbrev found_from : RecordAnswer → Found
-found_from m = cond (eqb m.code 0) (found.Refused (refusalFrom m.refusal)) (found.Record (codeFrom m.code) (record { 0 = m.lines }) m.len)
+found_from m = cond (eqb m.code 0) (found.Refused (refusal_from m.refusal)) (found.Record (code_from m.code) (record { 0 = m.lines }) m.len)
 
-same-found : (x : Found) → found_from (recordMeant x) ≡ x
+same-found : (x : Found) → found_from (record_meant x) ≡ x
 same-found (found.Refused why) = refl
 same-found (found.Record codes.FileHeader n size) = refl
 same-found (found.Record codes.GroupHeader n size) = refl
@@ -389,56 +389,56 @@ same-found (found.Record codes.Continuation n size) = refl
 
 -- part_records::record_at
 pub record-one : (file : Bytes) (start : ℕ) (x y : Found) → Finds file start x → Finds file start y → x ≡ y
-record-one file start x y p q = one_answer recordMeant found_from same-found (recordAnswer (recordAt file start)) x y p.answer q.answer
+record-one file start x y p q = one_answer record_meant found_from same-found (record_answer (record_at file start)) x y p.answer q.answer
 
 -- bai2_record_at
 pub c-record-one : (file : Bytes) (start : ℕ) (x y : Bai2Record)
-    → recordFigures x ≡ recordAnswer (recordAt file start) → recordFigures y ≡ recordAnswer (recordAt file start) → x ≡ y
+    → record_figures x ≡ record_answer (record_at file start) → record_figures y ≡ record_answer (record_at file start) → x ≡ y
 c-record-one file start =
-    one_answer recordFigures
+    one_answer record_figures
     (λ (m : RecordAnswer). record { number = m.refusal.number; place = m.refusal.place; code = m.code; lines = m.lines; length = m.len })
-    (λ x. refl) (recordAnswer (recordAt file start))
+    (λ x. refl) (record_answer (record_at file start))
 
-abbrev fieldsFrom : FieldsAnswer → Left Fields
-fieldsFrom m = record { answer = cond (eqb m.count 0) (fields.Refused (refusalFrom m.refusal)) (fields.Given (record { 0 = m.count })); slice = m.out }
+abbrev fields_from : FieldsAnswer → Left Fields
+fields_from m = record { answer = cond (eqb m.count 0) (fields.Refused (refusal_from m.refusal)) (fields.Given (record { 0 = m.count })); slice = m.out }
 
 -- its number tells whether it is refused
 abbrev Told : FieldsAnswer → Type 0
 Told m = m.refusal.number ≡ 0 → 1 ≤ m.count
 
-given_back : (n : ℕ) (out : List ℕ) → 1 ≤ n → ◌≡◌ {A = Left Fields} (fieldsFrom (fieldsMeant (fields.Given (record { 0 = n })) out)) (record { answer = fields.Given (record { 0 = n }); slice = out })
+given_back : (n : ℕ) (out : List ℕ) → 1 ≤ n → ◌≡◌ {A = Left Fields} (fields_from (fields_meant (fields.Given (record { 0 = n })) out)) (record { answer = fields.Given (record { 0 = n }); slice = out })
 given_back n out h =
     let some : eqb n 0 ≡ false = ne_eqb n 0 (λ e. omega arith) in
     rw some
 
-same-fields : (r : Fields) (out : List ℕ) → Told (fieldsMeant r out) → ◌≡◌ {A = Left Fields} (fieldsFrom (fieldsMeant r out)) (record { answer = r; slice = out })
+same-fields : (r : Fields) (out : List ℕ) → Told (fields_meant r out) → ◌≡◌ {A = Left Fields} (fields_from (fields_meant r out)) (record { answer = r; slice = out })
 same-fields (fields.Refused why) out t = refl
 same-fields (fields.Given n) out t = given_back n.0 out (t refl)
 
 -- part_fields::fields_at
 pub fields-one : (file : Bytes) (start : ℕ) (before : List ℕ) (x y : Left Fields)
-    → fieldsMeant x.answer x.slice ≡ fieldsOfRecord file start before → fieldsMeant y.answer y.slice ≡ fieldsOfRecord file start before → x ≡ y
+    → fields_meant x.answer x.slice ≡ fields_of_record file start before → fields_meant y.answer y.slice ≡ fields_of_record file start before → x ≡ y
 fields-one file start before x y p q =
     let told = fields_told file start before in
-    sym (same-fields x.answer x.slice (subst Told (sym p) told)) ∙ ap fieldsFrom (p ∙ sym q) ∙ same-fields y.answer y.slice (subst Told (sym q) told)
+    sym (same-fields x.answer x.slice (subst Told (sym p) told)) ∙ ap fields_from (p ∙ sym q) ∙ same-fields y.answer y.slice (subst Told (sym q) told)
 
 -- bai2_fields_at
 pub c-fields-one : (file : Bytes) (start : ℕ) (before : List ℕ) (x y : Left Bai2Fields)
-    → fieldsFigures x.answer x.slice ≡ fieldsOfRecord file start before → fieldsFigures y.answer y.slice ≡ fieldsOfRecord file start before → x ≡ y
+    → fields_figures x.answer x.slice ≡ fields_of_record file start before → fields_figures y.answer y.slice ≡ fields_of_record file start before → x ≡ y
 c-fields-one file start before =
-    one_answer (λ (x : Left Bai2Fields). fieldsFigures x.answer x.slice)
+    one_answer (λ (x : Left Bai2Fields). fields_figures x.answer x.slice)
     (λ (m : FieldsAnswer). record { answer = record { number = m.refusal.number; place = m.refusal.place; count = m.count }; slice = m.out })
-    (λ x. refl) (fieldsOfRecord file start before)
+    (λ x. refl) (fields_of_record file start before)
 
 -- ---- type codes
 
-abbrev classFrom : Entry → CodeClass
-classFrom unlisted = classes.Unlisted
-classFrom (NA l) = cond (isStatus l) classes.Status classes.NonMonetary
-classFrom (CR l) = cond (isSummary l) classes.CreditSummary classes.CreditDetail
-classFrom (DB l) = cond (isSummary l) classes.DebitSummary classes.DebitDetail
+abbrev class_from : Entry → CodeClass
+class_from unlisted = classes.Unlisted
+class_from (NA l) = cond (is_status l) classes.Status classes.NonMonetary
+class_from (CR l) = cond (is_summary l) classes.CreditSummary classes.CreditDetail
+class_from (DB l) = cond (is_summary l) classes.DebitSummary classes.DebitDetail
 
-same_class : (x : CodeClass) → classFrom (classMeant x) ≡ x
+same_class : (x : CodeClass) → class_from (class_meant x) ≡ x
 same_class classes.Unlisted = refl
 same_class classes.Status = refl
 same_class classes.CreditSummary = refl
@@ -448,27 +448,27 @@ same_class classes.DebitDetail = refl
 same_class classes.NonMonetary = refl
 
 -- name_codes::code_class
-pub class-one : (code : ℕ) (x y : CodeClass) → classMeant x ≡ entry_of code → classMeant y ≡ entry_of code → x ≡ y
-class-one code = one_answer classMeant classFrom same_class (entry_of code)
+pub class-one : (code : ℕ) (x y : CodeClass) → class_meant x ≡ entry_of code → class_meant y ≡ entry_of code → x ≡ y
+class-one code = one_answer class_meant class_from same_class (entry_of code)
 
 -- bai2_code_of
-pub c-code-one : (code : ℕ) (x y : Bai2Code) → codeMeant x ≡ rules.codeAnswer code → codeMeant y ≡ rules.codeAnswer code → x ≡ y
+pub c-code-one : (code : ℕ) (x y : Bai2Code) → code_meant x ≡ rules.code_answer code → code_meant y ≡ rules.code_answer code → x ≡ y
 c-code-one code =
-    one_answer codeMeant
+    one_answer code_meant
     (λ (m : rules.CodeAnswer). record { listed = m.listed; status = m.status; summary = m.summary; detail = m.detail; side = m.side })
-    (λ x. refl) (rules.codeAnswer code)
+    (λ x. refl) (rules.code_answer code)
 
 -- ---- writing
 
-abbrev phaseOf : writing.Phase → Phase
-phaseOf writing.fresh = phases.Fresh
-phaseOf writing.betweenGroups = phases.BetweenGroups
-phaseOf writing.inGroup = phases.InGroup
-phaseOf writing.betweenAccounts = phases.BetweenAccounts
-phaseOf writing.inAccount = phases.InAccount
-phaseOf writing.finished = phases.Finished
+abbrev phase_of : writing.Phase → Phase
+phase_of writing.fresh = phases.Fresh
+phase_of writing.between_groups = phases.BetweenGroups
+phase_of writing.in_group = phases.InGroup
+phase_of writing.between_accounts = phases.BetweenAccounts
+phase_of writing.in_account = phases.InAccount
+phase_of writing.finished = phases.Finished
 
-same-phase : (p : Phase) → phaseOf (phaseMeant p) ≡ p
+same-phase : (p : Phase) → phase_of (phase_meant p) ≡ p
 same-phase phases.Fresh = refl
 same-phase phases.BetweenGroups = refl
 same-phase phases.InGroup = refl
@@ -479,44 +479,44 @@ same-phase phases.Finished = refl
 abbrev writer_of : writing.Writer → Writer
 writer_of w =
     record {
-      phase = phaseOf w.phase;
+      phase = phase_of w.phase;
       items = w.items;
       size = record { 0 = w.size };
-      file = summaryOf w.file;
-      group = summaryOf w.group;
-      account = summaryOf w.account;
+      file = summary_of w.file;
+      group = summary_of w.group;
+      account = summary_of w.account;
     }
 
-same_writer : (w : Writer) → writer_of (writerMeant w) ≡ w
+same_writer : (w : Writer) → writer_of (writer_meant w) ≡ w
 same_writer w =
     ap (λ (p : Phase). record { phase = p; items = w.items; size = w.size; file = w.file; group = w.group; account = w.account }) (same-phase w.phase)
 
 -- write_state::Writer::new
-pub new-one : (v w : Writer) → writerMeant v ≡ writing.freshWriter → writerMeant w ≡ writing.freshWriter → v ≡ w
-new-one = one_answer writerMeant writer_of same_writer writing.freshWriter
+pub new-one : (v w : Writer) → writer_meant v ≡ writing.fresh_writer → writer_meant w ≡ writing.fresh_writer → v ≡ w
+new-one = one_answer writer_meant writer_of same_writer writing.fresh_writer
 
 same-written : (x : Left Written)
     → ◌≡◌ {A = Left Written}
-    (record { answer = record { refusal = x.answer.refusal; length = x.answer.length; writer = writer_of (writerMeant x.answer.writer) }; slice = x.slice }) x
+    (record { answer = record { refusal = x.answer.refusal; length = x.answer.length; writer = writer_of (writer_meant x.answer.writer) }; slice = x.slice }) x
 same-written x =
     ap (λ (w : Writer). record { answer = record { refusal = x.answer.refusal; length = x.answer.length; writer = w }; slice = x.slice })
     (same_writer x.answer.writer)
 
 -- write_calls::header, group, account, item, detail, write_ends::end_account, end_group, end_file: each call on each state
 pub write-one : (w : writing.Writer) (call : writing.Call) (before : Bytes) (x y : Left Written)
-    → writtenMeant x.answer x.slice ≡ writing.write w call before → writtenMeant y.answer y.slice ≡ writing.write w call before → x ≡ y
+    → written_meant x.answer x.slice ≡ writing.write w call before → written_meant y.answer y.slice ≡ writing.write w call before → x ≡ y
 write-one w call before =
-    one_answer (λ (x : Left Written). writtenMeant x.answer x.slice)
-    (λ (m : writing.Written). record { answer = record { refusal = refusalFrom m.refusal; length = m.len; writer = writer_of m.writer }; slice = m.output })
+    one_answer (λ (x : Left Written). written_meant x.answer x.slice)
+    (λ (m : writing.Written). record { answer = record { refusal = refusal_from m.refusal; length = m.len; writer = writer_of m.writer }; slice = m.output })
     same-written (writing.write w call before)
 
 -- bai2_writer_new
-pub c-new-one : (v w : Bai2Writer) → v ≡ numbersOf writing.freshWriter → w ≡ numbersOf writing.freshWriter → v ≡ w
-c-new-one = one_answer (λ (w : Bai2Writer). w) (λ (w : Bai2Writer). w) (λ w. refl) (numbersOf writing.freshWriter)
+pub c-new-one : (v w : Bai2Writer) → v ≡ numbers_of writing.fresh_writer → w ≡ numbers_of writing.fresh_writer → v ≡ w
+c-new-one = one_answer (λ (w : Bai2Writer). w) (λ (w : Bai2Writer). w) (λ w. refl) (numbers_of writing.fresh_writer)
 
 -- bai2_write_header, .._group, .._account, .._item, .._detail, .._end_account, .._end_group, .._end_file: each call on any numbers
 pub c-write-one : (given : Bai2Writer) (call : writing.Call) (before : Bytes) (x y : Left Bai2Written)
-    → replied x.answer x.slice ≡ replyTo given call before → replied y.answer y.slice ≡ replyTo given call before → x ≡ y
+    → replied x.answer x.slice ≡ reply_to given call before → replied y.answer y.slice ≡ reply_to given call before → x ≡ y
 c-write-one given call before =
     one_answer (λ (x : Left Bai2Written). replied x.answer x.slice) (λ (m : Reply). record { answer = m.answer; slice = m.output }) (λ x. refl)
-    (replyTo given call before)
+    (reply_to given call before)

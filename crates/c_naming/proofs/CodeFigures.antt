@@ -2,10 +2,10 @@
 use Prim.Native.Nat.{ℕ}
 use mathlib.Core.Path.{◌≡◌, sym, ap, ◌∙◌}
 use Rattle.rules.specs.CodeList.{entry_of}
-use Rattle.rules.specs.Answers.{codeFigures, codeAnswer}
+use Rattle.rules.specs.Answers.{code_figures, code_answer}
 use Rattle.name_codes.specs.declared.CodeClass.{CodeClass}
-use Rattle.name_codes.specs.ClassMeaning.{classMeant}
+use Rattle.name_codes.specs.ClassMeaning.{class_meant}
 
-pub class-figures : (code : ℕ) {found class : CodeClass} → found ≡ class → classMeant found ≡ entry_of code → codeFigures (classMeant class) ≡ codeAnswer code
-unfolding codeAnswer
-class-figures code same right = ap codeFigures (sym (ap classMeant same) ∙ right)
+pub class-figures : (code : ℕ) {found class : CodeClass} → found ≡ class → class_meant found ≡ entry_of code → code_figures (class_meant class) ≡ code_answer code
+unfolding code_answer
+class-figures code same right = ap code_figures (sym (ap class_meant same) ∙ right)

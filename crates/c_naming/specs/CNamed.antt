@@ -2,5 +2,5 @@
 use Rattle.rules.specs.Answers.{CodeAnswer}
 use Rattle.c_naming.specs.declared.Bai2Code.{Bai2Code}
 
-abbrev pub codeMeant : Bai2Code → CodeAnswer
-codeMeant r = record { listed = r.listed; status = r.status; summary = r.summary; detail = r.detail; side = r.side }
+abbrev pub code_meant : Bai2Code → CodeAnswer
+code_meant r = record { listed = r.listed; status = r.status; summary = r.summary; detail = r.detail; side = r.side }

@@ -1,7 +1,7 @@
 // The call for C that tells what a type code is for. include/bai2.h declares it.
 ghost use Rattle.std.specs.Prelude.{◌≡◌};
-ghost use Rattle.rules.specs.Answers.{codeAnswer};
-ghost use Rattle.c_naming.specs.CNamed.{codeMeant};
+ghost use Rattle.rules.specs.Answers.{code_answer};
+ghost use Rattle.c_naming.specs.CNamed.{code_meant};
 
 use name_codes::CodeClass;
 
@@ -25,7 +25,7 @@ const DEBIT: u64 = 2;
 
 // The figures of a listed code.
 fn listed(status: u64, summary: u64, detail: u64, side: u64) -> Bai2Code
-    ensures { codeMeant result ≡ record { listed = 1; status = status; summary = summary; detail = detail; side = side } }
+    ensures { code_meant result ≡ record { listed = 1; status = status; summary = summary; detail = detail; side = side } }
 {
     Bai2Code {
         listed: 1,
@@ -39,7 +39,7 @@ fn listed(status: u64, summary: u64, detail: u64, side: u64) -> Bai2Code
 // What the uniform list says of a code; all 0 for one that is not listed.
 #[unsafe(no_mangle)]
 pub extern "C" fn bai2_code_of(code: u64) -> Bai2Code
-    ensures { codeMeant result ≡ codeAnswer code }
+    ensures { code_meant result ≡ code_answer code }
 {
     match name_codes::code_class(code) {
         CodeClass::Unlisted => Bai2Code {

@@ -1,7 +1,7 @@
 -- What the calls that hand out answer C, in the rules' terms: the same numbers, figure by figure; where refused, every figure but number and place is 0.
 -- Assumes nothing.
 use Rattle.std.specs.Prelude.{ℕ, List}
-use Rattle.rules.specs.Amounts.{magnitudeOf}
+use Rattle.rules.specs.Amounts.{magnitude_of}
 use Rattle.rules.specs.Answers as rules
 use Rattle.rules.specs.HandedOut as handed
 use Rattle.c_reading.specs.declared.cutting.Bai2Part.{Bai2Part}
@@ -11,26 +11,26 @@ use Rattle.c_reading.specs.declared.handing.Bai2Fields.{Bai2Fields}
 
 -- ---- parts
 
-abbrev pub partMeant : Bai2Part → rules.PartAnswer
-partMeant r = record { refusal = record { number = r.number; place = r.place }; start = r.start; len = r.length }
+abbrev pub part_meant : Bai2Part → rules.PartAnswer
+part_meant r = record { refusal = record { number = r.number; place = r.place }; start = r.start; len = r.length }
 
-abbrev pub detailFigures : rules.DetailAnswer → Bai2Detail
-detailFigures d =
+abbrev pub detail_figures : rules.DetailAnswer → Bai2Detail
+detail_figures d =
     record {
       number = d.refusal.number;
       place = d.refusal.place;
       type_code = d.type;
-      amount_form = rules.formNumber d.amount;
-      amount = magnitudeOf d.amount;
-      text_start = d.textStart;
-      text_length = d.textLength;
+      amount_form = rules.form_number d.amount;
+      amount = magnitude_of d.amount;
+      text_start = d.text_start;
+      text_length = d.text_length;
     }
 
 -- ---- records and fields
 
-abbrev pub recordFigures : Bai2Record → handed.RecordAnswer
-recordFigures r = record { refusal = record { number = r.number; place = r.place }; code = r.code; lines = r.lines; len = r.length }
+abbrev pub record_figures : Bai2Record → handed.RecordAnswer
+record_figures r = record { refusal = record { number = r.number; place = r.place }; code = r.code; lines = r.lines; len = r.length }
 
 -- an answer about fields, with what the slice holds
-abbrev pub fieldsFigures : Bai2Fields → List ℕ → handed.FieldsAnswer
-fieldsFigures r out = record { refusal = record { number = r.number; place = r.place }; count = r.count; out = out }
+abbrev pub fields_figures : Bai2Fields → List ℕ → handed.FieldsAnswer
+fields_figures r out = record { refusal = record { number = r.number; place = r.place }; count = r.count; out = out }

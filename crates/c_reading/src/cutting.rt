@@ -1,8 +1,8 @@
 // The calls for C that cut a part out of a file: where it stands, counted from the file's first byte.
 ghost use Rattle.std.specs.Prelude.{◌≡◌};
-ghost use Rattle.rules.specs.Answers.{groupPart, accountPart, detailOfFile};
+ghost use Rattle.rules.specs.Answers.{group_part, account_part, detail_of_file};
 ghost use Rattle.part_groups.specs.PartMeaning as parts;
-ghost use Rattle.c_reading.specs.CAnswers.{partMeant, detailFigures};
+ghost use Rattle.c_reading.specs.CAnswers.{part_meant, detail_figures};
 
 use part_groups::Part;
 
@@ -18,7 +18,7 @@ pub struct Bai2Part {
 
 // A part in figures.
 fn figures_of(part: Part) -> Bai2Part
-    ensures { partMeant result ≡ parts.partMeant part }
+    ensures { part_meant result ≡ parts.part_meant part }
 {
     let refusal = part.refusal;
     let place = refusal.place;
@@ -34,7 +34,7 @@ fn figures_of(part: Part) -> Bai2Part
 // The group of this number.
 #[unsafe(no_mangle)]
 pub extern "C" fn bai2_group(file: &[u8], group: u64) -> Bai2Part
-    ensures { partMeant result ≡ groupPart file.now group }
+    ensures { part_meant result ≡ group_part file.now group }
 {
     figures_of(part_groups::find_group(file, group))
 }
@@ -42,7 +42,7 @@ pub extern "C" fn bai2_group(file: &[u8], group: u64) -> Bai2Part
 // The account of this number in that group.
 #[unsafe(no_mangle)]
 pub extern "C" fn bai2_account(file: &[u8], group: u64, account: u64) -> Bai2Part
-    ensures { partMeant result ≡ accountPart file.now group account }
+    ensures { part_meant result ≡ account_part file.now group account }
 {
     figures_of(part_groups::find_account(file, group, account))
 }
@@ -63,7 +63,7 @@ pub struct Bai2Detail {
 // The detail of this number in that account of that group.
 #[unsafe(no_mangle)]
 pub extern "C" fn bai2_detail_of(file: &[u8], group: u64, account: u64, detail: u64) -> Bai2Detail
-    ensures { result ≡ detailFigures (detailOfFile file.now group account detail) }
+    ensures { result ≡ detail_figures (detail_of_file file.now group account detail) }
 {
     let d = part_details::detail(file, group, account, detail);
     let refusal = d.refusal;

@@ -1,7 +1,7 @@
 // Records and fields handed out for C.
 ghost use Rattle.std.specs.Prelude.{◌≡◌};
-ghost use Rattle.rules.specs.HandedOut.{recordAt, recordAnswer, fieldsOfRecord};
-ghost use Rattle.c_reading.specs.CAnswers.{recordFigures, fieldsFigures};
+ghost use Rattle.rules.specs.HandedOut.{record_at, record_answer, fields_of_record};
+ghost use Rattle.c_reading.specs.CAnswers.{record_figures, fields_figures};
 
 use base_quantities::Place;
 use part_fields::Fields;
@@ -21,7 +21,7 @@ pub struct Bai2Record {
 // The record that begins at byte `start`.
 #[unsafe(no_mangle)]
 pub extern "C" fn bai2_record_at(file: &[u8], start: u64) -> Bai2Record
-    ensures { recordFigures result ≡ recordAnswer (recordAt file.now start) }
+    ensures { record_figures result ≡ record_answer (record_at file.now start) }
 {
     match part_records::record_at(file, Place(start as usize)) {
         Found::Refused(why) => {
@@ -58,7 +58,7 @@ pub struct Bai2Fields {
 // The fields of the record that begins at byte `start`: three numbers each, at the front of out.
 #[unsafe(no_mangle)]
 pub extern "C" fn bai2_fields_at(file: &[u8], start: u64, out: &mut [u64]) -> Bai2Fields
-    ensures { fieldsFigures result out.new ≡ fieldsOfRecord file.now start out.old }
+    ensures { fields_figures result out.new ≡ fields_of_record file.now start out.old }
 {
     match part_fields::fields_at(file, Place(start as usize), out) {
         Fields::Refused(why) => {

@@ -10,7 +10,7 @@ use lib.Signed.{mag, lt_z, non_neg}
 use mir.Syntax.{w64}
 use mir.Val.{Fits, SFits, to_z, of_z}
 use mir.ValLaws.{to_z_pos, to_z-of_z}
-use Rattle.base_quantities.specs.QuantityMeanings.{signedMeant}
+use Rattle.base_quantities.specs.QuantityMeanings.{signed_meant}
 use Rattle.c_writer.specs.WriterFigures.{signed_of}
 
 -- a number below 0 is a minus, any other a plus
@@ -51,7 +51,7 @@ module _ (n : ℤ) (fits : SFits w64 n) where
     pub one-more-fits : Fits w64 (nat_abs (stored (negsuc 0 -ℤ stored n)) + 1)
     one-more-fits = rw kept (record { fits = omega (arith, fits.sfits) })
 
-    pub minus-meant : signedMeant (record { negative = true; magnitude = record { 0 = nat_abs (stored (negsuc 0 -ℤ stored n)) + 1 } }) ≡ signed_of n
+    pub minus-meant : signed_meant (record { negative = true; magnitude = record { 0 = nat_abs (stored (negsuc 0 -ℤ stored n)) + 1 } }) ≡ signed_of n
     minus-meant = rw kept (sym (ap signed_of minus))
 
   module _ (from : lt_z (stored n) (pos 0) ≡ false) where
@@ -64,5 +64,5 @@ module _ (n : ℤ) (fits : SFits w64 n) where
     pub plus-cast : T (non_neg (stored n)) × Fits w64 (nat_abs (stored n))
     plus-cast = rw read-plus (tt, record { fits = omega (arith, fits.sfits) })
 
-    pub plus-meant : signedMeant (record { negative = false; magnitude = record { 0 = nat_abs (stored n) } }) ≡ signed_of n
+    pub plus-meant : signed_meant (record { negative = false; magnitude = record { 0 = nat_abs (stored n) } }) ≡ signed_of n
     plus-meant = rw read-plus (sym (ap signed_of plus))

@@ -1,10 +1,10 @@
 // The writer's state and its answers as plain numbers, which C hands from call to call; amounts and counts that C gives or leaves out.
 ghost use Rattle.std.specs.Prelude.{◌≡◌, []};
-ghost use Rattle.base_quantities.specs.QuantityMeanings.{signedMeant};
-ghost use Rattle.write_line.specs.DraftMeaning.{amountGiven, itemsGiven};
-ghost use Rattle.base_totals.specs.SummaryMeaning.{summaryMeant};
-ghost use Rattle.write_state.specs.WriterMeaning.{phaseMeant, writerMeant, writtenMeant};
-ghost use Rattle.c_writer.specs.WriterFigures.{summaryOf, figuresOf, phaseOf, phaseNumber, flag, size_of, state_of, numbersOf, numbersAfter, answer_of, signed_of, amountAsked, itemsAsked};
+ghost use Rattle.base_quantities.specs.QuantityMeanings.{signed_meant};
+ghost use Rattle.write_line.specs.DraftMeaning.{amount_given, items_given};
+ghost use Rattle.base_totals.specs.SummaryMeaning.{summary_meant};
+ghost use Rattle.write_state.specs.WriterMeaning.{phase_meant, writer_meant, written_meant};
+ghost use Rattle.c_writer.specs.WriterFigures.{summary_of, figures_of, phase_of, phase_number, flag, size_of, state_of, numbers_of, numbers_after, answer_of, signed_of, amount_asked, items_asked};
 
 use base_limits::LONGEST_FILE;
 use base_quantities::{Count, Magnitude, Place, Records, Signed, Units};
@@ -50,7 +50,7 @@ pub struct Bai2Written {
 
 // The summary that the figures say.
 fn summary_of(f: Figures) -> Summary
-    ensures { summaryMeant result ≡ summaryOf f }
+    ensures { summary_meant result ≡ summary_of f }
 {
     Summary {
         total: Units(f.pluses, f.minuses),
@@ -63,7 +63,7 @@ fn summary_of(f: Figures) -> Summary
 
 // A summary's figures.
 fn figures_of(s: Summary) -> Figures
-    ensures { result ≡ figuresOf (summaryMeant s) }
+    ensures { result ≡ figures_of (summary_meant s) }
 {
     let total = s.total;
     let groups = s.groups;
@@ -82,7 +82,7 @@ fn figures_of(s: Summary) -> Figures
 
 // The phase of this number of include/bai2.h; any other is taken for the last, and `size_of` refuses it.
 fn phase_of(n: u64) -> Phase
-    ensures { phaseMeant result ≡ phaseOf n }
+    ensures { phase_meant result ≡ phase_of n }
 {
     match n {
         0 => Phase::Fresh,
@@ -96,7 +96,7 @@ fn phase_of(n: u64) -> Phase
 
 // A phase's number in include/bai2.h.
 fn phase_number(p: Phase) -> u64
-    ensures { result ≡ phaseNumber (phaseMeant p) }
+    ensures { result ≡ phase_number (phase_meant p) }
 {
     match p {
         Phase::Fresh => 0,
@@ -133,7 +133,7 @@ fn size_of(w: Bai2Writer) -> Place
 
 // The state that the numbers say.
 pub fn state_of(w: Bai2Writer) -> Writer
-    ensures { writerMeant result ≡ state_of w }
+    ensures { writer_meant result ≡ state_of w }
 {
     Writer {
         phase: phase_of(w.phase),
@@ -147,7 +147,7 @@ pub fn state_of(w: Bai2Writer) -> Writer
 
 // A state's numbers.
 pub fn numbers_of(w: Writer) -> Bai2Writer
-    ensures { result ≡ numbersOf (writerMeant w) }
+    ensures { result ≡ numbers_of (writer_meant w) }
 {
     let size = w.size;
     let phase = w.phase;
@@ -163,7 +163,7 @@ pub fn numbers_of(w: Writer) -> Bai2Writer
 
 // The numbers after a call: the new state's where it was accepted, those given where it was refused.
 fn numbers_after(given: Bai2Writer, r: Written) -> Bai2Writer
-    ensures { result ≡ numbersAfter given (writtenMeant r []) }
+    ensures { result ≡ numbers_after given (written_meant r []) }
 {
     let why = r.refusal;
     if why.number != 0 {
@@ -174,7 +174,7 @@ fn numbers_after(given: Bai2Writer, r: Written) -> Bai2Writer
 
 // The answer for C.
 pub fn answered(given: Bai2Writer, r: Written) -> Bai2Written
-    ensures { result ≡ answer_of given (writtenMeant r []) }
+    ensures { result ≡ answer_of given (written_meant r []) }
 {
     let why = r.refusal;
     let place = why.place;
@@ -190,7 +190,7 @@ pub fn answered(given: Bai2Writer, r: Written) -> Bai2Written
 
 // A number's sign and magnitude.
 fn signed_of(n: i64) -> Signed
-    ensures { signedMeant result ≡ signed_of n }
+    ensures { signed_meant result ≡ signed_of n }
 {
     if n < 0 {
         return Signed {
@@ -206,7 +206,7 @@ fn signed_of(n: i64) -> Signed
 
 // The amount, or none where none is given.
 pub fn amount_asked(given: u64, n: i64) -> MaybeAmount
-    ensures { amountGiven result ≡ amountAsked given n }
+    ensures { amount_given result ≡ amount_asked given n }
 {
     if given == 0 {
         return MaybeAmount::NoAmount;
@@ -216,7 +216,7 @@ pub fn amount_asked(given: u64, n: i64) -> MaybeAmount
 
 // The number of items, or none where none is given.
 pub fn items_asked(given: u64, n: u64) -> MaybeItems
-    ensures { itemsGiven result ≡ itemsAsked given n }
+    ensures { items_given result ≡ items_asked given n }
 {
     if given == 0 {
         return MaybeItems::NoItems;

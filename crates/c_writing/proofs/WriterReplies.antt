@@ -13,21 +13,21 @@ use Rattle.rules.specs.Bytes.{Bytes}
 use Rattle.rules.specs.Writer as rules
 use Rattle.rules.specs.Writer.{Item, Call, write}
 use Rattle.rules.proofs.Tests.{Known, holds, fails, known}
-use Rattle.write_line.specs.DraftMeaning.{amountGiven, itemsGiven}
+use Rattle.write_line.specs.DraftMeaning.{amount_given, items_given}
 use Rattle.write_line.specs.declared.MaybeAmount.{MaybeAmount}
 use Rattle.write_line.specs.declared.MaybeItems.{MaybeItems}
-use Rattle.write_state.specs.WriterMeaning.{writerMeant, writtenMeant}
+use Rattle.write_state.specs.WriterMeaning.{writer_meant, written_meant}
 use Rattle.write_state.specs.declared.Writer.{Writer}
 use Rattle.write_state.specs.declared.Written.{Written}
-use Rattle.write_calls.specs.ItemMeaning.{itemMeant, itemGiven}
-use Rattle.c_writer.specs.WriterFigures.{state_of, numbersAfter, answer_of, replied, replyTo, orNone, amountAsked, itemsAsked, item_of, itemAsked}
+use Rattle.write_calls.specs.ItemMeaning.{item_meant, item_given}
+use Rattle.c_writer.specs.WriterFigures.{state_of, numbers_after, answer_of, replied, reply_to, or_none, amount_asked, items_asked, item_of, item_asked}
 use Rattle.c_writer.specs.declared.Bai2Writer.{Bai2Writer}
 use Rattle.c_writer.specs.declared.Bai2Written.{Bai2Written}
 
 -- the reply, from what the state, the writer's call and the answer promise
 pub replies : (w : Bai2Writer) (s : Writer) (r : Written) (a : Bai2Written) (call : Call) (before out : Bytes)
-    → writerMeant s ≡ state_of w → writtenMeant r out ≡ write (writerMeant s) call before → a ≡ answer_of w (writtenMeant r []) → replied a out ≡ replyTo w call before
-unfolding replyTo numbersAfter
+    → writer_meant s ≡ state_of w → written_meant r out ≡ write (writer_meant s) call before → a ≡ answer_of w (written_meant r []) → replied a out ≡ reply_to w call before
+unfolding reply_to numbers_after
 replies w s r a call before out e h f = rw (f, sym (ap (λ (x : rules.Writer). write x call before) e), sym h)
 
 -- the same of a call that is the same
@@ -35,19 +35,19 @@ pub written_as : (s : rules.Writer) (before : Bytes) (asked call : Call) (r : ru
 written_as s before asked call r h e = h ∙ ap (λ (x : Call). write s x before) e
 
 -- an amount, as the number that was handed on is stored and read
-pub amount-is : (given : ℕ) (n : ℤ) (a : MaybeAmount) → SFits w64 n → amountGiven a ≡ amountAsked given (to_z w64 (of_z w64 n)) → amountGiven a ≡ amountAsked given n
-amount-is given n a fits e = e ∙ ap (λ (z : ℤ). amountAsked given z) (to_z-of_z w64 n fits)
+pub amount-is : (given : ℕ) (n : ℤ) (a : MaybeAmount) → SFits w64 n → amount_given a ≡ amount_asked given (to_z w64 (of_z w64 n)) → amount_given a ≡ amount_asked given n
+amount-is given n a fits e = e ∙ ap (λ (z : ℤ). amount_asked given z) (to_z-of_z w64 n fits)
 
-module _ (type : Bytes) (g h count : ℕ) (amount : ℤ) (a : MaybeAmount) (n : MaybeItems) (e : amountGiven a ≡ amountAsked g amount) (f : itemsGiven n ≡ itemsAsked h count) where
+module _ (type : Bytes) (g h count : ℕ) (amount : ℤ) (a : MaybeAmount) (n : MaybeItems) (e : amount_given a ≡ amount_asked g amount) (f : items_given n ≡ items_asked h count) where
   -- an item
-  pub item-is : itemMeant type a n ≡ item_of type g amount h count
+  pub item-is : item_meant type a n ≡ item_of type g amount h count
   item-is = rw (e, f)
 
   -- an item, or none
-  pub item-or-none : (given : ℕ) → itemGiven (not (eqb given 0)) type a n ≡ itemAsked given (item_of type g amount h count)
-  unfolding orNone
+  pub item-or-none : (given : ℕ) → item_given (not (eqb given 0)) type a n ≡ item_asked given (item_of type g amount h count)
+  unfolding or_none
   item-or-none given = by-test (known (eqb given 0))
     where
-      by-test : Known (eqb given 0) → itemGiven (not (eqb given 0)) type a n ≡ cond (eqb given 0) none (some (item_of type g amount h count))
+      by-test : Known (eqb given 0) → item_given (not (eqb given 0)) type a n ≡ cond (eqb given 0) none (some (item_of type g amount h count))
       by-test (holds z) = rw z
       by-test (fails z) = rw z (ap (λ (i : Item). some i) item-is)

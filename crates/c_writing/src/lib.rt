@@ -1,7 +1,7 @@
 // The writer's calls for C: its state is plain numbers, which each call takes by value and hands back.
 ghost use Rattle.std.specs.Prelude.{◌≡◌};
 ghost use Rattle.rules.specs.Writer as rules;
-ghost use Rattle.c_writer.specs.WriterFigures.{numbersOf, replied, replyTo, amountAsked, item_of, itemAsked};
+ghost use Rattle.c_writer.specs.WriterFigures.{numbers_of, replied, reply_to, amount_asked, item_of, item_asked};
 
 use c_writer::{Bai2Writer, Bai2Written};
 use write_state::Writer;
@@ -9,7 +9,7 @@ use write_state::Writer;
 // A writer that has written nothing.
 #[unsafe(no_mangle)]
 pub extern "C" fn bai2_writer_new() -> Bai2Writer
-    ensures { result ≡ numbersOf rules.freshWriter }
+    ensures { result ≡ numbers_of rules.fresh_writer }
 {
     c_writer::numbers_of(Writer::new())
 }
@@ -25,7 +25,7 @@ pub extern "C" fn bai2_write_header(
     file_number: &[u8],
     out: &mut [u8],
 ) -> Bai2Written
-    ensures { replied result out.new ≡ replyTo writer (rules.writeHeader sender.now receiver.now date.now time.now file_number.now) out.old }
+    ensures { replied result out.new ≡ reply_to writer (rules.write_header sender.now receiver.now date.now time.now file_number.now) out.old }
 {
     let w = c_writer::state_of(writer);
     let r = write_calls::header(w, sender, receiver, date, time, file_number, out);
@@ -45,7 +45,7 @@ pub extern "C" fn bai2_write_group(
     modifier: &[u8],
     out: &mut [u8],
 ) -> Bai2Written
-    ensures { replied result out.new ≡ replyTo writer (rules.writeGroup receiver.now originator.now status.now date.now time.now currency.now modifier.now) out.old }
+    ensures { replied result out.new ≡ reply_to writer (rules.write_group receiver.now originator.now status.now date.now time.now currency.now modifier.now) out.old }
 {
     let w = c_writer::state_of(writer);
     let r = write_calls::group(
@@ -68,7 +68,7 @@ pub extern "C" fn bai2_write_account(
     count: u64,
     out: &mut [u8],
 ) -> Bai2Written
-    ensures { replied result out.new ≡ replyTo writer (rules.writeAccount account.now currency.now (itemAsked item_given (item_of type_code.now amount_given amount count_given count))) out.old }
+    ensures { replied result out.new ≡ reply_to writer (rules.write_account account.now currency.now (item_asked item_given (item_of type_code.now amount_given amount count_given count))) out.old }
 {
     let w = c_writer::state_of(writer);
     let a = c_writer::amount_asked(amount_given, amount);
@@ -88,7 +88,7 @@ pub extern "C" fn bai2_write_item(
     count: u64,
     out: &mut [u8],
 ) -> Bai2Written
-    ensures { replied result out.new ≡ replyTo writer (rules.writeItem (item_of type_code.now amount_given amount count_given count)) out.old }
+    ensures { replied result out.new ≡ reply_to writer (rules.write_item (item_of type_code.now amount_given amount count_given count)) out.old }
 {
     let w = c_writer::state_of(writer);
     let a = c_writer::amount_asked(amount_given, amount);
@@ -109,7 +109,7 @@ pub extern "C" fn bai2_write_detail(
     text: &[u8],
     out: &mut [u8],
 ) -> Bai2Written
-    ensures { replied result out.new ≡ replyTo writer (rules.writeDetail type_code.now (amountAsked amount_given amount) bank_reference.now customer_reference.now text.now) out.old }
+    ensures { replied result out.new ≡ reply_to writer (rules.write_detail type_code.now (amount_asked amount_given amount) bank_reference.now customer_reference.now text.now) out.old }
 {
     let w = c_writer::state_of(writer);
     let a = c_writer::amount_asked(amount_given, amount);
@@ -128,7 +128,7 @@ pub extern "C" fn bai2_write_detail(
 // The line 49.
 #[unsafe(no_mangle)]
 pub extern "C" fn bai2_write_end_account(writer: Bai2Writer, out: &mut [u8]) -> Bai2Written
-    ensures { replied result out.new ≡ replyTo writer rules.endAccount out.old }
+    ensures { replied result out.new ≡ reply_to writer rules.end_account out.old }
 {
     let w = c_writer::state_of(writer);
     let r = write_ends::end_account(w, out);
@@ -138,7 +138,7 @@ pub extern "C" fn bai2_write_end_account(writer: Bai2Writer, out: &mut [u8]) -> 
 // The line 98.
 #[unsafe(no_mangle)]
 pub extern "C" fn bai2_write_end_group(writer: Bai2Writer, out: &mut [u8]) -> Bai2Written
-    ensures { replied result out.new ≡ replyTo writer rules.endGroup out.old }
+    ensures { replied result out.new ≡ reply_to writer rules.end_group out.old }
 {
     let w = c_writer::state_of(writer);
     let r = write_ends::end_group(w, out);
@@ -148,7 +148,7 @@ pub extern "C" fn bai2_write_end_group(writer: Bai2Writer, out: &mut [u8]) -> Ba
 // The line 99.
 #[unsafe(no_mangle)]
 pub extern "C" fn bai2_write_end_file(writer: Bai2Writer, out: &mut [u8]) -> Bai2Written
-    ensures { replied result out.new ≡ replyTo writer rules.endFile out.old }
+    ensures { replied result out.new ≡ reply_to writer rules.end_file out.old }
 {
     let w = c_writer::state_of(writer);
     let r = write_ends::end_file(w, out);

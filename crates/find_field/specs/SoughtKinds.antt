@@ -2,26 +2,26 @@
 use Rattle.std.specs.Prelude.{◌+◌, ◌≤◌, ◌≡◌, length, take, drop}
 use Rattle.rules.specs.Bytes.{Bytes}
 use Rattle.rules.specs.Lines.{Code, lines_of}
-use Rattle.rules.specs.Grammar.{Kind, detailType, amount, text, ultimateReceiver, total, records, fields_of}
+use Rattle.rules.specs.Grammar.{Kind, detail_type, amount, text, ultimate_receiver, total, records, fields_of}
 use Rattle.find_field.specs.declared.Sought.{Sought}
 use Rattle.find_field.specs.declared.Sought.TheVariants as sought
 use Rattle.find_field.specs.declared.Spot.{Spot}
-use Rattle.find_field.specs.FieldSearch.{Found, seekLines}
+use Rattle.find_field.specs.FieldSearch.{Found, seek_lines}
 
 -- the kind that is sought
-abbrev pub kindMeant : Sought → Kind
-kindMeant sought.Type = detailType
-kindMeant sought.Amount = amount
-kindMeant sought.Text = text
-kindMeant sought.Receiver = ultimateReceiver
-kindMeant sought.Total = total
-kindMeant sought.Records = records
+abbrev pub kind_meant : Sought → Kind
+kind_meant sought.Type = detail_type
+kind_meant sought.Amount = amount
+kind_meant sought.Text = text
+kind_meant sought.Receiver = ultimate_receiver
+kind_meant sought.Total = total
+kind_meant sought.Records = records
 
 -- the field in a record
-abbrev pub spotMeant : Bytes → Spot → Found
-spotMeant rec r = record { place = r.start.0; bytes = take r.length (drop r.start.0 rec) }
+abbrev pub spot_meant : Bytes → Spot → Found
+spot_meant rec r = record { place = r.start.0; bytes = take r.length (drop r.start.0 rec) }
 
--- it is the one that `seekLines` gives
+-- it is the one that `seek_lines` gives
 pub record Spots (rec : Bytes) (c : Code) (s : Sought) (r : Spot) : Type 0 where
-  pub answer : spotMeant rec r ≡ seekLines (kindMeant s) (fields_of c) (lines_of rec)
+  pub answer : spot_meant rec r ≡ seek_lines (kind_meant s) (fields_of c) (lines_of rec)
   pub within : r.start.0 + r.length ≤ length rec

@@ -1,13 +1,13 @@
 // The first field of a kind in a record: where it stands, and its length; and what a detail's type and amount say.
 ghost use Rattle.std.specs.Prelude.{◌≡◌};
 ghost use Rattle.rules.specs.Numbers.{number};
-ghost use Rattle.rules.specs.Amounts.{amountIn};
+ghost use Rattle.rules.specs.Amounts.{amount_in};
 ghost use Rattle.rules.specs.Lines.{lines_of};
-ghost use Rattle.rules.specs.Grammar.{detailType, amount, kindNumber, fields_of};
-ghost use Rattle.base_amounts.specs.AmountsRead.{amountMeant};
-ghost use Rattle.base_codes.specs.CodeMeaning.{codeMeant};
-ghost use Rattle.find_field.specs.FieldSearch.{inDetail, seekLines};
-ghost use Rattle.find_field.specs.SoughtKinds.{kindMeant, Spots};
+ghost use Rattle.rules.specs.Grammar.{detail_type, amount, kind_number, fields_of};
+ghost use Rattle.base_amounts.specs.AmountsRead.{amount_meant};
+ghost use Rattle.base_codes.specs.CodeMeaning.{code_meant};
+ghost use Rattle.find_field.specs.FieldSearch.{in_detail, seek_lines};
+ghost use Rattle.find_field.specs.SoughtKinds.{kind_meant, Spots};
 
 use base_amounts::Amount;
 use base_codes::Code;
@@ -34,7 +34,7 @@ pub struct Spot {
 
 // The number of the kind that is sought.
 fn kind_sought(sought: Sought) -> u64
-    ensures { result ≡ kindNumber (kindMeant sought) }
+    ensures { result ≡ kind_number (kind_meant sought) }
 {
     match sought {
         Sought::Type => 20,
@@ -58,7 +58,7 @@ fn nowhere() -> Spot
 
 // The field sought in a record of this code; 0 and 0 where the walk ends, or is refused, before one is met.
 pub fn seek(rec: &[u8], code: Code, sought: Sought) -> Spot
-    ensures { Spots rec.now (codeMeant code) sought result }
+    ensures { Spots rec.now (code_meant code) sought result }
 {
     let mut none = [0u64; 1];
     let kind = kind_sought(sought);
@@ -71,7 +71,7 @@ pub fn seek(rec: &[u8], code: Code, sought: Sought) -> Spot
 
 // The field sought in a record of this code; an empty part where there is none.
 pub fn field(rec: &[u8], code: Code, sought: Sought) -> &[u8]
-    ensures { result.now ≡ (seekLines (kindMeant sought) (fields_of (codeMeant code)) (lines_of rec.now)).bytes }
+    ensures { result.now ≡ (seek_lines (kind_meant sought) (fields_of (code_meant code)) (lines_of rec.now)).bytes }
 {
     let spot = seek(rec, code, sought);
     let start = spot.start;
@@ -82,14 +82,14 @@ pub fn field(rec: &[u8], code: Code, sought: Sought) -> &[u8]
 
 // The number that a detail's type stands for.
 pub fn type_of(rec: &[u8]) -> u64
-    ensures { result ≡ number (inDetail detailType rec.now).bytes }
+    ensures { result ≡ number (in_detail detail_type rec.now).bytes }
 {
     base_digits::value(field(rec, Code::Detail, Sought::Type))
 }
 
 // A detail's amount, as it was given.
 pub fn amount_of(rec: &[u8]) -> Amount
-    ensures { amountMeant result ≡ amountIn (inDetail amount rec.now).bytes }
+    ensures { amount_meant result ≡ amount_in (in_detail amount rec.now).bytes }
 {
     base_amounts::amount_in(field(rec, Code::Detail, Sought::Amount))
 }

@@ -1,7 +1,7 @@
 // An item of an account's 03, by its number: its type, its amount as it was given, and its item count.
 ghost use Rattle.std.specs.Prelude.{◌≡◌, not, ◌&&◌, ◌||◌, ◌+◌, ◌≤◌, eqb, length, take, drop};
 ghost use Rattle.find_next.specs.CursorMeaning.{Inside};
-ghost use Rattle.find_item.specs.ItemSearch.{itemSought, countMeant, countRead, foundMeant, metBy, Takes, Seeks};
+ghost use Rattle.find_item.specs.ItemSearch.{item_sought, count_meant, count_read, found_meant, met_by, Takes, Seeks};
 
 use base_amounts::Amount;
 use base_codes::Code;
@@ -65,7 +65,7 @@ fn begins_item(kind: u64, size: usize) -> bool
 
 // What a field is, by whether it begins an item, where so many items are still to be passed.
 fn meet(begins: bool, left: u64) -> Met
-    ensures { result ≡ metBy begins left }
+    ensures { result ≡ met_by begins left }
 {
     if !begins {
         return Met::Passed(left);
@@ -139,7 +139,7 @@ fn bytes_of(rec: &[u8], field: Taken) -> &[u8]
 
 // The item count in a field.
 fn count_in(f: &[u8]) -> ItemCount
-    ensures { countMeant result ≡ countRead f.now }
+    ensures { count_meant result ≡ count_read f.now }
 {
     if f.len() == 0 {
         return ItemCount::NoCount;
@@ -149,7 +149,7 @@ fn count_in(f: &[u8]) -> ItemCount
 
 // The item of this number in the 03 in front of these bytes: a type, then its amount and its item count.
 pub fn item_in(rec: &[u8], n: u64) -> FoundItem
-    ensures { foundMeant result ≡ itemSought rec.now n }
+    ensures { found_meant result ≡ item_sought rec.now n }
 {
     match seek_type(rec, n) {
         TypeFound::NoType => FoundItem::NoItem,

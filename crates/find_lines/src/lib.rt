@@ -1,8 +1,8 @@
 // Where lines of given codes stand, found by their codes alone: blocks without one are passed by vector code.
 ghost use Rattle.std.specs.Prelude.{◌≡◌, false, cond, suc, ◌+◌, ◌-◌, ◌≤◌, ◌<◌, eqb, length, drop, get_or};
 ghost use Rattle.rules.specs.Lines.{lines_of};
-ghost use Rattle.base_codes.specs.CodeMeaning.{codeMeant, bytesMeant};
-ghost use Rattle.find_lines.specs.LinesOfCode.{mayBegin, NoEnd, Quiet, beginsEither, lineEnds, aheadLen, EndIs, bytesBefore};
+ghost use Rattle.base_codes.specs.CodeMeaning.{code_meant, bytes_meant};
+ghost use Rattle.find_lines.specs.LinesOfCode.{may_begin, NoEnd, Quiet, begins_either, line_ends, ahead_len, EndIs, bytes_before};
 
 use base_codes::{Code, Digits};
 use base_quantities::Place;
@@ -12,7 +12,7 @@ const BLOCK: usize = 128;
 
 // One of the two codes stands there.
 fn begins_either(s: &[u8], start: Place, x: Digits, y: Digits) -> bool
-    ensures { result ≡ beginsEither (bytesMeant x) (bytesMeant y) (drop start.0 s.now) }
+    ensures { result ≡ begins_either (bytes_meant x) (bytes_meant y) (drop start.0 s.now) }
 {
     if read_lines::begins_with(s, start, x.0, x.1) {
         return true;
@@ -42,7 +42,7 @@ fn larger(a: u8, b: u8) -> u8
 
 // Above 0 where something was found before, or where these two bytes end a line and begin one with x or y.
 fn meets(found: u8, a: u8, b: u8, x: u8, y: u8) -> u8
-    ensures { result ≡ 0 → (found ≡ 0) × (mayBegin x y a b ≡ false) }
+    ensures { result ≡ 0 → (found ≡ 0) × (may_begin x y a b ≡ false) }
 {
     larger(
         found,
@@ -53,7 +53,7 @@ fn meets(found: u8, a: u8, b: u8, x: u8, y: u8) -> u8
 // After some byte of the block that starts there such a line may begin; no test leaves the block early, so it compiles to vector code.
 fn block_meets(s: &[u8], start: Place, x: Digits, y: Digits) -> bool
     requires { start.0 + 128 < length s.now }
-    ensures { result ≡ false → Quiet (bytesMeant x) (bytesMeant y) s.now start.0 128 }
+    ensures { result ≡ false → Quiet (bytes_meant x) (bytes_meant y) s.now start.0 128 }
 {
     let at = start.0;
     let mut found: u8 = 0;
@@ -84,7 +84,7 @@ fn block_ends(s: &[u8], start: Place) -> bool
 // After some byte of the block that starts there such a line may begin: the lesser test comes first, and mostly suffices where lines are long.
 fn may_meet(s: &[u8], start: Place, x: Digits, y: Digits) -> bool
     requires { start.0 + 128 < length s.now }
-    ensures { result ≡ false → Quiet (bytesMeant x) (bytesMeant y) s.now start.0 128 }
+    ensures { result ≡ false → Quiet (bytes_meant x) (bytes_meant y) s.now start.0 128 }
 {
     if block_ends(s, start) {
         return block_meets(s, start, x, y);
@@ -95,7 +95,7 @@ fn may_meet(s: &[u8], start: Place, x: Digits, y: Digits) -> bool
 // This byte ends a line, and such a line begins after it.
 fn ends_before_line(s: &[u8], byte: Place, x: Digits, y: Digits) -> bool
     requires { byte.0 < length s.now }
-    ensures { result ≡ lineEnds (bytesMeant x) (bytesMeant y) (get_or s.now byte.0 0) (drop (suc byte.0) s.now) }
+    ensures { result ≡ line_ends (bytes_meant x) (bytes_meant y) (get_or s.now byte.0 0) (drop (suc byte.0) s.now) }
 {
     let at = byte.0;
     if s[at] != b'\n' {
@@ -107,7 +107,7 @@ fn ends_before_line(s: &[u8], byte: Place, x: Digits, y: Digits) -> bool
 // The first byte from there on that ends a line before such a line, of those before `end`; or `end`.
 fn end_before_line(s: &[u8], start: Place, end: Place, x: Digits, y: Digits) -> Place
     requires { (start.0 ≤ end.0) × (end.0 ≤ length s.now) }
-    ensures { EndIs (bytesMeant x) (bytesMeant y) s.now start.0 end.0 result.0 }
+    ensures { EndIs (bytes_meant x) (bytes_meant y) s.now start.0 end.0 result.0 }
 {
     let e = end.0;
     let mut i = start.0;
@@ -123,7 +123,7 @@ fn end_before_line(s: &[u8], start: Place, end: Place, x: Digits, y: Digits) -> 
 // Where the next such line after the one that starts there starts, or the end.
 fn line_after(s: &[u8], start: Place, x: Digits, y: Digits) -> Place
     requires { start.0 ≤ length s.now }
-    ensures { (result.0 ≡ start.0 + aheadLen (bytesMeant x) (bytesMeant y) (drop start.0 s.now)) × (result.0 ≤ length s.now) }
+    ensures { (result.0 ≡ start.0 + ahead_len (bytes_meant x) (bytes_meant y) (drop start.0 s.now)) × (result.0 ≤ length s.now) }
 {
     let mut i = start.0;
     while BLOCK < s.len() - i {
@@ -145,7 +145,7 @@ fn line_after(s: &[u8], start: Place, x: Digits, y: Digits) -> Place
 
 // Where the first line of one of the two codes starts, from the line that starts there on; or the end.
 pub fn next_line_of(s: &[u8], start: Place, one: Code, other: Code) -> Place
-    ensures { (result.0 ≡ start.0 + bytesBefore (codeMeant one) (codeMeant other) (lines_of (drop start.0 s.now))) × (result.0 ≤ length s.now + (start.0 - length s.now)) }
+    ensures { (result.0 ≡ start.0 + bytes_before (code_meant one) (code_meant other) (lines_of (drop start.0 s.now))) × (result.0 ≤ length s.now + (start.0 - length s.now)) }
 {
     let x = base_codes::digits_of(one);
     let y = base_codes::digits_of(other);

@@ -8,57 +8,57 @@ use borrow.Author.Tests.{le-leb, lt-leb}
 use lib.ListN.{length, take, drop, get_or, length-take, length-drop}
 use lib.Seq.{slice, drop-drop}
 use Rattle.rules.specs.Bytes.{Bytes, slash}
-use Rattle.rules.specs.Cells.{cellsFrom, leadingBlanks}
-use Rattle.rules.specs.Grammar.{Kind, bad, good, takeNext, nextKind, isText}
+use Rattle.rules.specs.Cells.{cells_from, leading_blanks}
+use Rattle.rules.specs.Grammar.{Kind, bad, good, take_next, next_kind, is_text}
 use Rattle.base_quantities.specs.declared.Place.{Place}
 use Rattle.base_refusals.specs.declared.Refusal.{Refusal}
-use Rattle.read_lines.specs.LineLengths.{bodyLen, lineLen}
+use Rattle.read_lines.specs.LineLengths.{body_len, line_len}
 use Rattle.read_lines.proofs.LineLaws.{take-drop}
 use Rattle.read_wanted.specs.declared.want.Want.{Want}
-use Rattle.read_wanted.specs.Wants.{wantedOf}
+use Rattle.read_wanted.specs.Wants.{wanted_of}
 use Rattle.read_field_ends.specs.declared.Extent.TheVariants as extent
-use Rattle.read_field_ends.specs.FieldLengths.{extentOf}
+use Rattle.read_field_ends.specs.FieldLengths.{extent_of}
 use Rattle.read_field_ends.proofs.FieldLengthLaws.{extent-within}
 use Rattle.read_walk.proofs.LineParts.{part-front}
 use Rattle.find_next.specs.declared.Cursor.{Cursor}
 use Rattle.find_next.specs.declared.Next.{Next}
 use Rattle.find_next.specs.declared.Next.TheVariants as next
-use Rattle.find_next.specs.FieldTrace.{Trace, stop_at, traceCells, traceEnd}
+use Rattle.find_next.specs.FieldTrace.{Trace, stop_at, trace_cells, trace_end}
 use Rattle.find_next.specs.declared.Ahead.{Ahead}
 use Rattle.find_next.specs.declared.Ahead.TheVariants as ahead
-use Rattle.find_next.specs.CursorMeaning.{ownLine, lines_from, traceFrom, traceOf, nextMeant, Inside, leftFrom, left_of, Onward, Takes, Ready, Ends, Enters, Steps}
+use Rattle.find_next.specs.CursorMeaning.{own_line, lines_from, trace_from, trace_of, next_meant, Inside, left_from, left_of, Onward, Takes, Ready, Ends, Enters, Steps}
 use Rattle.find_next.proofs.OwnLines.{own-some}
 use Rattle.find_next.proofs.TraceLaws.{at_open, short, wrong, past-text, past-comma, past_slash, stray, line_first, short-line, lines-over}
 
 -- ---- where a walk stands
 
 -- before a line
-abbrev overAt : Want → Place → Place → Cursor
-overAt w line s = record { want = w; at = record { 0 = 1 }; end = record { 0 = 0 }; line = line; slash = s }
+abbrev over_at : Want → Place → Place → Cursor
+over_at w line s = record { want = w; at = record { 0 = 1 }; end = record { 0 = 0 }; line = line; slash = s }
 
-pub trace-over : (rec : Bytes) (least : ℕ) (w : Want) (line s : Place) → traceOf rec least (overAt w line s) ≡ lines_from rec least line.0 (wantedOf w) s.0
-unfolding traceOf traceFrom
+pub trace-over : (rec : Bytes) (least : ℕ) (w : Want) (line s : Place) → trace_of rec least (over_at w line s) ≡ lines_from rec least line.0 (wanted_of w) s.0
+unfolding trace_of trace_from
 trace-over rec least w line s = refl
 
 module _ (rec : Bytes) (least : ℕ) (c : Cursor) where
   abbrev ks : List Kind
-  ks = wantedOf c.want
+  ks = wanted_of c.want
 
-  trace-in : c.at.0 ≤ c.end.0 → traceOf rec least c ≡ traceCells ks c.slash.0 (cellsFrom c.at.0 (slice c.at.0 c.end.0 rec)) (lines_from rec least c.line.0)
-  unfolding traceOf traceFrom
+  trace-in : c.at.0 ≤ c.end.0 → trace_of rec least c ≡ trace_cells ks c.slash.0 (cells_from c.at.0 (slice c.at.0 c.end.0 rec)) (lines_from rec least c.line.0)
+  unfolding trace_of trace_from
   trace-in h = rw (le-leb c.at.0 c.end.0 h)
 
-  trace-past : c.end.0 < c.at.0 → traceOf rec least c ≡ lines_from rec least c.line.0 ks c.slash.0
-  unfolding traceOf traceFrom
+  trace-past : c.end.0 < c.at.0 → trace_of rec least c ≡ lines_from rec least c.line.0 ks c.slash.0
+  unfolding trace_of trace_from
   trace-past h = rw (lt-leb c.at.0 c.end.0 h)
 
 -- how much is left
-left_in : (rec : Bytes) (a e n : ℕ) → a ≤ e → leftFrom rec a e n ≡ suc (length rec - a)
-unfolding leftFrom
+left_in : (rec : Bytes) (a e n : ℕ) → a ≤ e → left_from rec a e n ≡ suc (length rec - a)
+unfolding left_from
 left_in rec a e n h = rw (le-leb a e h)
 
-left-past : (rec : Bytes) (a e n : ℕ) → e < a → leftFrom rec a e n ≡ length rec - n
-unfolding leftFrom
+left-past : (rec : Bytes) (a e n : ℕ) → e < a → left_from rec a e n ≡ length rec - n
+unfolding left_from
 left-past rec a e n h = rw (lt-leb a e h)
 
 -- ---- in a line, of which xs is left
@@ -76,10 +76,10 @@ module _ (rec : Bytes) (least : ℕ) (c : Cursor) (xs : Bytes) (is : xs ≡ slic
   go = lines_from rec least c.line.0
 
   abbrev here : Trace
-  here = traceCells (ks rec least c) c.slash.0 (cellsFrom a (slice a c.end.0 rec)) go
+  here = trace_cells (ks rec least c) c.slash.0 (cells_from a (slice a c.end.0 rec)) go
 
-  here-is : here ≡ traceCells (ks rec least c) c.slash.0 (cellsFrom a xs) go
-  here-is = ap (λ (l : Bytes). traceCells (ks rec least c) c.slash.0 (cellsFrom a l) go) (sym is)
+  here-is : here ≡ trace_cells (ks rec least c) c.slash.0 (cells_from a xs) go
+  here-is = ap (λ (l : Bytes). trace_cells (ks rec least c) c.slash.0 (cells_from a l) go) (sym is)
 
   pub size-left : (length xs ≤ c.end.0 - a) × (length xs ≤ length rec - a)
   size-left = rw is (omega (arith, length-drop a (take c.end.0 rec), length-take c.end.0 rec), omega (arith, length-drop a (take c.end.0 rec), length-take c.end.0 rec))
@@ -93,33 +93,33 @@ module _ (rec : Bytes) (least : ℕ) (c : Cursor) (xs : Bytes) (is : xs ≡ slic
       ap (λ (l : Bytes). drop (suc n) l) is ∙ drop-drop (suc n) a (take c.end.0 rec) ∙ ap (λ (i : ℕ). drop i (take c.end.0 rec)) q
 
   -- it stops at a place of the line
-  stops-takes : (r : Next) (n p : ℕ) → r ≡ next.Refused (record { number = n; place = record { 0 = p } }) → traceCells (ks rec least c) c.slash.0 (cellsFrom a xs) go ≡ stop_at n p → p ≤ a + length xs → Takes rec least c r
+  stops-takes : (r : Next) (n p : ℕ) → r ≡ next.Refused (record { number = n; place = record { 0 = p } }) → trace_cells (ks rec least c) c.slash.0 (cells_from a xs) go ≡ stop_at n p → p ≤ a + length xs → Takes rec least c r
   stops-takes r n p q t low =
       subst (Takes rec least c) (sym q) (record { answer = here-is ∙ t; onward = λ h i. (omega (arith, size-left.0, i.in-line, i.in-record), omega (arith, size-left.0, i.in-line, i.in-record)) })
 
-  pub open-takes : (r : Next) → r ≡ next.Refused (record { number = 7; place = record { 0 = a + length xs } }) → extent.Open ≡ extentOf (isText (nextKind (ks rec least c))) xs → Takes rec least c r
+  pub open-takes : (r : Next) → r ≡ next.Refused (record { number = 7; place = record { 0 = a + length xs } }) → extent.Open ≡ extent_of (is_text (next_kind (ks rec least c))) xs → Takes rec least c r
   open-takes r q t = stops-takes r 7 (a + length xs) q (at_open (ks rec least c) c.slash.0 a xs go t) (omega arith)
 
-  module _ (n : ℕ) (size : extent.Field n ≡ extentOf (isText (nextKind (ks rec least c))) xs) where
+  module _ (n : ℕ) (size : extent.Field n ≡ extent_of (is_text (next_kind (ks rec least c))) xs) where
     pub in_left : n ≤ length xs
-    in_left = extent-within (isText (nextKind (ks rec least c))) xs n size
+    in_left = extent-within (is_text (next_kind (ks rec least c))) xs n size
 
-    pub in-short : isText (nextKind (ks rec least c)) ≡ false → n < length xs
+    pub in-short : is_text (next_kind (ks rec least c)) ≡ false → n < length xs
     in-short nt = (short (ks rec least c) c.slash.0 a xs go n size nt).1
 
-    pub wrong-takes : (r : Next) (m : ℕ) → r ≡ next.Refused (record { number = m; place = c.at }) → takeNext (ks rec least c) (take n xs) ≡ bad m → Takes rec least c r
+    pub wrong-takes : (r : Next) (m : ℕ) → r ≡ next.Refused (record { number = m; place = c.at }) → take_next (ks rec least c) (take n xs) ≡ bad m → Takes rec least c r
     wrong-takes r m q t = stops-takes r m a q (wrong (ks rec least c) c.slash.0 a xs go n size m t) (omega arith)
 
-    module _ (w : Want) (good-field : takeNext (ks rec least c) (take n xs) ≡ good (wantedOf w)) where
+    module _ (w : Want) (good-field : take_next (ks rec least c) (take n xs) ≡ good (wanted_of w)) where
       -- the line goes on
-      pub comma-takes : isText (nextKind (ks rec least c)) ≡ false → (get_or xs n 0 ≡ slash → ⊥)
+      pub comma-takes : is_text (next_kind (ks rec least c)) ≡ false → (get_or xs n 0 ≡ slash → ⊥)
           → Takes rec least c (next.Field c.at n (record { want = w; at = record { 0 = a + (n + 1) }; end = c.end; line = c.line; slash = c.slash }))
       comma-takes nt m =
           let d : Cursor = record { want = w; at = record { 0 = a + (n + 1) }; end = c.end; line = c.line; slash = c.slash } in
           let ahead : a + (n + 1) ≤ c.end.0 = omega (arith, size-left.0, in-short nt) in
           let place : suc (a + n) ≡ a + (n + 1) = omega arith in
           record {
-            answer = here-is ∙ past-comma (ks rec least c) c.slash.0 a xs go n size (wantedOf w) good-field nt m ∙ rw (field_is n in_left, rest-is n, place, trace-in rec least d ahead);
+            answer = here-is ∙ past-comma (ks rec least c) c.slash.0 a xs go n size (wanted_of w) good-field nt m ∙ rw (field_is n in_left, rest-is n, place, trace-in rec least d ahead);
             onward = λ h i. (
               omega (arith, size-left.1, in-short nt, i.in-line, i.in-record),
               record { in-line = i.in-line; in-record = i.in-record; slashed = i.slashed },
@@ -128,38 +128,38 @@ module _ (rec : Bytes) (least : ℕ) (c : Cursor) (xs : Bytes) (is : xs ≡ slic
           }
 
       -- the line is over
-      over-onward : (s : Place) → (c.at.0 ≤ c.end.0 → Inside rec c → s.0 ≤ length rec) → a ≤ c.end.0 → Onward rec c (next.Field c.at n (overAt w c.line s))
+      over-onward : (s : Place) → (c.at.0 ≤ c.end.0 → Inside rec c → s.0 ≤ length rec) → a ≤ c.end.0 → Onward rec c (next.Field c.at n (over_at w c.line s))
       over-onward s in-rec h i = (
         omega (arith, size-left.0, in_left, i.in-line, i.in-record),
         record { in-line = omega arith; in-record = i.in-record; slashed = in-rec h i },
         rw (left-past rec 1 0 c.line.0 (omega arith), left_in rec a c.end.0 c.line.0 h) (omega (arith, i.in-line, i.in-record)),
       )
 
-      pub text-takes : (d : Cursor) → d ≡ overAt w c.line c.slash → isText (nextKind (ks rec least c)) ≡ true → Takes rec least c (next.Field c.at n d)
+      pub text-takes : (d : Cursor) → d ≡ over_at w c.line c.slash → is_text (next_kind (ks rec least c)) ≡ true → Takes rec least c (next.Field c.at n d)
       text-takes d q t =
           subst (λ (x : Cursor). Takes rec least c (next.Field c.at n x)) (sym q)
           (record {
-            answer = here-is ∙ past-text (ks rec least c) c.slash.0 a xs go n size (wantedOf w) good-field t ∙ rw (field_is n in_left, trace-over rec least w c.line c.slash);
+            answer = here-is ∙ past-text (ks rec least c) c.slash.0 a xs go n size (wanted_of w) good-field t ∙ rw (field_is n in_left, trace-over rec least w c.line c.slash);
             onward = over-onward c.slash (λ h i. i.slashed);
           })
 
       -- after a slash, t is where the blanks end
-      module _ (nt : isText (nextKind (ks rec least c)) ≡ false) (m : get_or xs n 0 ≡ slash) (t : ℕ) (ht : t ≡ n + 1 + leadingBlanks (drop (n + 1) xs)) where
+      module _ (nt : is_text (next_kind (ks rec least c)) ≡ false) (m : get_or xs n 0 ≡ slash) (t : ℕ) (ht : t ≡ n + 1 + leading_blanks (drop (n + 1) xs)) where
         pub stray-takes : (r : Next) → r ≡ next.Refused (record { number = 7; place = record { 0 = a + t } }) → t < length xs → Takes rec least c r
-        stray-takes r q low = stops-takes r 7 (a + t) q (stray (ks rec least c) c.slash.0 a xs go n size (wantedOf w) good-field nt m t ht low) (omega arith)
+        stray-takes r q low = stops-takes r 7 (a + t) q (stray (ks rec least c) c.slash.0 a xs go n size (wanted_of w) good-field nt m t ht low) (omega arith)
 
-        pub slash-takes : (d : Cursor) → d ≡ overAt w c.line (record { 0 = a + n }) → length xs ≤ t → t ≤ length xs → Takes rec least c (next.Field c.at n d)
+        pub slash-takes : (d : Cursor) → d ≡ over_at w c.line (record { 0 = a + n }) → length xs ≤ t → t ≤ length xs → Takes rec least c (next.Field c.at n d)
         slash-takes d q low high =
             subst (λ (x : Cursor). Takes rec least c (next.Field c.at n x)) (sym q)
             (record {
-              answer = here-is ∙ past_slash (ks rec least c) c.slash.0 a xs go n size (wantedOf w) good-field nt m t ht low high ∙ rw (field_is n in_left, trace-over rec least w c.line (record { 0 = a + n }));
+              answer = here-is ∙ past_slash (ks rec least c) c.slash.0 a xs go n size (wanted_of w) good-field nt m t ht low high ∙ rw (field_is n in_left, trace-over rec least w c.line (record { 0 = a + n }));
               onward = over-onward (record { 0 = a + n }) (λ h i. omega (arith, size-left.0, in_left, i.in-line, i.in-record));
             })
 
 -- ---- in which line
 
 -- no farther from the end
-left_less : (rec : Bytes) (c : Cursor) (n a e : ℕ) → c.end.0 < c.at.0 → a ≤ e → c.line.0 + 3 ≤ a → a ≤ length rec → leftFrom rec a e n ≤ left_of rec c
+left_less : (rec : Bytes) (c : Cursor) (n a e : ℕ) → c.end.0 < c.at.0 → a ≤ e → c.line.0 + 3 ≤ a → a ≤ length rec → left_from rec a e n ≤ left_of rec c
 left_less rec c n a e past low ahead high =
     rw (left_in rec a e n low, left-past rec c.at.0 c.end.0 c.line.0 past) (omega arith)
 
@@ -170,23 +170,23 @@ module _ (rec : Bytes) (least : ℕ) (c : Cursor) where
 
   module _ (past : c.end.0 < c.at.0) where
     -- no line is left
-    pub end-enters : (r : Ahead) → ownLine least c.line.0 (drop c.line.0 rec) ≡ false → Ends c.want c.slash r → Enters rec least c r
-    unfolding traceEnd
+    pub end-enters : (r : Ahead) → own_line least c.line.0 (drop c.line.0 rec) ≡ false → Ends c.want c.slash r → Enters rec least c r
+    unfolding trace_end
     end-enters (ahead.Refused why) own e =
         record {
-          answer = trace-past rec least c past ∙ lines-over rec least (wantedOf c.want) c.slash.0 c.line.0 own ∙ rw (e.0, e.1);
+          answer = trace-past rec least c past ∙ lines-over rec least (wanted_of c.want) c.slash.0 c.line.0 own ∙ rw (e.0, e.1);
           ready = λ i. rw e.1 (omega (arith, i.slashed), omega (arith, i.slashed));
         }
     end-enters ahead.Over own e =
-        record { answer = trace-past rec least c past ∙ lines-over rec least (wantedOf c.want) c.slash.0 c.line.0 own ∙ rw e; ready = tt }
+        record { answer = trace-past rec least c past ∙ lines-over rec least (wanted_of c.want) c.slash.0 c.line.0 own ∙ rw e; ready = tt }
     end-enters (ahead.Line d) own e = absurd e
 
     -- the next line ends at e, before the one at n
-    module _ (own : ownLine least c.line.0 (drop c.line.0 rec) ≡ true) (e n : ℕ) (he : e ≡ c.line.0 + bodyLen (drop c.line.0 rec)) (hn : n ≡ c.line.0 + lineLen (drop c.line.0 rec)) where
+    module _ (own : own_line least c.line.0 (drop c.line.0 rec) ≡ true) (e n : ℕ) (he : e ≡ c.line.0 + body_len (drop c.line.0 rec)) (hn : n ≡ c.line.0 + line_len (drop c.line.0 rec)) where
       pub short-enters : e < c.line.0 + 3 → Enters rec least c (ahead.Refused (record { number = 7; place = record { 0 = c.line.0 + 3 } }))
       short-enters low =
           record {
-            answer = trace-past rec least c past ∙ short-line rec least c.line.0 e n own he hn (wantedOf c.want) c.slash.0 low;
+            answer = trace-past rec least c past ∙ short-line rec least c.line.0 e n own he hn (wanted_of c.want) c.slash.0 low;
             ready = λ i. (omega (arith, i.in-record), omega (arith, own-some rec least c.line.0 own));
           }
 
@@ -195,7 +195,7 @@ module _ (rec : Bytes) (least : ℕ) (c : Cursor) where
       line-enters low en nl =
           let d : Cursor = record { want = c.want; at = record { 0 = c.line.0 + 3 }; end = record { 0 = e }; line = record { 0 = n }; slash = c.slash } in
           record {
-            answer = trace-past rec least c past ∙ line_first rec least c.line.0 e n own he hn (wantedOf c.want) c.slash.0 ∙ sym (trace-in rec least d low);
+            answer = trace-past rec least c past ∙ line_first rec least c.line.0 e n own he hn (wanted_of c.want) c.slash.0 ∙ sym (trace-in rec least d low);
             ready = (refl, low, λ i. (record { in-line = en; in-record = nl; slashed = i.slashed }, left_less rec c n (c.line.0 + 3) e past low (omega arith) (omega arith)));
           }
 
@@ -215,8 +215,8 @@ module _ (rec : Bytes) (least : ℕ) (c : Cursor) where
 
   pub line-steps : (d : Cursor) (r : Next) → Enters rec least c (ahead.Line d) → Takes rec least d r → Steps rec least c r
   line-steps d r e t =
-      let same : wantedOf d.want ≡ wantedOf c.want = ap wantedOf e.ready.0 in
+      let same : wanted_of d.want ≡ wanted_of c.want = ap wanted_of e.ready.0 in
       record {
-        answer = e.answer ∙ trace-in rec least d e.ready.1 ∙ t.answer ∙ ap (λ (ks : List Kind). nextMeant rec least ks r) same;
+        answer = e.answer ∙ trace-in rec least d e.ready.1 ∙ t.answer ∙ ap (λ (ks : List Kind). next_meant rec least ks r) same;
         onward = onward-from d r e.ready (t.onward e.ready.1);
       }

@@ -7,15 +7,15 @@ use mathlib.Core.List.{List, [], ◌∷◌}
 use borrow.Author.Tests.{lt-ltb, le-ltb, ltb-true, ltb-false}
 use lib.Dec.{ltb}
 use lib.ListN.{length, take, drop, length-drop, drop_of_length-le}
-use Rattle.rules.specs.Bytes.{Bytes, sameBytes}
-use Rattle.rules.specs.Lines.{Line, size_of, lines_of, codeBytes, continuation}
+use Rattle.rules.specs.Bytes.{Bytes, same_bytes}
+use Rattle.rules.specs.Lines.{Line, size_of, lines_of, code_bytes, continuation}
 use Rattle.rules.proofs.Tests.{Known, holds, fails, known}
-use Rattle.read_lines.specs.LineLengths.{lineLen, firstLine, further, firstRecord}
+use Rattle.read_lines.specs.LineLengths.{line_len, first_line, further, first_record}
 use Rattle.read_lines.proofs.LineLengthLaws.{first_of, line-some}
 use Rattle.read_lines.proofs.Fronts.{begins-front}
 use Rattle.read_lines.proofs.LineLaws.{lines-here}
 use Rattle.read_lines.proofs.OneRecord.{first-size}
-use Rattle.find_next.specs.CursorMeaning.{ownLines, ownLine}
+use Rattle.find_next.specs.CursorMeaning.{own_lines, own_line}
 
 -- a test turned round
 pub flip : (a b : Bool) → not a ≡ b → a ≡ not b
@@ -31,76 +31,76 @@ module _ (rec : Bytes) (least at : ℕ) where
   left = drop at rec
 
   -- the first line is its own or not
-  own-step : (n : ℕ) (t : Bool) → at < length rec → n ≡ at + lineLen left → (ltb at least || sameBytes (codeBytes continuation) (take 3 left)) ≡ t
-      → ownLines least at (lines_of left) ≡ cond t (firstLine left ∷ ownLines least n (lines_of (drop n rec))) []
-  unfolding ownLines
+  own-step : (n : ℕ) (t : Bool) → at < length rec → n ≡ at + line_len left → (ltb at least || same_bytes (code_bytes continuation) (take 3 left)) ≡ t
+      → own_lines least at (lines_of left) ≡ cond t (first_line left ∷ own_lines least n (lines_of (drop n rec))) []
+  unfolding own_lines
   own-step n t h hn e = rw (lines-here rec at n h hn, begins-front continuation left, first-size left, ← hn, e)
 
   -- as the code asks
-  pub own-past : length rec ≤ at → false ≡ ownLine least at left
+  pub own-past : length rec ≤ at → false ≡ own_line least at left
   own-past h = sym (rw (drop_of_length-le rec {i = at} h))
 
   module _ (h : at < length rec) where
     some_left : ltb 0 (length left) ≡ true
     some_left = lt-ltb 0 (length left) (omega (arith, length-drop at rec))
 
-    pub own-known : at < least → true ≡ ownLine least at left
+    pub own-known : at < least → true ≡ own_line least at left
     own-known k = sym (rw (some_left, lt-ltb at least k))
 
-    pub own-further : (t : Bool) → least ≤ at → t ≡ sameBytes (codeBytes continuation) (take 3 left) → t ≡ ownLine least at left
+    pub own-further : (t : Bool) → least ≤ at → t ≡ same_bytes (code_bytes continuation) (take 3 left) → t ≡ own_line least at left
     own-further t k e = e ∙ sym (rw (some_left, le-ltb at least k))
 
   -- a line is left
-  pub own-some : ownLine least at left ≡ true → at < length rec
+  pub own-some : own_line least at left ≡ true → at < length rec
   own-some e = omega (arith, ltb-true 0 (length left) (and-true (ltb 0 (length left)) _ e).0, length-drop at rec)
 
-  pub own-here : (n : ℕ) → n ≡ at + lineLen left → ownLine least at left ≡ true → ownLines least at (lines_of left) ≡ firstLine left ∷ ownLines least n (lines_of (drop n rec))
+  pub own-here : (n : ℕ) → n ≡ at + line_len left → own_line least at left ≡ true → own_lines least at (lines_of left) ≡ first_line left ∷ own_lines least n (lines_of (drop n rec))
   own-here n hn e = own-step n true (own-some e) hn (and-true (ltb 0 (length left)) _ e).1
 
   -- none is
-  pub own-over : ownLine least at left ≡ false → ownLines least at (lines_of left) ≡ []
-  unfolding ownLines lines_of
+  pub own-over : own_line least at left ≡ false → own_lines least at (lines_of left) ≡ []
+  unfolding own_lines lines_of
   own-over e = by_size (known (ltb at (length rec)))
     where
-      by_size : Known (ltb at (length rec)) → ownLines least at (lines_of left) ≡ []
+      by_size : Known (ltb at (length rec)) → own_lines least at (lines_of left) ≡ []
       by_size (holds t) =
           let h = ltb-true at (length rec) t in
-          own-step (at + lineLen left) false h refl (sym (rw (lt-ltb 0 (length left) (omega (arith, length-drop at rec)))) ∙ e)
+          own-step (at + line_len left) false h refl (sym (rw (lt-ltb 0 (length left) (omega (arith, length-drop at rec)))) ∙ e)
       by_size (fails t) = rw (drop_of_length-le rec {i = at} (ltb-false at (length rec) t))
 
 -- ---- one byte is known
 
-after_first : (p : ℕ) (ls : List Line) → 1 ≤ p → ownLines 1 p ls ≡ further ls
-unfolding ownLines further
+after_first : (p : ℕ) (ls : List Line) → 1 ≤ p → own_lines 1 p ls ≡ further ls
+unfolding own_lines further
 after_first p [] h = refl
 after_first p (l ∷ ls) h = rw (le-ltb p 1 h, after_first (p + size_of l) ls (omega arith))
 
-pub first-own : (xs : Bytes) → 0 < length xs → ownLines 1 0 (lines_of xs) ≡ firstRecord (lines_of xs)
-unfolding ownLines firstRecord
-first-own xs h = rw (first_of xs h) (ap (λ (ls : List Line). firstLine xs ∷ ls) (after_first _ _ (omega (arith, first-size xs, line-some xs h))))
+pub first-own : (xs : Bytes) → 0 < length xs → own_lines 1 0 (lines_of xs) ≡ first_record (lines_of xs)
+unfolding own_lines first_record
+first-own xs h = rw (first_of xs h) (ap (λ (ls : List Line). first_line xs ∷ ls) (after_first _ _ (omega (arith, first-size xs, line-some xs h))))
 
 -- ---- all are known
 
-past_all : (rec : Bytes) (at : ℕ) → length rec ≤ at → ownLines (length rec) at (lines_of (drop at rec)) ≡ lines_of (drop at rec)
-unfolding ownLines lines_of
+past_all : (rec : Bytes) (at : ℕ) → length rec ≤ at → own_lines (length rec) at (lines_of (drop at rec)) ≡ lines_of (drop at rec)
+unfolding own_lines lines_of
 past_all rec at h = rw (drop_of_length-le rec {i = at} h)
 
 -- at `at`, where the lines after the first are its own
-all-step : (rec : Bytes) (at : ℕ) → (at < length rec → ownLines (length rec) (at + lineLen (drop at rec)) (lines_of (drop (at + lineLen (drop at rec)) rec)) ≡ lines_of (drop (at + lineLen (drop at rec)) rec))
-    → Known (ltb at (length rec)) → ownLines (length rec) at (lines_of (drop at rec)) ≡ lines_of (drop at rec)
+all-step : (rec : Bytes) (at : ℕ) → (at < length rec → own_lines (length rec) (at + line_len (drop at rec)) (lines_of (drop (at + line_len (drop at rec)) rec)) ≡ lines_of (drop (at + line_len (drop at rec)) rec))
+    → Known (ltb at (length rec)) → own_lines (length rec) at (lines_of (drop at rec)) ≡ lines_of (drop at rec)
 all-step rec at ih (holds t) =
     let h = ltb-true at (length rec) t in
-    own-step rec (length rec) at (at + lineLen (drop at rec)) true h refl (rw t)
-    ∙ ap (λ (ls : List Line). firstLine (drop at rec) ∷ ls) (ih h)
-    ∙ sym (lines-here rec at (at + lineLen (drop at rec)) h refl)
+    own-step rec (length rec) at (at + line_len (drop at rec)) true h refl (rw t)
+    ∙ ap (λ (ls : List Line). first_line (drop at rec) ∷ ls) (ih h)
+    ∙ sym (lines-here rec at (at + line_len (drop at rec)) h refl)
 all-step rec at ih (fails t) = past_all rec at (ltb-false at (length rec) t)
 
-all_from : (most : ℕ) (rec : Bytes) (at : ℕ) → length rec - at ≤ most → ownLines (length rec) at (lines_of (drop at rec)) ≡ lines_of (drop at rec)
+all_from : (most : ℕ) (rec : Bytes) (at : ℕ) → length rec - at ≤ most → own_lines (length rec) at (lines_of (drop at rec)) ≡ lines_of (drop at rec)
 all_from zero rec at h = past_all rec at (omega arith)
 all_from (suc most) rec at h =
     all-step rec at
-    (λ low. all_from most rec (at + lineLen (drop at rec)) (omega (arith, line-some (drop at rec) (omega (arith, length-drop at rec)))))
+    (λ low. all_from most rec (at + line_len (drop at rec)) (omega (arith, line-some (drop at rec) (omega (arith, length-drop at rec)))))
     (known (ltb at (length rec)))
 
-pub all_own : (rec : Bytes) → ownLines (length rec) 0 (lines_of rec) ≡ lines_of rec
+pub all_own : (rec : Bytes) → own_lines (length rec) 0 (lines_of rec) ≡ lines_of rec
 all_own rec = all_from (length rec) rec 0 (omega arith)

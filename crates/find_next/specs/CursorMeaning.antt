@@ -1,54 +1,54 @@
 -- What is left to yield where the walk over a record stands somewhere, and what `next_field` promises. Assumes nothing.
 use Rattle.std.specs.Prelude.{ℕ, suc, ◌+◌, ◌-◌, ◌*◌, ◌≤◌, ◌<◌, ◌≡◌, Bool, true, false, cond, ◌&&◌, ◌||◌, List, [], ◌∷◌, leb, ltb, length, take, drop}
 use Rattle.std.proofs.Math.Seq.{slice}
-use Rattle.rules.specs.Bytes.{Bytes, sameBytes}
-use Rattle.rules.specs.Lines.{Line, size_of, lines_of, codeBytes, begins, continuation}
-use Rattle.rules.specs.Cells.{cellsFrom}
-use Rattle.rules.specs.Grammar.{Kind, mayLack}
-use Rattle.base_refusals.specs.RefusalMeaning.{refusalMeant}
+use Rattle.rules.specs.Bytes.{Bytes, same_bytes}
+use Rattle.rules.specs.Lines.{Line, size_of, lines_of, code_bytes, begins, continuation}
+use Rattle.rules.specs.Cells.{cells_from}
+use Rattle.rules.specs.Grammar.{Kind, may_lack}
+use Rattle.base_refusals.specs.RefusalMeaning.{refusal_meant}
 use Rattle.base_quantities.specs.declared.Place.{Place}
 use Rattle.read_wanted.specs.declared.want.Want.{Want}
-use Rattle.read_wanted.specs.Wants.{wantedOf}
+use Rattle.read_wanted.specs.Wants.{wanted_of}
 use Rattle.find_next.specs.declared.Cursor.{Cursor}
 use Rattle.find_next.specs.declared.Next.{Next}
 use Rattle.find_next.specs.declared.Next.TheVariants as next
 use Rattle.find_next.specs.declared.Ahead.{Ahead}
 use Rattle.find_next.specs.declared.Ahead.TheVariants as ahead
-use Rattle.find_next.specs.FieldTrace.{Trace, stops, ends, yields, field_at, traceCells, traceLines}
+use Rattle.find_next.specs.FieldTrace.{Trace, stops, ends, yields, field_at, trace_cells, trace_lines}
 
 -- the record in front of bytes that has so many bytes or more: the lines that start among them, and the 88 lines after these; p: where the first line starts.
--- Stands for `firstRecord` (rules' first record, read_lines/specs/LineLengths.antt) where at least one byte is known to be its own, and for all lines where all
+-- Stands for `first_record` (rules' first record, read_lines/specs/LineLengths.antt) where at least one byte is known to be its own, and for all lines where all
 -- bytes are; joined by `first-own` and `all_own` (proofs/OwnLines.antt)
-unfoldable pub ownLines : ℕ → ℕ → List Line → List Line
-ownLines least p [] = []
-ownLines least p (l ∷ ls) = cond (ltb p least || begins continuation l) (l ∷ ownLines least (p + size_of l) ls) []
+unfoldable pub own_lines : ℕ → ℕ → List Line → List Line
+own_lines least p [] = []
+own_lines least p (l ∷ ls) = cond (ltb p least || begins continuation l) (l ∷ own_lines least (p + size_of l) ls) []
 
 -- the bytes from p on begin with such a line
-abbrev pub ownLine : ℕ → ℕ → Bytes → Bool
-ownLine least p xs = ltb 0 (length xs) && (ltb p least || sameBytes (codeBytes continuation) (take 3 xs))
+abbrev pub own_line : ℕ → ℕ → Bytes → Bool
+own_line least p xs = ltb 0 (length xs) && (ltb p least || same_bytes (code_bytes continuation) (take 3 xs))
 
 -- the lines from n on
 abbrev pub lines_from : Bytes → ℕ → ℕ → List Kind → ℕ → Trace
-lines_from rec least n ks s = traceLines n ks s (ownLines least n (lines_of (drop n rec)))
+lines_from rec least n ks s = trace_lines n ks s (own_lines least n (lines_of (drop n rec)))
 
 -- before the field at a, in a line that ends at e; or, where a is past e, before the line at n
-unfoldable pub traceFrom : Bytes → ℕ → List Kind → (a e n s : ℕ) → Trace
-traceFrom rec least ks a e n s = cond (leb a e) (traceCells ks s (cellsFrom a (slice a e rec)) (lines_from rec least n)) (lines_from rec least n ks s)
+unfoldable pub trace_from : Bytes → ℕ → List Kind → (a e n s : ℕ) → Trace
+trace_from rec least ks a e n s = cond (leb a e) (trace_cells ks s (cells_from a (slice a e rec)) (lines_from rec least n)) (lines_from rec least n ks s)
 
-unfoldable pub traceOf : Bytes → ℕ → Cursor → Trace
-traceOf rec least c = traceFrom rec least (wantedOf c.want) c.at.0 c.end.0 c.line.0 c.slash.0
+unfoldable pub trace_of : Bytes → ℕ → Cursor → Trace
+trace_of rec least c = trace_from rec least (wanted_of c.want) c.at.0 c.end.0 c.line.0 c.slash.0
 
 -- the answer, where these kinds are wanted
-abbrev pub nextMeant : Bytes → ℕ → List Kind → Next → Trace
-nextMeant rec least ks (next.Refused why) = stops (refusalMeant why)
-nextMeant rec least ks next.Over = ends
-nextMeant rec least ks (next.Field p n c) = yields (field_at ks p.0 (take n (drop p.0 rec))) (traceOf rec least c)
+abbrev pub next_meant : Bytes → ℕ → List Kind → Next → Trace
+next_meant rec least ks (next.Refused why) = stops (refusal_meant why)
+next_meant rec least ks next.Over = ends
+next_meant rec least ks (next.Field p n c) = yields (field_at ks p.0 (take n (drop p.0 rec))) (trace_of rec least c)
 
 -- where the walk stands in a line, or that it ends
-abbrev pub aheadMeant : Bytes → ℕ → Ahead → Trace
-aheadMeant rec least (ahead.Refused why) = stops (refusalMeant why)
-aheadMeant rec least ahead.Over = ends
-aheadMeant rec least (ahead.Line c) = traceOf rec least c
+abbrev pub ahead_meant : Bytes → ℕ → Ahead → Trace
+ahead_meant rec least (ahead.Refused why) = stops (refusal_meant why)
+ahead_meant rec least ahead.Over = ends
+ahead_meant rec least (ahead.Line c) = trace_of rec least c
 
 -- a walk that `before_record` began stands inside the record
 pub record Inside (rec : Bytes) (c : Cursor) : Type 0 where
@@ -57,11 +57,11 @@ pub record Inside (rec : Bytes) (c : Cursor) : Type 0 where
   pub slashed : c.slash.0 ≤ length rec
 
 -- how much is left of the record: falls with every field
-unfoldable pub leftFrom : Bytes → (a e n : ℕ) → ℕ
-leftFrom rec a e n = cond (leb a e) (suc (length rec - a)) (length rec - n)
+unfoldable pub left_from : Bytes → (a e n : ℕ) → ℕ
+left_from rec a e n = cond (leb a e) (suc (length rec - a)) (length rec - n)
 
 abbrev pub left_of : Bytes → Cursor → ℕ
-left_of rec c = leftFrom rec c.at.0 c.end.0 c.line.0
+left_of rec c = left_from rec c.at.0 c.end.0 c.line.0
 
 -- a place that a caller may add to the record's start: in the record or, where it has a line, right after it
 abbrev pub Near : Bytes → ℕ → Type 0
@@ -75,7 +75,7 @@ Onward rec c (next.Field p n d) = Inside rec c → (p.0 + n ≤ length rec) × I
 
 -- in a line, before the field at its place
 pub record Takes (rec : Bytes) (least : ℕ) (c : Cursor) (r : Next) : Type 0 where
-  pub answer : traceCells (wantedOf c.want) c.slash.0 (cellsFrom c.at.0 (slice c.at.0 c.end.0 rec)) (lines_from rec least c.line.0) ≡ nextMeant rec least (wantedOf c.want) r
+  pub answer : trace_cells (wanted_of c.want) c.slash.0 (cells_from c.at.0 (slice c.at.0 c.end.0 rec)) (lines_from rec least c.line.0) ≡ next_meant rec least (wanted_of c.want) r
   pub onward : c.at.0 ≤ c.end.0 → Onward rec c r
 
 -- whatever is known of the record
@@ -90,16 +90,16 @@ Ready rec c (ahead.Line d) = (d.want ≡ c.want) × (d.at.0 ≤ d.end.0) × (Ins
 
 -- where no line is left: what is wanted, the last slash that ended a line, and the answer, which is no line
 abbrev pub Ends : Want → Place → Ahead → Type 0
-Ends w s (ahead.Refused why) = (mayLack (wantedOf w) ≡ false) × (why ≡ record { number = 8; place = s })
-Ends w s ahead.Over = mayLack (wantedOf w) ≡ true
+Ends w s (ahead.Refused why) = (may_lack (wanted_of w) ≡ false) × (why ≡ record { number = 8; place = s })
+Ends w s ahead.Over = may_lack (wanted_of w) ≡ true
 Ends w s (ahead.Line c) = ⊥
 
 -- a record's bytes, where the walk stands, and where it stands in a line
 pub record Enters (rec : Bytes) (least : ℕ) (c : Cursor) (r : Ahead) : Type 0 where
-  pub answer : traceOf rec least c ≡ aheadMeant rec least r
+  pub answer : trace_of rec least c ≡ ahead_meant rec least r
   pub ready : Ready rec c r
 
 -- a record's bytes, where the walk stands, and the answer
 pub record Steps (rec : Bytes) (least : ℕ) (c : Cursor) (r : Next) : Type 0 where
-  pub answer : traceOf rec least c ≡ nextMeant rec least (wantedOf c.want) r
+  pub answer : trace_of rec least c ≡ next_meant rec least (wanted_of c.want) r
   pub onward : Onward rec c r

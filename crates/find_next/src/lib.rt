@@ -2,9 +2,9 @@
 ghost use Rattle.std.specs.Prelude.{ℕ, ◌≡◌, drop};
 ghost use Rattle.rules.specs.Bytes.{Bytes};
 ghost use Rattle.rules.specs.Lines.{lines_of};
-ghost use Rattle.read_wanted.specs.Wants.{wantedOf};
-ghost use Rattle.find_next.specs.FieldTrace.{traceLines};
-ghost use Rattle.find_next.specs.CursorMeaning.{ownLines, ownLine, traceOf, Inside, TakesNext, Ends, Enters, Steps};
+ghost use Rattle.read_wanted.specs.Wants.{wanted_of};
+ghost use Rattle.find_next.specs.FieldTrace.{trace_lines};
+ghost use Rattle.find_next.specs.CursorMeaning.{own_lines, own_line, trace_of, Inside, TakesNext, Ends, Enters, Steps};
 ghost use Rattle.find_next.specs.declared.Next.TheVariants.{Refused};
 
 use base_codes::Code;
@@ -56,7 +56,7 @@ fn before_line(want: Want, line: Place, slash: Place) -> Cursor
 
 // The walk before a record's first line, where this is wanted first.
 pub fn before_record(first: Want) -> Cursor
-    ensures { (result.want ≡ first) × ((rec : Bytes) (least : ℕ) → (traceOf rec least result ≡ traceLines 0 (wantedOf first) 0 (ownLines least 0 (lines_of rec))) × Inside rec result) }
+    ensures { (result.want ≡ first) × ((rec : Bytes) (least : ℕ) → (trace_of rec least result ≡ trace_lines 0 (wanted_of first) 0 (own_lines least 0 (lines_of rec))) × Inside rec result) }
 {
     before_line(first, Place(0), Place(0))
 }
@@ -111,7 +111,7 @@ fn field_here(rec: &[u8], walk: Cursor) -> Next
 
 // A line of the record starts there: one that starts among its first `least` bytes, or an 88 line.
 fn is_own(rec: &[u8], least: usize, start: Place) -> bool
-    ensures { result ≡ ownLine least start.0 (drop start.0 rec.now) }
+    ensures { result ≡ own_line least start.0 (drop start.0 rec.now) }
 {
     if rec.len() <= start.0 {
         return false;

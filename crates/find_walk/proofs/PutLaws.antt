@@ -9,16 +9,16 @@ use lib.Dec.{eqb, leb}
 use lib.ListN.{length, set, take, drop, get_or, take-append-drop, length-append, length-drop}
 use lib.Seq.{take_at, drop_at, drop-cons, length-take-le}
 use Rattle.rules.specs.Bytes.{Bytes, slash, just}
-use Rattle.rules.specs.Grammar.{Kind, kindNumber, nextKind}
-use Rattle.rules.specs.HandedOut.{handedLength}
+use Rattle.rules.specs.Grammar.{Kind, kind_number, next_kind}
+use Rattle.rules.specs.HandedOut.{handed_length}
 use Rattle.rules.proofs.Tests.{Known, holds, fails, known}
 use Rattle.find_next.specs.FieldTrace.{field_at}
-use Rattle.find_walk.specs.WalkEnds.{putThrees, PutsThree}
+use Rattle.find_walk.specs.WalkEnds.{put_threes, PutsThree}
 
 -- ---- with room for less than three nothing is put
 
-short : (ns out : List ℕ) → length out < 3 → putThrees ns out ≡ out
-unfolding putThrees
+short : (ns out : List ℕ) → length out < 3 → put_threes ns out ≡ out
+unfolding put_threes
 short [] out h = refl
 short (k ∷ []) out h = refl
 short (k ∷ p ∷ []) out h = refl
@@ -30,10 +30,10 @@ short (k ∷ p ∷ l ∷ ns) (a ∷ b ∷ c ∷ out) h = absurd (omega arith)
 -- ---- the slice, of which the first `at` numbers stand, with what is still to be put
 
 abbrev pub onto : List ℕ → ℕ → List ℕ → List ℕ
-onto ns at out = take at out ++ putThrees ns (drop at out)
+onto ns at out = take at out ++ put_threes ns (drop at out)
 
 pub onto-end : (at : ℕ) (out : List ℕ) → onto [] at out ≡ out
-unfolding putThrees
+unfolding put_threes
 onto-end at out = take-append-drop at out
 
 -- three numbers are put, or find no room
@@ -66,11 +66,11 @@ module _ (k p l : ℕ) (ns out : List ℕ) (at : ℕ) where
     put-size = length-append front (k ∷ p ∷ l ∷ back) ∙ (let z = length-take-le at out (omega arith) in let y = length-drop (at + 3) out in omega arith)
 
     onto-put : onto (k ∷ p ∷ l ∷ ns) at out ≡ onto ns (at + 3) put
-    unfolding putThrees
+    unfolding put_threes
     onto-put =
         let taken : take (at + 3) put ≡ front ++ (k ∷ p ∷ l ∷ []) = ap (λ (xs : List ℕ). take (at + 3) xs) three ∙ take_at (front ++ (k ∷ p ∷ l ∷ [])) back (at + 3) front-size in
         let dropped : drop (at + 3) put ≡ back = ap (λ (xs : List ℕ). drop (at + 3) xs) three ∙ drop_at (front ++ (k ∷ p ∷ l ∷ [])) back (at + 3) front-size in
-        rw (three-there, taken, dropped) (sym (append_assoc front (k ∷ p ∷ l ∷ []) (putThrees ns back)))
+        rw (three-there, taken, dropped) (sym (append_assoc front (k ∷ p ∷ l ∷ []) (put_threes ns back)))
 
   onto-full : length out < at + 3 → onto (k ∷ p ∷ l ∷ ns) at out ≡ onto ns at out
   onto-full h =
@@ -118,6 +118,6 @@ plain-length kind f h = rw (ne_eqb 21 kind (λ q. h (sym q)))
 pub text-length : (kind : ℕ) (f : Bytes) (t : Bool) → kind ≡ 21 → just slash f ≡ t → cond t 0 (length f) ≡ cond (eqb 21 kind && just slash f) 0 (length f)
 text-length kind f t q e = rw (q, e)
 
-pub shown-is : (ks : List Kind) (p : ℕ) (bs : Bytes) (kind : ℕ) → kind ≡ kindNumber (nextKind ks) → cond (eqb 21 kind && just slash bs) 0 (length bs) ≡ handedLength (field_at ks p bs)
-unfolding handedLength
+pub shown-is : (ks : List Kind) (p : ℕ) (bs : Bytes) (kind : ℕ) → kind ≡ kind_number (next_kind ks) → cond (eqb 21 kind && just slash bs) 0 (length bs) ≡ handed_length (field_at ks p bs)
+unfolding handed_length
 shown-is ks p bs kind q = rw q

@@ -1,7 +1,7 @@
 // The walk over a record's fields up to one of a kind, or to its end: the numbers of each field that it passes, and where it ends.
 ghost use Rattle.std.specs.Prelude.{◌≡◌, cond, ◌&&◌, ◌∷◌, ◌++◌, ◌+◌, ◌≤◌, ◌<◌, eqb, length, take, drop};
 ghost use Rattle.rules.specs.Bytes.{slash, just};
-ghost use Rattle.base_codes.specs.CodeMeaning.{codeMeant};
+ghost use Rattle.base_codes.specs.CodeMeaning.{code_meant};
 ghost use Rattle.find_walk.specs.declared.Reached.TheVariants.{Refused};
 ghost use Rattle.find_walk.specs.WalkEnds.{PutsThree, WalksTo};
 
@@ -94,7 +94,7 @@ pub fn walk_to(
     sought: u64,
     out: &mut [u64],
 ) -> Reached
-    ensures { WalksTo (drop start.0 file.now) start.0 least (codeMeant code) sought out.old out.new result }
+    ensures { WalksTo (drop start.0 file.now) start.0 least (code_meant code) sought out.old out.new result }
 {
     let rec = base_slices::part(file, start, Place(file.len()));
     let mut walk = find_next::before_record(want::first_want(code));

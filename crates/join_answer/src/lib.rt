@@ -3,8 +3,8 @@ ghost use Rattle.std.specs.Prelude.{◌≡◌};
 ghost use Rattle.rules.specs.Bytes.{Bytes};
 ghost use Rattle.rules.specs.Outcome.{refused};
 ghost use Rattle.rules.specs.Combine.{answered};
-ghost use Rattle.base_refusals.specs.RefusalMeaning.{refusalMeant};
-ghost use Rattle.join_answer.specs.AnswerMeaning.{answerMeant};
+ghost use Rattle.base_refusals.specs.RefusalMeaning.{refusal_meant};
+ghost use Rattle.join_answer.specs.AnswerMeaning.{answer_meant};
 
 use base_refusals::Refusal;
 
@@ -17,7 +17,7 @@ pub struct Answer {
 
 // Refused, with nothing written.
 pub fn refused(why: Refusal) -> Answer
-    ensures { (out : Bytes) → answerMeant result out ≡ answered (refused (refusalMeant why)) 0 out }
+    ensures { (out : Bytes) → answer_meant result out ≡ answered (refused (refusal_meant why)) 0 out }
 {
     Answer {
         refusal: why,

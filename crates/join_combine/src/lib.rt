@@ -2,18 +2,18 @@
 ghost use Rattle.std.specs.Prelude.{◌≡◌, ◌++◌, ◌+◌, ◌-◌, ◌≤◌, T, length};
 ghost use Rattle.rules.specs.Bytes.{Bytes};
 ghost use Rattle.rules.specs.Numbers.{◌⊕◌};
-ghost use Rattle.rules.specs.Lines.{lines_of, recordSize};
-ghost use Rattle.rules.specs.Limits.{longestFile};
+ghost use Rattle.rules.specs.Lines.{lines_of, record_size};
+ghost use Rattle.rules.specs.Limits.{longest_file};
 ghost use Rattle.rules.specs.Outcome.{refused, refuse};
-ghost use Rattle.rules.specs.Combine.{answered, linesWithin};
+ghost use Rattle.rules.specs.Combine.{answered, lines_within};
 ghost use Rattle.rules.specs.Combine as rules;
-ghost use Rattle.base_quantities.specs.QuantityMeanings.{sumMeant};
-ghost use Rattle.base_refusals.specs.RefusalMeaning.{refusalMeant};
+ghost use Rattle.base_quantities.specs.QuantityMeanings.{sum_meant};
+ghost use Rattle.base_refusals.specs.RefusalMeaning.{refusal_meant};
 ghost use Rattle.base_numerals.specs.PutBytes.{Put};
-ghost use Rattle.read_lines.specs.LineLengths.{firstRecord};
-ghost use Rattle.base_totals.specs.SummaryMeaning.{summaryMeant};
+ghost use Rattle.read_lines.specs.LineLengths.{first_record};
+ghost use Rattle.base_totals.specs.SummaryMeaning.{summary_meant};
 ghost use Rattle.read_file.specs.FileAnswers.{IsGood};
-ghost use Rattle.join_combine.specs.CombineAnswers.{combinedMeant, combinedAccepted, combinedFitting};
+ghost use Rattle.join_combine.specs.CombineAnswers.{combined_meant, combined_accepted, combined_fitting};
 
 use base_limits::LONGEST_FILE;
 use base_quantities::{Count, Place, Records, Units, UnitsSum};
@@ -31,7 +31,7 @@ pub struct Combined {
 
 // Refused, with nothing written.
 fn refused(why: Refusal, file: u64) -> Combined
-    ensures { (out : Bytes) → combinedMeant result out ≡ answered (refused (refusalMeant why)) file out }
+    ensures { (out : Bytes) → combined_meant result out ≡ answered (refused (refusal_meant why)) file out }
 {
     Combined {
         refusal: why,
@@ -42,7 +42,7 @@ fn refused(why: Refusal, file: u64) -> Combined
 
 // Refused by this number, at place 0: neither file shows it alone.
 fn refused_by(number: u64) -> Combined
-    ensures { (out : Bytes) → combinedMeant result out ≡ answered (refuse number 0) 0 out }
+    ensures { (out : Bytes) → combined_meant result out ≡ answered (refuse number 0) 0 out }
 {
     refused(
         Refusal {
@@ -67,7 +67,7 @@ fn less(all: Records, some: Records) -> Records
 
 // The groups of two files together.
 fn both(a: Count, b: Count) -> Count
-    requires { (a.0 ≤ longestFile) × (b.0 ≤ longestFile) }
+    requires { (a.0 ≤ longest_file) × (b.0 ≤ longest_file) }
     ensures { result.0 ≡ a.0 + b.0 }
 {
     Count(a.0 + b.0)
@@ -75,8 +75,8 @@ fn both(a: Count, b: Count) -> Count
 
 // No line is over the limit, of lines none of which is over `known`.
 fn within(s: &[u8], known: usize, limit: usize) -> bool
-    requires { T (linesWithin known (lines_of s.now)) }
-    ensures { result ≡ linesWithin limit (lines_of s.now) }
+    requires { T (lines_within known (lines_of s.now)) }
+    ensures { result ≡ lines_within limit (lines_of s.now) }
 {
     if known <= limit {
         return true;
@@ -89,7 +89,7 @@ fn within(s: &[u8], known: usize, limit: usize) -> bool
 
 // How many records two files of so many have without those in these three parts.
 fn records_left(m: Records, n: Records, x: &[u8], y: &[u8], z: &[u8]) -> Records
-    requires { (m.0 ≤ longestFile) × (n.0 ≤ longestFile) × (length x.now ≤ longestFile) × (length y.now ≤ longestFile) × (length z.now ≤ longestFile) }
+    requires { (m.0 ≤ longest_file) × (n.0 ≤ longest_file) × (length x.now ≤ longest_file) × (length y.now ≤ longest_file) × (length z.now ≤ longest_file) }
     ensures { result.0 ≡ (m.0 + n.0) - (length (lines_of x.now) + length (lines_of y.now) + length (lines_of z.now)) }
 {
     let gone = join_trailer::count_lines(x)
@@ -119,8 +119,8 @@ fn combine_fitting(
     total: Units,
     out: &mut [u8],
 ) -> Combined
-    requires { (IsGood first a.now) × (IsGood second b.now) × (header ≡ recordSize (firstRecord (lines_of b.now))) × (sumMeant total ≡ sumMeant first.summary.total ⊕ sumMeant second.summary.total) }
-    ensures { combinedMeant result out.new ≡ combinedFitting a.now b.now out.old }
+    requires { (IsGood first a.now) × (IsGood second b.now) × (header ≡ record_size (first_record (lines_of b.now))) × (sum_meant total ≡ sum_meant first.summary.total ⊕ sum_meant second.summary.total) }
+    ensures { combined_meant result out.new ≡ combined_fitting a.now b.now out.old }
 {
     let s = first.summary;
     let t = second.summary;
@@ -160,7 +160,7 @@ fn combine_accepted(
     out: &mut [u8],
 ) -> Combined
     requires { (IsGood first a.now) × (IsGood second b.now) }
-    ensures { combinedMeant result out.new ≡ combinedAccepted (summaryMeant first.summary) (summaryMeant second.summary) a.now b.now out.old }
+    ensures { combined_meant result out.new ≡ combined_accepted (summary_meant first.summary) (summary_meant second.summary) a.now b.now out.old }
 {
     let s = first.summary;
     let t = second.summary;
@@ -180,7 +180,7 @@ fn combine_accepted(
 
 // Both files in one: A's refusal, B's, 10, 18, 15.
 pub fn combine(a: &[u8], b: &[u8], out: &mut [u8]) -> Combined
-    ensures { combinedMeant result out.new ≡ rules.combine a.now b.now out.old }
+    ensures { combined_meant result out.new ≡ rules.combine a.now b.now out.old }
 {
     match read_file::judge_file(a) {
         Judged::Refused(why) => refused(why, 1),

@@ -6,43 +6,43 @@ use mathlib.Core.Bool.{Bool, true, false}
 use mathlib.Core.List.{List, [], ◌∷◌}
 use lib.ListN.{length, take, drop, length-take, length-drop}
 use lib.Seq.{drop-drop, length-take-le}
-use Rattle.rules.specs.Bytes.{Bytes, sameBytes}
-use Rattle.rules.specs.Lines.{lines_of, groupHeader, groupTrailer, fileTrailer, codeBytes, begins, Record, recordSize, recordBytes, fileRecords}
+use Rattle.rules.specs.Bytes.{Bytes, same_bytes}
+use Rattle.rules.specs.Lines.{lines_of, group_header, group_trailer, file_trailer, code_bytes, begins, Record, record_size, record_bytes, file_records}
 use Rattle.rules.specs.Order.{among}
-use Rattle.rules.specs.Parts.{heads, sizeOfAll}
+use Rattle.rules.specs.Parts.{heads, size_of_all}
 use Rattle.rules.proofs.Tests.{same-eq}
-use Rattle.read_lines.specs.LineLengths.{firstLine, firstRecord}
+use Rattle.read_lines.specs.LineLengths.{first_line, first_record}
 use Rattle.read_lines.proofs.LineLengthLaws.{first_of}
 use Rattle.read_lines.proofs.Fronts.{begins-front}
 use Rattle.read_lines.proofs.OneRecord.{first_part}
-use Rattle.find_lines.specs.LinesOfCode.{bytesBefore}
+use Rattle.find_lines.specs.LinesOfCode.{bytes_before}
 use Rattle.laws.proofs.Codes.{of-own, not-of}
 use Rattle.join_receivers.specs.NamedReceiver.{named}
-use Rattle.join_groups.specs.GroupsTaken.{cutAfter, firstIn, lastIn, inFront, named_in, groupsTaken}
+use Rattle.join_groups.specs.GroupsTaken.{cut_after, first_in, last_in, in_front, named_in, groups_taken}
 use Rattle.join_groups.proofs.GroupExtents.{Next, next, first-whole, first-heads, none}
 
-three : (x y z : ℕ) (xs : Bytes) → sameBytes (x ∷ y ∷ z ∷ []) (take 3 xs) ≡ true → 3 ≤ length xs
+three : (x y z : ℕ) (xs : Bytes) → same_bytes (x ∷ y ∷ z ∷ []) (take 3 xs) ≡ true → 3 ≤ length xs
 three x y z xs e = omega (arith, ap length (same-eq (x ∷ y ∷ z ∷ []) (take 3 xs) (rw e tt)), length-take 3 xs)
 
-module _ (xs : Bytes) (begun : sameBytes (codeBytes groupHeader) (take 3 xs) ≡ true) where
+module _ (xs : Bytes) (begun : same_bytes (code_bytes group_header) (take 3 xs) ≡ true) where
   some-code : 3 ≤ length xs
   some-code = three 48 50 44 xs begun
 
   -- the 02's own line is passed over
-  far : 3 ≤ bytesBefore groupTrailer fileTrailer (lines_of xs)
-  unfolding bytesBefore among sameBytes begins
+  far : 3 ≤ bytes_before group_trailer file_trailer (lines_of xs)
+  unfolding bytes_before among same_bytes begins
   far =
-      let l = firstLine xs in
-      let is-02 : begins groupHeader l ≡ true = begins-front groupHeader xs ∙ begun in
-      let o = of-own groupHeader [] (l ∷ []) (rw is-02 tt) in
+      let l = first_line xs in
+      let is-02 : begins group_header l ≡ true = begins-front group_header xs ∙ begun in
+      let o = of-own group_header [] (l ∷ []) (rw is-02 tt) in
       let size = three 48 50 44 l.body is-02 in
-      rw (first_of xs (omega (arith, some-code)), not-of (groupHeader ∷ []) groupTrailer (l ∷ []) tt o, not-of (groupHeader ∷ []) fileTrailer (l ∷ []) tt o) (omega arith)
+      rw (first_of xs (omega (arith, some-code)), not-of (group_header ∷ []) group_trailer (l ∷ []) tt o, not-of (group_header ∷ []) file_trailer (l ∷ []) tt o) (omega arith)
 
 -- ---- the places of a turn: the line at `at`, the 98 at t, and the end at e
 
-pub spans : (s : Bytes) (at t e : ℕ) → sameBytes (codeBytes groupHeader) (take 3 (drop at s)) ≡ true
-    → (t ≡ at + bytesBefore groupTrailer fileTrailer (lines_of (drop at s))) × (t ≤ length s + (at - length s))
-    → (e ≡ t + recordSize (firstRecord (lines_of (drop t s)))) × (e ≤ length s + (t - length s))
+pub spans : (s : Bytes) (at t e : ℕ) → same_bytes (code_bytes group_header) (take 3 (drop at s)) ≡ true
+    → (t ≡ at + bytes_before group_trailer file_trailer (lines_of (drop at s))) × (t ≤ length s + (at - length s))
+    → (e ≡ t + record_size (first_record (lines_of (drop t s)))) × (e ≤ length s + (t - length s))
     → (at + 3 ≤ t) × (t ≤ e) × (e ≤ length s) × (length (take (e - at) (drop at s)) ≡ e - at)
 spans s at t e begun (p, p') (q, q') =
     let some = some-code (drop at s) begun in
@@ -55,14 +55,14 @@ spans s at t e begun (p, p') (q, q') =
 -- a group; and it is next of those that are taken for the name, or none of them
 pub record TurnIs (name s : Bytes) (at t e : ℕ) (for-it : Bool) : Type 0 where
   pub group : List Record
-  pub size : e - at ≡ length (recordBytes group)
-  pub part : take (e - at) (drop at s) ≡ recordBytes group
-  pub trailer : lines_of (take (e - t) (drop t s)) ≡ lastIn group
-  pub next-taken : for-it ≡ true → groupsTaken name (drop at s) ≡ group ∷ groupsTaken name (drop e s)
-  pub left_out : for-it ≡ false → groupsTaken name (drop at s) ≡ groupsTaken name (drop e s)
+  pub size : e - at ≡ length (record_bytes group)
+  pub part : take (e - at) (drop at s) ≡ record_bytes group
+  pub trailer : lines_of (take (e - t) (drop t s)) ≡ last_in group
+  pub next-taken : for-it ≡ true → groups_taken name (drop at s) ≡ group ∷ groups_taken name (drop e s)
+  pub left_out : for-it ≡ false → groups_taken name (drop at s) ≡ groups_taken name (drop e s)
 
-module _ (s : Bytes) (at t e : ℕ) (begun : sameBytes (codeBytes groupHeader) (take 3 (drop at s)) ≡ true)
-    (p : t ≡ at + bytesBefore groupTrailer fileTrailer (lines_of (drop at s))) (q : e ≡ t + recordSize (firstRecord (lines_of (drop t s)))) where
+module _ (s : Bytes) (at t e : ℕ) (begun : same_bytes (code_bytes group_header) (take 3 (drop at s)) ≡ true)
+    (p : t ≡ at + bytes_before group_trailer file_trailer (lines_of (drop at s))) (q : e ≡ t + record_size (first_record (lines_of (drop t s)))) where
   abbrev xs : Bytes
   xs = drop at s
 
@@ -75,42 +75,42 @@ module _ (s : Bytes) (at t e : ℕ) (begun : sameBytes (codeBytes groupHeader) (
   abbrev g : List Record
   g = n.group
 
-  last-place : t ≡ at + sizeOfAll n.before
+  last-place : t ≡ at + size_of_all n.before
   last-place = p ∙ ap (λ (k : ℕ). at + k) n.last-starts
 
-  from_last : drop t s ≡ drop (sizeOfAll n.before) xs
-  from_last = ap (λ (k : ℕ). drop k s) last-place ∙ sym (drop-drop (sizeOfAll n.before) at s)
+  from_last : drop t s ≡ drop (size_of_all n.before) xs
+  from_last = ap (λ (k : ℕ). drop k s) last-place ∙ sym (drop-drop (size_of_all n.before) at s)
 
-  last-size : e ≡ t + recordSize (lastIn g)
-  last-size = q ∙ ap (λ (k : ℕ). t + k) (ap (λ (ys : Bytes). recordSize (firstRecord (lines_of ys))) from_last ∙ n.last-ends)
+  last-size : e ≡ t + record_size (last_in g)
+  last-size = q ∙ ap (λ (k : ℕ). t + k) (ap (λ (ys : Bytes). record_size (first_record (lines_of ys))) from_last ∙ n.last-ends)
 
-  turn-size : e - at ≡ length (recordBytes g)
+  turn-size : e - at ≡ length (record_bytes g)
   turn-size = omega (arith, last-size, last-place, n.size)
 
-  turn_last : lines_of (take (e - t) (drop t s)) ≡ lastIn g
-  turn_last = let size : e - t ≡ recordSize (lastIn g) = omega (arith, last-size) in rw (size, from_last) n.last-reads
+  turn_last : lines_of (take (e - t) (drop t s)) ≡ last_in g
+  turn_last = let size : e - t ≡ record_size (last_in g) = omega (arith, last-size) in rw (size, from_last) n.last-reads
 
-  others-are : fileRecords (drop e s) ≡ n.others
+  others-are : file_records (drop e s) ≡ n.others
   others-are =
-      let k : at + length (recordBytes g) ≡ e = omega (arith, last-size, last-place, n.size) in
-      ap (λ (m : ℕ). fileRecords (drop m s)) (sym k) ∙ ap fileRecords (sym (drop-drop (length (recordBytes g)) at s)) ∙ n.after
+      let k : at + length (record_bytes g) ≡ e = omega (arith, last-size, last-place, n.size) in
+      ap (λ (m : ℕ). file_records (drop m s)) (sym k) ∙ ap file_records (sym (drop-drop (length (record_bytes g)) at s)) ∙ n.after
 
-  in-front : inFront (cutAfter (fileRecords xs)) ≡ g ∷ inFront (cutAfter (fileRecords (drop e s)))
-  unfolding inFront
+  in-front : in_front (cut_after (file_records xs)) ≡ g ∷ in_front (cut_after (file_records (drop e s)))
+  unfolding in_front
   in-front =
-      let is-02 : heads groupHeader (firstIn g) ≡ true = ap (heads groupHeader) n.first ∙ first-heads xs ∙ begun in
-      ap inFront n.cut ∙ rw (is-02, others-are)
+      let is-02 : heads group_header (first_in g) ≡ true = ap (heads group_header) n.first ∙ first-heads xs ∙ begun in
+      ap in_front n.cut ∙ rw (is-02, others-are)
 
   -- its 02 ends at h
-  module _ (name : Bytes) (h : ℕ) (for-it : Bool) (header : h ≡ at + recordSize (firstRecord (lines_of xs))) (asked : for-it ≡ named name (lines_of (take (h - at) xs))) where
-    same_test : named name (firstIn g) ≡ for-it
+  module _ (name : Bytes) (h : ℕ) (for-it : Bool) (header : h ≡ at + record_size (first_record (lines_of xs))) (asked : for-it ≡ named name (lines_of (take (h - at) xs))) where
+    same_test : named name (first_in g) ≡ for-it
     same_test =
-        let size : h - at ≡ recordSize (firstRecord (lines_of xs)) = omega (arith, header) in
-        let alone : lines_of (take (h - at) xs) ≡ firstIn g = first_part xs (h - at) size some_bytes ∙ sym (n.first ∙ first-whole xs some_bytes) in
+        let size : h - at ≡ record_size (first_record (lines_of xs)) = omega (arith, header) in
+        let alone : lines_of (take (h - at) xs) ≡ first_in g = first_part xs (h - at) size some_bytes ∙ sym (n.first ∙ first-whole xs some_bytes) in
         sym (asked ∙ ap (λ (r : Record). named name r) alone)
 
     pub turn_is : TurnIs name s at t e for-it
-    unfolding groupsTaken named_in
+    unfolding groups_taken named_in
     turn_is =
         record {
           group = g;
@@ -123,6 +123,6 @@ module _ (s : Bytes) (at t e : ℕ) (begun : sameBytes (codeBytes groupHeader) (
 
 -- ---- the last group was the last
 
-pub no_more : (name xs : Bytes) → sameBytes (codeBytes groupHeader) (take 3 xs) ≡ false → groupsTaken name xs ≡ []
-unfolding groupsTaken named_in
+pub no_more : (name xs : Bytes) → same_bytes (code_bytes group_header) (take 3 xs) ≡ false → groups_taken name xs ≡ []
+unfolding groups_taken named_in
 no_more name xs e = ap (named_in name) (none xs e)

@@ -1,9 +1,9 @@
 // The groups of an accepted file that are for one receiver: their totals and records, from what their 98s state, and their bytes, copied.
 ghost use Rattle.std.specs.Prelude.{◌≡◌, drop};
 ghost use Rattle.rules.specs.Lines.{lines_of};
-ghost use Rattle.base_quantities.specs.QuantityMeanings.{sumMeant};
-ghost use Rattle.join_groups.specs.StatedNumbers.{statedTotal, statedRecords};
-ghost use Rattle.join_groups.specs.GroupsTaken.{groupsTaken, tally_of, slicePut};
+ghost use Rattle.base_quantities.specs.QuantityMeanings.{sum_meant};
+ghost use Rattle.join_groups.specs.StatedNumbers.{stated_total, stated_records};
+ghost use Rattle.join_groups.specs.GroupsTaken.{groups_taken, tally_of, slice_put};
 
 use base_codes::Code;
 use base_quantities::{Count, Place, Records, Units};
@@ -27,7 +27,7 @@ struct GroupTrailer {
 
 // What the 98 in these bytes states; 0 where no such field is found. The search for its total ends at its first field, so that the 98 is passed over once.
 fn read_trailer(rec: &[u8]) -> GroupTrailer
-    ensures { (sumMeant result.total ≡ statedTotal (lines_of rec.now)) × (result.records.0 ≡ statedRecords (lines_of rec.now)) }
+    ensures { (sum_meant result.total ≡ stated_total (lines_of rec.now)) × (result.records.0 ≡ stated_records (lines_of rec.now)) }
 {
     let total = base_amounts::amount_in(find_field::field(rec, Code::GroupTrailer, Sought::Total));
     let records = base_digits::value(find_field::field(rec, Code::GroupTrailer, Sought::Records));
@@ -39,7 +39,7 @@ fn read_trailer(rec: &[u8]) -> GroupTrailer
 
 // What the groups for this name add, of the groups from `from` on; and at the front of out, one after the other, the bytes of each that still fits.
 pub fn take_groups(name: &[u8], file: &[u8], from: Place, out: &mut [u8]) -> Tally
-    ensures { (result ≡ tally_of (groupsTaken name.now (drop from.0 file.now))) × (out.new ≡ slicePut (groupsTaken name.now (drop from.0 file.now)) out.old) }
+    ensures { (result ≡ tally_of (groups_taken name.now (drop from.0 file.now))) × (out.new ≡ slice_put (groups_taken name.now (drop from.0 file.now)) out.old) }
 {
     let mut at = from.0;
     let mut o: usize = 0;

@@ -7,45 +7,45 @@ use lib.ListN.{length, take, drop, length-append, length-take, length-drop}
 use lib.Seq.{take_all}
 use Rattle.rules.specs.Bytes.{Bytes, LF, trimmed}
 use Rattle.rules.specs.Outcome.{Refusal, Outcome, refused, fine, ◌>>=◌}
-use Rattle.rules.specs.Lines.{Line, lineBytes}
+use Rattle.rules.specs.Lines.{Line, line_bytes}
 use Rattle.rules.specs.Totals.{Summary}
-use Rattle.rules.specs.Verdict.{judgeLines}
+use Rattle.rules.specs.Verdict.{judge_lines}
 use Rattle.rules.specs.Combine.{answered}
-use Rattle.rules.specs.Blocks.{blocksOf, judgeBlocks, linesOfBlocks, inLines, blocksToLines}
+use Rattle.rules.specs.Blocks.{blocks_of, judge_blocks, lines_of_blocks, in_lines, blocks_to_lines}
 use Rattle.rules.proofs.Binds.{from-bind}
-use Rattle.read_lines.specs.Cuts.{linesBy, bodyBy, tailBy}
+use Rattle.read_lines.specs.Cuts.{lines_by, body_by, tail_by}
 use Rattle.read_lines.proofs.CutLaws.{front_length}
 use Rattle.read_lines.proofs.LineLaws.{lines-here-by, no_lines}
 use Rattle.read_field_ends.proofs.FieldLengthLaws.{trim-most}
-use Rattle.read_cuts.specs.Reaches.{reachBy}
+use Rattle.read_cuts.specs.Reaches.{reach_by}
 use Rattle.read_cuts.proofs.ReachLaws.{by_number, block-reach, block-next, reach-some, reach-within}
-use Rattle.join_lines.specs.LinesWritten.{block_line, block_lines, linesFitting}
+use Rattle.join_lines.specs.LinesWritten.{block_line, block_lines, lines_fitting}
 
 -- no block is left
 pub no_block : (size : ℕ) (file : Bytes) (at : ℕ) → length file ≤ at → block_lines size (drop at file) ≡ []
-unfolding block_lines linesOfBlocks lineBytes
+unfolding block_lines lines_of_blocks line_bytes
 no_block size file at h = rw (no_lines size file at h)
 
 -- ---- the block at `at`
 
 one_block : (m : ℕ) (file : Bytes) (at : ℕ) → at < length file
-    → block_lines (suc m) (drop at file) ≡ block_line (drop at (reachBy (suc m) at file)) ++ block_lines (suc m) (drop (length (reachBy (suc m) at file)) file)
-unfolding block_lines linesOfBlocks lineBytes bodyBy
+    → block_lines (suc m) (drop at file) ≡ block_line (drop at (reach_by (suc m) at file)) ++ block_lines (suc m) (drop (length (reach_by (suc m) at file)) file)
+unfolding block_lines lines_of_blocks line_bytes body_by
 one_block m file at h =
-    rw (lines-here-by (suc m) file at (length (reachBy (suc m) at file)) h (block-next m at file h), block-reach m at file, ← front_length (suc m) (drop at file))
+    rw (lines-here-by (suc m) file at (length (reach_by (suc m) at file)) h (block-next m at file h), block-reach m at file, ← front_length (suc m) (drop at file))
 
 module _ (size : ℕ) (some : 0 < size) (file : Bytes) (at : ℕ) (h : at < length file) where
   each : size ≡ 0 → ⊥
   each e = omega arith
 
   -- the block, as the code lends it from what it may reach, and the next block
-  module _ (near : Bytes) (is : near ≡ reachBy size at file) where
+  module _ (near : Bytes) (is : near ≡ reach_by size at file) where
     pub block-turn : block_lines size (drop at file) ≡ block_line (take (length near - at) (drop at near)) ++ block_lines size (drop (length near) file)
     block-turn =
         let all = take_all (length near - at) (drop at near) (omega (arith, length-drop at near)) in
         rw (all, is)
         (by_number
-        (λ (n : ℕ). block_lines n (drop at file) ≡ block_line (drop at (reachBy n at file)) ++ block_lines n (drop (length (reachBy n at file)) file))
+        (λ (n : ℕ). block_lines n (drop at file) ≡ block_line (drop at (reach_by n at file)) ++ block_lines n (drop (length (reach_by n at file)) file))
         (λ m. one_block m file at h) size each)
 
     pub next-block : (at < length near) × (length near ≤ length file)
@@ -69,15 +69,15 @@ module _ (size : ℕ) (some : 0 < size) (file : Bytes) (at : ℕ) (h : at < leng
 -- ---- the answer
 
 module _ (file before : Bytes) where
-  lines-refused : (room : ℕ) (why : Refusal) (o : Outcome (List Line)) → (o >>= λ ls. judgeLines (length file) ls) ≡ refused why → blocksOf file ≡ o → inLines file room ≡ refused why
-  unfolding inLines
+  lines-refused : (room : ℕ) (why : Refusal) (o : Outcome (List Line)) → (o >>= λ ls. judge_lines (length file) ls) ≡ refused why → blocks_of file ≡ o → in_lines file room ≡ refused why
+  unfolding in_lines
   lines-refused room why (refused other) h e = let same : other ≡ why = cc in rw e (ap refused same)
   lines-refused room why (fine ls) h e = rw (e, h)
 
-  pub converted-refused : (why : Refusal) → judgeBlocks file ≡ refused why → answered (refused why) 0 before ≡ blocksToLines file before
-  unfolding judgeBlocks blocksToLines
-  converted-refused why h = sym (ap (λ (o : Outcome Bytes). answered o 0 before) (lines-refused (length before) why (blocksOf file) h refl))
+  pub converted-refused : (why : Refusal) → judge_blocks file ≡ refused why → answered (refused why) 0 before ≡ blocks_to_lines file before
+  unfolding judge_blocks blocks_to_lines
+  converted-refused why h = sym (ap (λ (o : Outcome Bytes). answered o 0 before) (lines-refused (length before) why (blocks_of file) h refl))
 
-  pub converted : (size : ℕ) (s : Summary) → blocksOf file ≡ fine (linesBy size file) → judgeLines (length file) (linesBy size file) ≡ fine s → linesFitting size file before ≡ blocksToLines file before
-  unfolding blocksToLines inLines linesFitting block_lines
+  pub converted : (size : ℕ) (s : Summary) → blocks_of file ≡ fine (lines_by size file) → judge_lines (length file) (lines_by size file) ≡ fine s → lines_fitting size file before ≡ blocks_to_lines file before
+  unfolding blocks_to_lines in_lines lines_fitting block_lines
   converted size s e j = sym (rw (e, j))

@@ -1,11 +1,11 @@
 // A file of blocks in lines, each block less its trailing blanks, with LF: measured first, then written.
 ghost use Rattle.std.specs.Prelude.{◌≡◌, ◌<◌, ◌≤◌, length};
-ghost use Rattle.rules.specs.Limits.{longestFile};
-ghost use Rattle.rules.specs.Blocks.{blocksToLines};
+ghost use Rattle.rules.specs.Limits.{longest_file};
+ghost use Rattle.rules.specs.Blocks.{blocks_to_lines};
 ghost use Rattle.base_numerals.specs.PutBytes.{Put};
-ghost use Rattle.join_answer.specs.AnswerMeaning.{answerMeant};
+ghost use Rattle.join_answer.specs.AnswerMeaning.{answer_meant};
 ghost use Rattle.read_blocks.specs.BlockAnswers.{AcceptedBlocks};
-ghost use Rattle.join_lines.specs.LinesWritten.{block_line, block_lines, linesFitting};
+ghost use Rattle.join_lines.specs.LinesWritten.{block_line, block_lines, lines_fitting};
 
 use base_limits::LONGEST_FILE;
 use base_quantities::Place;
@@ -15,7 +15,7 @@ use read_blocks::JudgedBlocks;
 
 // How many bytes the blocks have in lines.
 fn lines_length(size: usize, file: &[u8]) -> usize
-    requires { (0 < size) × (length file.now ≤ longestFile) }
+    requires { (0 < size) × (length file.now ≤ longest_file) }
     ensures { result ≡ length (block_lines size file.now) }
 {
     let mut at: usize = 0;
@@ -57,7 +57,7 @@ fn write_lines(size: usize, file: &[u8], out: &mut [u8]) -> usize
 // The lines of an accepted file of blocks of this size: 18, 15.
 fn convert(size: usize, file: &[u8], out: &mut [u8]) -> Answer
     requires { AcceptedBlocks file.now size }
-    ensures { answerMeant result out.new ≡ linesFitting size file.now out.old }
+    ensures { answer_meant result out.new ≡ lines_fitting size file.now out.old }
 {
     let length = lines_length(size, file);
     if LONGEST_FILE < length {
@@ -83,7 +83,7 @@ fn convert(size: usize, file: &[u8], out: &mut [u8]) -> Answer
 
 // A file of blocks in lines: the reader's refusal, 18, 15.
 pub fn blocks_to_lines(file: &[u8], out: &mut [u8]) -> Answer
-    ensures { answerMeant result out.new ≡ blocksToLines file.now out.old }
+    ensures { answer_meant result out.new ≡ blocks_to_lines file.now out.old }
 {
     match read_blocks::judge_blocks(file) {
         JudgedBlocks::Refused(why) => join_answer::refused(why),

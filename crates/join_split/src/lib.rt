@@ -2,8 +2,8 @@
 ghost use Rattle.std.specs.Prelude.{◌≡◌, ◌≤◌, length};
 ghost use Rattle.rules.specs.Split as rules;
 ghost use Rattle.base_numerals.specs.PutBytes.{Put};
-ghost use Rattle.join_answer.specs.AnswerMeaning.{answerMeant};
-ghost use Rattle.join_split.specs.SplitAnswers.{Accepts, Opens, RestIs, splitResult, misfitOf, splitFitting};
+ghost use Rattle.join_answer.specs.AnswerMeaning.{answer_meant};
+ghost use Rattle.join_split.specs.SplitAnswers.{Accepts, Opens, RestIs, split_result, misfit_of, split_fitting};
 
 use base_limits::LONGEST_FILE;
 use base_quantities::{Place, Records};
@@ -24,7 +24,7 @@ struct Rest {
 
 // The name may be asked for.
 fn is_asked(name: &[u8]) -> bool
-    ensures { result ≡ rules.isName name.now }
+    ensures { result ≡ rules.is_name name.now }
 {
     if !read_values::is_name(name) {
         return false;
@@ -48,7 +48,7 @@ fn take_rest(name: &[u8], file: &[u8], header: usize, out: &mut [u8]) -> Rest
 // How many bytes the split has.
 fn split_length(name: &[u8], file: &[u8], header: usize) -> usize
     requires { Opens file.now header }
-    ensures { result ≡ length (splitResult name.now file.now) }
+    ensures { result ≡ length (split_result name.now file.now) }
 {
     let mut nowhere = [0u8; 0];
     let rest = take_rest(name, file, header, &mut nowhere);
@@ -59,7 +59,7 @@ fn split_length(name: &[u8], file: &[u8], header: usize) -> usize
 // 18 or 15 where the split is too long, or longer than this room; else 0. Where even the whole file and a 99 fit, nothing is measured.
 fn misfit(name: &[u8], file: &[u8], header: usize, room: usize) -> u64
     requires { Opens file.now header }
-    ensures { result ≡ misfitOf (splitResult name.now file.now) room }
+    ensures { result ≡ misfit_of (split_result name.now file.now) room }
 {
     let most = file.len() + MOST_LAST;
     if most <= room && most <= LONGEST_FILE {
@@ -77,8 +77,8 @@ fn misfit(name: &[u8], file: &[u8], header: usize, room: usize) -> u64
 
 // The split at the front of out: how many bytes.
 fn write_split(name: &[u8], file: &[u8], header: usize, out: &mut [u8]) -> usize
-    requires { Opens file.now header × (length (splitResult name.now file.now) ≤ length out.old) }
-    ensures { Put (splitResult name.now file.now) out.old result out.new }
+    requires { Opens file.now header × (length (split_result name.now file.now) ≤ length out.old) }
+    ensures { Put (split_result name.now file.now) out.old result out.new }
 {
     let mut o = base_slices::put(out, &file[0..header]);
     let rest = take_rest(name, file, header, &mut out[o..]);
@@ -93,7 +93,7 @@ fn write_split(name: &[u8], file: &[u8], header: usize, out: &mut [u8]) -> usize
 // The split of an accepted file for a name that may be asked for: 18, 15.
 fn split_accepted(name: &[u8], file: &[u8], out: &mut [u8]) -> Answer
     requires { Accepts file.now }
-    ensures { answerMeant result out.new ≡ splitFitting name.now file.now out.old }
+    ensures { answer_meant result out.new ≡ split_fitting name.now file.now out.old }
 {
     let header = read_lines::record_end(file, Place(0)).0;
     let number = misfit(name, file, header, out.len());
@@ -114,7 +114,7 @@ fn split_accepted(name: &[u8], file: &[u8], out: &mut [u8]) -> Answer
 
 // The file with the groups for this name alone: 16, the reader's refusal, 18, 15.
 pub fn split(name: &[u8], file: &[u8], out: &mut [u8]) -> Answer
-    ensures { answerMeant result out.new ≡ rules.split name.now file.now out.old }
+    ensures { answer_meant result out.new ≡ rules.split name.now file.now out.old }
 {
     if !is_asked(name) {
         return join_answer::refused(Refusal {

@@ -6,26 +6,26 @@ use borrow.Author.Tests.{le-leb, lt-leb}
 use lib.ListN.{length, take, drop, length-take, length-drop}
 use lib.Seq.{length-take-le}
 use Rattle.rules.specs.Bytes.{Bytes}
-use Rattle.rules.specs.Outcome.{notRefused, refuse}
-use Rattle.rules.specs.Limits.{longestFile}
+use Rattle.rules.specs.Outcome.{not_refused, refuse}
+use Rattle.rules.specs.Limits.{longest_file}
 use Rattle.rules.specs.Combine.{Answer, answered, fitting}
 use Rattle.base_numerals.specs.PutBytes.{Put}
 use Rattle.base_numerals.proofs.PutLaws.{put_count, put-bytes}
 
 module _ (result before : Bytes) (which : ℕ) where
-  pub too_long : longestFile < length result → answered (refuse 18 0) which before ≡ answered (fitting result (length before)) which before
+  pub too_long : longest_file < length result → answered (refuse 18 0) which before ≡ answered (fitting result (length before)) which before
   unfolding fitting answered
-  too_long h = rw (lt-leb (length result) longestFile h)
+  too_long h = rw (lt-leb (length result) longest_file h)
 
-  module _ (h : length result ≤ longestFile) where
+  module _ (h : length result ≤ longest_file) where
     pub no_room : length before < length result → answered (refuse 15 0) which before ≡ answered (fitting result (length before)) which before
     unfolding fitting answered
-    no_room k = rw (le-leb (length result) longestFile h, lt-leb (length result) (length before) k)
+    no_room k = rw (le-leb (length result) longest_file h, lt-leb (length result) (length before) k)
 
     pub written : length result ≤ length before → (r : ℕ) (after : Bytes) → Put result before r after
-        → ◌≡◌ {A = Answer} (record { refusal = notRefused; which = 0; len = r; output = after }) (answered (fitting result (length before)) which before)
+        → ◌≡◌ {A = Answer} (record { refusal = not_refused; which = 0; len = r; output = after }) (answered (fitting result (length before)) which before)
     unfolding fitting answered
-    written k r after p = rw (le-leb (length result) longestFile h, le-leb (length result) (length before) k, put_count p k, put-bytes p k)
+    written k r after p = rw (le-leb (length result) longest_file h, le-leb (length result) (length before) k, put_count p k, put-bytes p k)
 
 -- ---- parts of slices
 

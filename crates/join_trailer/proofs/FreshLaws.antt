@@ -3,9 +3,9 @@ use Prim.Native.Nat.{◌+◌}
 use mathlib.Core.Path.{◌≡◌}
 use mathlib.Core.List.{append_assoc}
 use Rattle.rules.specs.Totals.{Summary}
-use Rattle.rules.specs.Combine.{freshTrailer}
-use Rattle.join_trailer.specs.FreshTrailer.{lastLine}
+use Rattle.rules.specs.Combine.{fresh_trailer}
+use Rattle.join_trailer.specs.FreshTrailer.{last_line}
 
-pub is-fresh : (s : Summary) → lastLine s.sum s.groups (s.records + 1) ≡ freshTrailer s
-unfolding lastLine freshTrailer
+pub is-fresh : (s : Summary) → last_line s.sum s.groups (s.records + 1) ≡ fresh_trailer s
+unfolding last_line fresh_trailer
 is-fresh s = simp append_assoc

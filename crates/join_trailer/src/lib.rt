@@ -1,9 +1,9 @@
 // A fresh 99, and how many records a part has.
 ghost use Rattle.std.specs.Prelude.{◌≡◌, ◌≤◌, length};
 ghost use Rattle.rules.specs.Lines.{lines_of};
-ghost use Rattle.base_quantities.specs.QuantityMeanings.{sumMeant};
+ghost use Rattle.base_quantities.specs.QuantityMeanings.{sum_meant};
 ghost use Rattle.base_numerals.specs.PutBytes.{Put};
-ghost use Rattle.join_trailer.specs.FreshTrailer.{lastLine, trailerOf};
+ghost use Rattle.join_trailer.specs.FreshTrailer.{last_line, trailer_of};
 
 use base_quantities::{Count, Place, Records, Units};
 
@@ -16,8 +16,8 @@ pub struct Trailer {
 
 // A 99 with these numbers at the front of out: how many bytes.
 fn put_trailer(out: &mut [u8], total: Units, groups: Count, records: Records) -> usize
-    requires { length (lastLine (sumMeant total) groups.0 records.0) ≤ length out.old }
-    ensures { Put (lastLine (sumMeant total) groups.0 records.0) out.old result out.new }
+    requires { length (last_line (sum_meant total) groups.0 records.0) ≤ length out.old }
+    ensures { Put (last_line (sum_meant total) groups.0 records.0) out.old result out.new }
 {
     let mut o = base_slices::put(out, b"99,");
     o += base_numerals::put_total(&mut out[o..], total);
@@ -29,7 +29,7 @@ fn put_trailer(out: &mut [u8], total: Units, groups: Count, records: Records) ->
 
 // The fresh 99 with this total, so many groups and so many records, itself included.
 pub fn fresh_trailer(total: Units, groups: Count, records: Records) -> Trailer
-    ensures { (result ≡ trailerOf (lastLine (sumMeant total) groups.0 records.0)) × (result.length ≤ 80) × (length result.bytes ≡ 80) }
+    ensures { (result ≡ trailer_of (last_line (sum_meant total) groups.0 records.0)) × (result.length ≤ 80) × (length result.bytes ≡ 80) }
 {
     let mut bytes = [0u8; 80];
     let length = put_trailer(&mut bytes, total, groups, records);

@@ -8,59 +8,59 @@ use lib.Dec.{T}
 use lib.ListN.{length, take, drop}
 use Rattle.rules.specs.Bytes.{Bytes}
 use Rattle.rules.specs.Outcome.{fine}
-use Rattle.rules.specs.Lines.{Record, recordBytes}
+use Rattle.rules.specs.Lines.{Record, record_bytes}
 use Rattle.rules.specs.Numbers.{magnitudes}
-use Rattle.rules.specs.Limits.{most, longestFile}
+use Rattle.rules.specs.Limits.{most, longest_file}
 use Rattle.rules.specs.Totals.{Summary, ◌⊞◌}
 use Rattle.rules.specs.Verdict.{judge}
-use Rattle.rules.specs.Parts.{headerIn, groupsIn}
-use Rattle.rules.specs.Combine.{summaryOfAll, freshTrailer, withTrailer, limitOf, linesWithin, concat, answered, combine}
-use Rattle.rules.specs.Split.{isName, groupsFor, splitOut, split}
+use Rattle.rules.specs.Parts.{header_in, groups_in}
+use Rattle.rules.specs.Combine.{summary_of_all, fresh_trailer, with_trailer, limit_of, lines_within, concat, answered, combine}
+use Rattle.rules.specs.Split.{is_name, groups_for, split_out, split}
 use Rattle.rules.proofs.Tests.{not-false}
 use Rattle.rules.proofs.Binds.{fine-same}
-use Rattle.laws.specs.LawWords.{NotRefused, written, parts_of, headerLines, groupParts, groupPartsFor, All, onlyLines, Assembled, CombinedParts, CombinedSummary, Exactly, SplitParts}
+use Rattle.laws.specs.LawWords.{NotRefused, written, parts_of, header_lines, group_parts, group_parts_for, All, only_lines, Assembled, CombinedParts, CombinedSummary, Exactly, SplitParts}
 use Rattle.laws.proofs.KeptBytes.{kept_same, parts-append}
 use Rattle.laws.proofs.Groups.{GoodGroup, Decomposed, decomposed, good-for}
 use Rattle.laws.proofs.CallAnswers.{combine-says, split-call-says}
-use Rattle.laws.proofs.CombineSplit.{assembled, headerCount, combined-made, combined-summary, split-made, exactly}
+use Rattle.laws.proofs.CombineSplit.{assembled, header_count, combined-made, combined-summary, split-made, exactly}
 use Rattle.laws.proofs.Demand3.{split-combine-says, combine-thrice-says, same_parts, same-split, same-combine}
-use Rattle.laws.proofs.ForCode.{freshNumbers, by-slices}
+use Rattle.laws.proofs.ForCode.{fresh_numbers, by-slices}
 
 -- ---- files put together
 
 -- an accepted file's header, good groups of any files (`groups-good`), and a fresh 99 are an accepted file with this header, these groups and the summary that
 -- they give, where their lines respect the header's limit, their magnitudes are within the largest, and the whole is not too long
 pub assembly : (file : Bytes) (s : Summary) (gs : List (List Record)) → judge file ≡ fine s → All GoodGroup gs
-    → T (linesWithin (limitOf (headerIn file)) (concat (concat gs)))
-    → magnitudes (summaryOfAll (headerIn file ++ concat gs)).sum ≤ most
-    → length (withTrailer (headerIn file ++ concat gs)) ≤ longestFile
-    → Assembled file gs (withTrailer (headerIn file ++ concat gs))
+    → T (lines_within (limit_of (header_in file)) (concat (concat gs)))
+    → magnitudes (summary_of_all (header_in file ++ concat gs)).sum ≤ most
+    → length (with_trailer (header_in file ++ concat gs)) ≤ longest_file
+    → Assembled file gs (with_trailer (header_in file ++ concat gs))
 assembly file s gs h good within bounded not-long =
-    assembled file (decomposed file s h) gs (withTrailer (headerIn file ++ concat gs)) refl good within bounded not-long
+    assembled file (decomposed file s h) gs (with_trailer (header_in file ++ concat gs)) refl good within bounded not-long
 
 -- ---- what combine and split write
 
 -- combining gives the first file's header, its groups, then the second's
 pub combine-parts : (a b before : Bytes) → NotRefused (combine a b before) → CombinedParts a b (written (combine a b before))
-unfolding headerLines groupParts
+unfolding header_lines group_parts
 combine-parts a b before h =
     let m = combined-made a b (written (combine a b before)) (combine-says a b before h) in
     record {
-      header = ap recordBytes m.header;
-      groups = ap parts_of m.groups ∙ parts-append (groupsIn a) (groupsIn b);
+      header = ap record_bytes m.header;
+      groups = ap parts_of m.groups ∙ parts-append (groups_in a) (groups_in b);
       exactly-those = m.groups;
-      bytes = m.bytes ∙ rw (parts-append (groupsIn a) (groupsIn b));
+      bytes = m.bytes ∙ rw (parts-append (groups_in a) (groups_in b));
     }
 
 -- splitting keeps the header and exactly the groups whose receiver equals the name byte for byte
 pub split_parts : (name file before : Bytes) → NotRefused (split name file before) → SplitParts name file (written (split name file before))
-unfolding headerLines groupParts groupPartsFor
+unfolding header_lines group_parts group_parts_for
 split_parts name file before h =
     let m = split-made name file (written (split name file before)) (split-call-says name file before h) in
     record {
-      header = ap recordBytes m.header;
+      header = ap record_bytes m.header;
       groups = ap parts_of m.groups;
-      exactly-those = subst (Exactly name (groupsIn file)) (sym m.groups) (exactly name (groupsIn file));
+      exactly-those = subst (Exactly name (groups_in file)) (sym m.groups) (exactly name (groups_in file));
       bytes = m.bytes;
     }
 
@@ -70,7 +70,7 @@ pub combine-accepted : (a b before : Bytes) (s t : Summary) → judge a ≡ fine
     → (u : Summary) × (judge (written (combine a b before)) ≡ fine u) × CombinedSummary a b s t u
 combine-accepted a b before s t p q h =
     let c = combine-says a b before h in
-    let u = summaryOfAll (headerIn a ++ concat (groupsIn a ++ groupsIn b)) ⊞ onlyLines 1 in
+    let u = summary_of_all (header_in a ++ concat (groups_in a ++ groups_in b)) ⊞ only_lines 1 in
     let same_s : c.first ≡ s = fine-same c.first s (sym c.accepts-a ∙ p) in
     let same-t : c.second ≡ t = fine-same c.second t (sym c.accepts-b ∙ q) in (
       u,
@@ -82,7 +82,7 @@ combine-accepted a b before s t p q h =
 -- what split wrote is accepted; its summary is what the header and the groups for the name add, and one record more
 pub split-accepted : (name file before : Bytes)
     → NotRefused (split name file before)
-    → judge (written (split name file before)) ≡ fine (summaryOfAll (headerIn file ++ concat (groupsFor name (groupsIn file))) ⊞ onlyLines 1)
+    → judge (written (split name file before)) ≡ fine (summary_of_all (header_in file ++ concat (groups_for name (groups_in file))) ⊞ only_lines 1)
 split-accepted name file before h = (split-made name file (written (split name file before)) (split-call-says name file before h)).accepted
 
 -- ---- the laws of demand 3
@@ -128,29 +128,29 @@ combine-thrice-answers a b c o₁ o₂ o h₁ h₂ = same-combine a b c _ _ o (c
 -- equal output slices, the same answer, refusals included, and leave those slices equal (`output` is a field of the answer). No premise asks
 -- that the name is valid: for one that isn't, both answers are the same refusal 16 (`split-bad-name`)
 pub split-by-name : (name a b before : Bytes) (s t : Summary) → judge a ≡ fine s → judge b ≡ fine t
-    → headerLines a ≡ headerLines b
-    → groupPartsFor name a ≡ groupPartsFor name b
+    → header_lines a ≡ header_lines b
+    → group_parts_for name a ≡ group_parts_for name b
     → split name a before ≡ split name b before
-unfolding split splitOut headerLines groupPartsFor
+unfolding split split_out header_lines group_parts_for
 split-by-name name a b before s t p q h g =
     let c = decomposed a s p in
     let d = decomposed b t q in
-    let header : headerIn a ≡ headerIn b = kept_same (headerIn a) (headerIn b) c.header.kept d.header.kept h in
-    let groups : groupsFor name (groupsIn a) ≡ groupsFor name (groupsIn b) =
-    same_parts (groupsFor name (groupsIn a)) (groupsFor name (groupsIn b)) (good-for name (groupsIn a) c.groups) (good-for name (groupsIn b) d.groups) g in
+    let header : header_in a ≡ header_in b = kept_same (header_in a) (header_in b) c.header.kept d.header.kept h in
+    let groups : groups_for name (groups_in a) ≡ groups_for name (groups_in b) =
+    same_parts (groups_for name (groups_in a)) (groups_for name (groups_in b)) (good-for name (groups_in a) c.groups) (good-for name (groups_in b) d.groups) g in
     rw (p, q, header, groups)
 
 -- a name that is not valid is refused by 16, whatever the file, and the output slice stays
-pub split-bad-name : (name file before : Bytes) → T (not (isName name)) → split name file before ≡ record { refusal = record { number = 16; place = 0 }; which = 0; len = 0; output = before }
-unfolding split splitOut answered
-split-bad-name name file before n = rw (not-false (isName name) n)
+pub split-bad-name : (name file before : Bytes) → T (not (is_name name)) → split name file before ≡ record { refusal = record { number = 16; place = 0 }; which = 0; len = 0; output = before }
+unfolding split split_out answered
+split-bad-name name file before n = rw (not-false (is_name name) n)
 
 -- ---- for the code
 
 -- the combined file is A up to its 99, B from after its header up to its 99, and a fresh 99 with these numbers: totals and groups of both, and
 -- the lines of both less those of A's 99 and of B's 01 and 99
 pub combined-by-slices : (a b : Bytes) (s t : Summary) → judge a ≡ fine s → judge b ≡ fine t → (d : Decomposed a) (e : Decomposed b)
-    → withTrailer (headerIn a ++ (concat (groupsIn a) ++ concat (groupsIn b)))
-    ≡ take (length (headerLines a) + length (concat (groupParts a))) a
-    ++ (take (length (concat (groupParts b))) (drop (length (headerLines b)) b) ++ freshTrailer (freshNumbers s t (length d.trailer) (headerCount b + length e.trailer)))
+    → with_trailer (header_in a ++ (concat (groups_in a) ++ concat (groups_in b)))
+    ≡ take (length (header_lines a) + length (concat (group_parts a))) a
+    ++ (take (length (concat (group_parts b))) (drop (length (header_lines b)) b) ++ fresh_trailer (fresh_numbers s t (length d.trailer) (header_count b + length e.trailer)))
 combined-by-slices a b s t p q d e = by-slices a b s t p q d e

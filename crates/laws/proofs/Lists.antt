@@ -5,7 +5,7 @@ use mathlib.Core.List.{List, [], ◌∷◌, ◌++◌, append_assoc}
 use native.Mathlib.Omega.{arith}
 use lib.ListN.{length}
 use Rattle.rules.specs.Combine.{concat}
-use Rattle.laws.specs.LawWords.{All, addUp}
+use Rattle.laws.specs.LawWords.{All, add_up}
 
 -- ---- a property of every element
 
@@ -39,7 +39,7 @@ concat-append [] yss = refl
 concat-append (xs ∷ xss) yss = rw (concat-append xss yss) (sym (append_assoc xs (concat xss) (concat yss)))
 
 -- one of each is as many as there are
-pub add-ones : {A : Type 0} (xs : List A) → addUp (λ x. 1) xs ≡ length xs
-unfolding addUp
+pub add-ones : {A : Type 0} (xs : List A) → add_up (λ x. 1) xs ≡ length xs
+unfolding add_up
 add-ones [] = refl
 add-ones (x ∷ xs) = rw (add-ones xs) (omega arith)

@@ -3,10 +3,10 @@ use mathlib.Core.Path.{◌≡◌, ap, ◌∙◌}
 use mathlib.Core.Bool.{not}
 use mathlib.Core.List.{List, [], ◌∷◌, ◌++◌, append_assoc, append-nil}
 use lib.Dec.{T}
-use Rattle.rules.specs.Bytes.{sameBytes}
-use Rattle.rules.specs.Lines.{Code, fileHeader, groupHeader, accountHeader, detail, accountTrailer, groupTrailer, fileTrailer, Record}
+use Rattle.rules.specs.Bytes.{same_bytes}
+use Rattle.rules.specs.Lines.{Code, file_header, group_header, account_header, detail, account_trailer, group_trailer, file_trailer, Record}
 use Rattle.rules.specs.Order.{among}
-use Rattle.rules.specs.Parts.{heads, cut_at, in_groups, inAccounts, inDetails}
+use Rattle.rules.specs.Parts.{heads, cut_at, in_groups, in_accounts, in_details}
 use Rattle.rules.specs.Combine.{concat}
 use Rattle.rules.proofs.Tests.{is_true}
 use Rattle.laws.specs.LawWords.{All, Begins, Of}
@@ -61,27 +61,27 @@ module _ (e c d : Code) (cs : List Code) (c-else : T (not (among c cs))) (d-else
 -- ---- the three envelopes
 
 -- the codes after the first record of an account, of a group and of a file
-abbrev pub accountCodes : List Code
-accountCodes = detail ∷ accountTrailer ∷ []
+abbrev pub account_codes : List Code
+account_codes = detail ∷ account_trailer ∷ []
 
-abbrev pub groupCodes : List Code
-groupCodes = accountHeader ∷ detail ∷ accountTrailer ∷ groupTrailer ∷ []
+abbrev pub group_codes : List Code
+group_codes = account_header ∷ detail ∷ account_trailer ∷ group_trailer ∷ []
 
-abbrev pub fileCodes : List Code
-fileCodes = groupHeader ∷ accountHeader ∷ detail ∷ accountTrailer ∷ groupTrailer ∷ fileTrailer ∷ []
+abbrev pub file_codes : List Code
+file_codes = group_header ∷ account_header ∷ detail ∷ account_trailer ∷ group_trailer ∷ file_trailer ∷ []
 
 module _ (h : Record) (ps : List (List Record)) (t : Record) where
-  pub cut-groups : T (heads fileHeader h) → All (Begins groupHeader groupCodes) ps → T (heads fileTrailer t)
+  pub cut-groups : T (heads file_header h) → All (Begins group_header group_codes) ps → T (heads file_trailer t)
       → in_groups (h ∷ (concat ps ++ (t ∷ []))) ≡ record { waiting = h ∷ []; parts = ps }
-  unfolding in_groups among sameBytes
-  cut-groups = cut-at fileHeader groupHeader fileTrailer groupCodes tt tt tt tt tt h ps t
+  unfolding in_groups among same_bytes
+  cut-groups = cut-at file_header group_header file_trailer group_codes tt tt tt tt tt h ps t
 
-  pub cut-accounts : T (heads groupHeader h) → All (Begins accountHeader accountCodes) ps → T (heads groupTrailer t)
-      → inAccounts (h ∷ (concat ps ++ (t ∷ []))) ≡ record { waiting = h ∷ []; parts = ps }
-  unfolding inAccounts among sameBytes
-  cut-accounts = cut-at groupHeader accountHeader groupTrailer accountCodes tt tt tt tt tt h ps t
+  pub cut-accounts : T (heads group_header h) → All (Begins account_header account_codes) ps → T (heads group_trailer t)
+      → in_accounts (h ∷ (concat ps ++ (t ∷ []))) ≡ record { waiting = h ∷ []; parts = ps }
+  unfolding in_accounts among same_bytes
+  cut-accounts = cut-at group_header account_header group_trailer account_codes tt tt tt tt tt h ps t
 
-  pub cut-details : T (heads accountHeader h) → All (Begins detail []) ps → T (heads accountTrailer t)
-      → inDetails (h ∷ (concat ps ++ (t ∷ []))) ≡ record { waiting = h ∷ []; parts = ps }
-  unfolding inDetails among sameBytes
-  cut-details = cut-at accountHeader detail accountTrailer [] tt tt tt tt tt h ps t
+  pub cut-details : T (heads account_header h) → All (Begins detail []) ps → T (heads account_trailer t)
+      → in_details (h ∷ (concat ps ++ (t ∷ []))) ≡ record { waiting = h ∷ []; parts = ps }
+  unfolding in_details among same_bytes
+  cut-details = cut-at account_header detail account_trailer [] tt tt tt tt tt h ps t

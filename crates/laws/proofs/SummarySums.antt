@@ -7,9 +7,9 @@ use lib.Dec.{T, leb}
 use lib.ListN.{length, length-append}
 use Rattle.rules.specs.Lines.{Line, Code, Record}
 use Rattle.rules.specs.Numbers.{Sum}
-use Rattle.rules.specs.Totals.{Summary, noSummary, ◌⊞◌, adding, ofRecord}
-use Rattle.rules.specs.Parts.{heads, fieldsIn}
-use Rattle.rules.specs.Combine.{ofCoded, summaryOf, summaryOfAll, linesWithin, concat}
+use Rattle.rules.specs.Totals.{Summary, no_summary, ◌⊞◌, adding, of_record}
+use Rattle.rules.specs.Parts.{heads, fields_in}
+use Rattle.rules.specs.Combine.{of_coded, summary_of, summary_of_all, lines_within, concat}
 use Rattle.rules.proofs.Tests.{and_left, and_right, both}
 use Rattle.laws.specs.LawWords.{All, Of}
 use Rattle.laws.proofs.Codes.{code-of}
@@ -23,11 +23,11 @@ pub same-summary : (a b : Summary) → a.sum.pluses ≡ b.sum.pluses → a.sum.m
     → a.accounts ≡ b.accounts → a.details ≡ b.details → a.records ≡ b.records → a ≡ b
 same-summary a b p m g c d l = λ i. record { sum = record { pluses = p i; minuses = m i }; groups = g i; accounts = c i; details = d i; records = l i }
 
-pub add_none : (a : Summary) → a ⊞ noSummary ≡ a
+pub add_none : (a : Summary) → a ⊞ no_summary ≡ a
 unfolding ◌⊞◌
 add_none a = simp add-zero
 
-pub none-add : (a : Summary) → noSummary ⊞ a ≡ a
+pub none-add : (a : Summary) → no_summary ⊞ a ≡ a
 unfolding ◌⊞◌
 none-add a = simp zero-add
 
@@ -35,26 +35,26 @@ pub add-regroup : (a b c : Summary) → (a ⊞ b) ⊞ c ≡ a ⊞ (b ⊞ c)
 unfolding ◌⊞◌
 add-regroup a b c = simp add_assoc
 
-pub summary-append : (rs qs : List Record) → summaryOfAll (rs ++ qs) ≡ summaryOfAll rs ⊞ summaryOfAll qs
-unfolding summaryOfAll
-summary-append [] qs = sym (none-add (summaryOfAll qs))
-summary-append (r ∷ rs) qs = rw (summary-append rs qs) (sym (add-regroup (summaryOf r) (summaryOfAll rs) (summaryOfAll qs)))
+pub summary-append : (rs qs : List Record) → summary_of_all (rs ++ qs) ≡ summary_of_all rs ⊞ summary_of_all qs
+unfolding summary_of_all
+summary-append [] qs = sym (none-add (summary_of_all qs))
+summary-append (r ∷ rs) qs = rw (summary-append rs qs) (sym (add-regroup (summary_of r) (summary_of_all rs) (summary_of_all qs)))
 
 -- an envelope's: its first record, its parts, its last record
-pub summary-envelope : (h : Record) (rs : List Record) (t : Record) → summaryOfAll (h ∷ (rs ++ (t ∷ []))) ≡ ((summaryOf h ⊞ summaryOfAll rs) ⊞ summaryOf t)
-unfolding summaryOfAll
-summary-envelope h rs t = rw (summary-append rs (t ∷ []), add_none (summaryOf t)) (sym (add-regroup (summaryOf h) (summaryOfAll rs) (summaryOf t)))
+pub summary-envelope : (h : Record) (rs : List Record) (t : Record) → summary_of_all (h ∷ (rs ++ (t ∷ []))) ≡ ((summary_of h ⊞ summary_of_all rs) ⊞ summary_of t)
+unfolding summary_of_all
+summary-envelope h rs t = rw (summary-append rs (t ∷ []), add_none (summary_of t)) (sym (add-regroup (summary_of h) (summary_of_all rs) (summary_of t)))
 
 -- ---- a record of a code
 
-pub summary-as : (c : Code) (r : Record) → T (heads c r) → summaryOf r ≡ ofRecord c r (fieldsIn c r)
-unfolding summaryOf ofCoded
+pub summary-as : (c : Code) (r : Record) → T (heads c r) → summary_of r ≡ of_record c r (fields_in c r)
+unfolding summary_of of_coded
 summary-as c [] h = absurd h
 summary-as c (l ∷ ls) h = rw (code-of c l h)
 
 -- records are lines
-pub lines-counted : (cs : List Code) (rs : List Record) → All (Of cs) rs → (summaryOfAll rs).records ≡ length (concat rs)
-unfolding summaryOfAll concat ◌⊞◌ ofRecord adding
+pub lines-counted : (cs : List Code) (rs : List Record) → All (Of cs) rs → (summary_of_all rs).records ≡ length (concat rs)
+unfolding summary_of_all concat ◌⊞◌ of_record adding
 lines-counted cs [] a = refl
 lines-counted cs (r ∷ rs) a =
     let o = a.0 in
@@ -64,21 +64,21 @@ lines-counted cs (r ∷ rs) a =
 -- ---- lines within a limit
 
 module _ (limit : ℕ) where
-  pub within-left : (ls ms : List Line) → T (linesWithin limit (ls ++ ms)) → T (linesWithin limit ls)
-  unfolding linesWithin
+  pub within-left : (ls ms : List Line) → T (lines_within limit (ls ++ ms)) → T (lines_within limit ls)
+  unfolding lines_within
   within-left [] ms h = tt
   within-left (l ∷ ls) ms h =
-      both (leb (length l.body) limit) (linesWithin limit ls) (and_left (leb (length l.body) limit) (linesWithin limit (ls ++ ms)) h)
-      (within-left ls ms (and_right (leb (length l.body) limit) (linesWithin limit (ls ++ ms)) h))
+      both (leb (length l.body) limit) (lines_within limit ls) (and_left (leb (length l.body) limit) (lines_within limit (ls ++ ms)) h)
+      (within-left ls ms (and_right (leb (length l.body) limit) (lines_within limit (ls ++ ms)) h))
 
-  pub within-right : (ls ms : List Line) → T (linesWithin limit (ls ++ ms)) → T (linesWithin limit ms)
-  unfolding linesWithin
+  pub within-right : (ls ms : List Line) → T (lines_within limit (ls ++ ms)) → T (lines_within limit ms)
+  unfolding lines_within
   within-right [] ms h = h
-  within-right (l ∷ ls) ms h = within-right ls ms (and_right (leb (length l.body) limit) (linesWithin limit (ls ++ ms)) h)
+  within-right (l ∷ ls) ms h = within-right ls ms (and_right (leb (length l.body) limit) (lines_within limit (ls ++ ms)) h)
 
-  pub within_both : (ls ms : List Line) → T (linesWithin limit ls) → T (linesWithin limit ms) → T (linesWithin limit (ls ++ ms))
-  unfolding linesWithin
+  pub within_both : (ls ms : List Line) → T (lines_within limit ls) → T (lines_within limit ms) → T (lines_within limit (ls ++ ms))
+  unfolding lines_within
   within_both [] ms h k = k
   within_both (l ∷ ls) ms h k =
-      both (leb (length l.body) limit) (linesWithin limit (ls ++ ms)) (and_left (leb (length l.body) limit) (linesWithin limit ls) h)
-      (within_both ls ms (and_right (leb (length l.body) limit) (linesWithin limit ls) h) k)
+      both (leb (length l.body) limit) (lines_within limit (ls ++ ms)) (and_left (leb (length l.body) limit) (lines_within limit ls) h)
+      (within_both ls ms (and_right (leb (length l.body) limit) (lines_within limit ls) h) k)

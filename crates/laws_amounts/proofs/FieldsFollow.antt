@@ -5,9 +5,9 @@ use mathlib.Core.List.{List, [], ◌∷◌, ◌++◌, append_assoc, append-nil}
 use Rattle.rules.specs.Bytes.{Bytes}
 use Rattle.rules.specs.Outcome.{Outcome, refused, fine, check, or_else}
 use Rattle.rules.specs.Lines.{Code, Record}
-use Rattle.rules.specs.Grammar.{Kind, good, judged, fields_of, mayLack}
-use Rattle.rules.specs.Records.{Field, Walk, walkLines, walkRecord}
-use Rattle.rules.specs.Parts.{fieldsIn}
+use Rattle.rules.specs.Grammar.{Kind, good, judged, fields_of, may_lack}
+use Rattle.rules.specs.Records.{Field, Walk, walk_lines, walk_record}
+use Rattle.rules.specs.Parts.{fields_in}
 use Rattle.rules.proofs.Binds.{from-bind, then-fine, fine-same}
 use Rattle.laws.proofs.WalkedFields.{lines_keep}
 
@@ -32,17 +32,17 @@ read_more first k ks new fs p bs i e gs h =
     let f : Field = record { kind = k; place = p; bytes = bs } in
     subst (λ (x : List Field). Follow x first) (sym (append_assoc fs (f ∷ []) gs)) (i (f ∷ gs) (refl, (new, e, h)))
 
-walked-follow : (c : Code) (r : Record) (o : Outcome (List Field)) → walkRecord c r ≡ o → Follow (or_else o []) (fields_of c)
-unfolding walkRecord
+walked-follow : (c : Code) (r : Record) (o : Outcome (List Field)) → walk_record c r ≡ o → Follow (or_else o []) (fields_of c)
+unfolding walk_record
 walked-follow c r (refused why) h = tt
 walked-follow c r (fine fs) h =
-    let first : Walk = record { wanted = fields_of c; fields = []; lastSlash = 0 } in
-    from-bind (walkLines 0 first r) _ fs h (λ w walked rest.
-    let all_of : w.fields ≡ fs = fine-same w.fields fs (then-fine (check (mayLack w.wanted) 8 w.lastSlash) _ fs rest) in
+    let first : Walk = record { wanted = fields_of c; fields = []; last_slash = 0 } in
+    from-bind (walk_lines 0 first r) _ fs h (λ w walked rest.
+    let all_of : w.fields ≡ fs = fine-same w.fields fs (then-fine (check (may_lack w.wanted) 8 w.last_slash) _ fs rest) in
     let last : Follow (w.fields ++ []) (fields_of c) = lines_keep (Read (fields_of c)) (read_more (fields_of c)) 0 r first w (λ gs f. f) walked [] tt in
     subst (λ (x : List Field). Follow x (fields_of c)) all_of (rw append-nil at last))
 
 -- the fields of any record of code c
-pub fields-follow : (c : Code) (r : Record) → Follow (fieldsIn c r) (fields_of c)
-unfolding fieldsIn
-fields-follow c r = walked-follow c r (walkRecord c r) refl
+pub fields-follow : (c : Code) (r : Record) → Follow (fields_in c r) (fields_of c)
+unfolding fields_in
+fields-follow c r = walked-follow c r (walk_record c r) refl

@@ -8,12 +8,12 @@ use native.Mathlib.Nat.{suc-mul}
 use lib.Dec.{leb, eqb, leb→le, eqb→eq}
 use lib.ListN.{length, take, drop, length-take, length-drop, take-append-drop}
 use Rattle.rules.specs.Bytes.{Bytes, is_empty, between}
-use Rattle.rules.specs.Outcome.{fine, check, orRefused}
+use Rattle.rules.specs.Outcome.{fine, check, or_refused}
 use Rattle.rules.specs.Numbers.{number, digits}
-use Rattle.rules.specs.Lines.{Line, lineBytes}
-use Rattle.rules.specs.Limits.{longestFile, longestLine}
-use Rattle.rules.specs.Grammar.{isLength}
-use Rattle.rules.specs.Blocks.{afterCommas, blockLength, blocks, wholeBlocks, blocksOf}
+use Rattle.rules.specs.Lines.{Line, line_bytes}
+use Rattle.rules.specs.Limits.{longest_file, longest_line}
+use Rattle.rules.specs.Grammar.{is_length}
+use Rattle.rules.specs.Blocks.{after_commas, block_length, blocks, whole_blocks, blocks_of}
 use Rattle.rules.proofs.BlockLaws.{left_after, long-enough, blocks-bytes}
 use Rattle.rules.proofs.Tests.{and_left, and_right}
 use Rattle.rules.proofs.Binds.{from-bind, then-fine, first_fine, check-holds, fine-same}
@@ -33,20 +33,20 @@ module _ (size : ℕ) where
   blocks-each (suc n) file h = (long-enough size n file h, blocks-each n (drop size file) (left_after size n file h))
 
 -- L is one that a header may give
-pub length-good : (file : Bytes) (size : ℕ) → blockLength file ≡ fine size → (48 ≤ size) × (size ≤ 4096)
-unfolding blockLength isLength
+pub length-good : (file : Bytes) (size : ℕ) → block_length file ≡ fine size → (48 ≤ size) × (size ≤ 4096)
+unfolding block_length is_length
 length-good file size h =
-    from-bind (orRefused (afterCommas (take longestLine file) 6 0) 8 0) _ size h (λ l found rest.
-    let good = check-holds (isLength l.bytes) 8 l.place (first_fine (check (isLength l.bytes) 8 l.place) _ size rest) in
-    let e : number l.bytes ≡ size = fine-same (number l.bytes) size (then-fine (check (isLength l.bytes) 8 l.place) _ size rest) in
+    from-bind (or_refused (after_commas (take longest_line file) 6 0) 8 0) _ size h (λ l found rest.
+    let good = check-holds (is_length l.bytes) 8 l.place (first_fine (check (is_length l.bytes) 8 l.place) _ size rest) in
+    let e : number l.bytes ≡ size = fine-same (number l.bytes) size (then-fine (check (is_length l.bytes) 8 l.place) _ size rest) in
     let range = and_right (digits 1 4 l.bytes) (between 48 4096 (number l.bytes)) good in
     rw (← e) (
       leb→le 48 (number l.bytes) (and_left (leb 48 (number l.bytes)) (leb (number l.bytes) 4096) range),
       leb→le (number l.bytes) 4096 (and_right (leb 48 (number l.bytes)) (leb (number l.bytes) 4096) range),
     ))
 
-cut-whole : (size n : ℕ) (file : Bytes) (ls : List Line) → blockLength file ≡ fine size → wholeBlocks size n file ≡ fine ls → BlockCut file ls
-unfolding wholeBlocks
+cut-whole : (size n : ℕ) (file : Bytes) (ls : List Line) → block_length file ≡ fine size → whole_blocks size n file ≡ fine ls → BlockCut file ls
+unfolding whole_blocks
 cut-whole size n file ls given h =
     let m = eqb→eq (n * size) (length file) (check-holds (eqb (n * size) (length file)) 21 (n * size) (first_fine (check (eqb (n * size) (length file)) 21 (n * size)) _ ls h)) in
     let e : blocks size n file ≡ ls = fine-same (blocks size n file) ls (then-fine (check (eqb (n * size) (length file)) 21 (n * size)) _ ls h) in
@@ -61,9 +61,9 @@ cut-whole size n file ls given h =
       bytes = blocks-bytes size n file m;
     })
 
-pub cut_of : (file : Bytes) (ls : List Line) → blocksOf file ≡ fine ls → BlockCut file ls
-unfolding blocksOf
+pub cut_of : (file : Bytes) (ls : List Line) → blocks_of file ≡ fine ls → BlockCut file ls
+unfolding blocks_of
 cut_of file ls h =
     let after-1 = then-fine (check (not (is_empty file)) 1 0) _ ls h in
-    let after-2 = then-fine (check (leb (length file) longestFile) 2 0) _ ls after-1 in
-    from-bind (blockLength file) _ ls after-2 (λ size given rest. cut-whole size (length file / size) file ls given rest)
+    let after-2 = then-fine (check (leb (length file) longest_file) 2 0) _ ls after-1 in
+    from-bind (block_length file) _ ls after-2 (λ size given rest. cut-whole size (length file / size) file ls given rest)

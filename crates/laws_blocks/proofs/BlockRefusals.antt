@@ -5,15 +5,15 @@ use native.Mathlib.Omega.{arith}
 use lib.Dec.{T, leb, eqb, leb→le, le→leb, eqb→eq}
 use lib.ListN.{length, take}
 use Rattle.rules.specs.Bytes.{Bytes, is_empty, between}
-use Rattle.rules.specs.Outcome.{Outcome, refused, fine, orRefused}
-use Rattle.rules.specs.Lines.{lineBytes}
-use Rattle.rules.specs.Limits.{longestFile, longestLine}
-use Rattle.rules.specs.Grammar.{isLength}
-use Rattle.rules.specs.Verdict.{judgeLines}
-use Rattle.rules.specs.Combine.{hasRoom, fitting}
-use Rattle.rules.specs.Blocks.{afterCommas, blockLength, wholeBlocks, blocksOf, judgeBlocks, linesOfBlocks, inLines}
+use Rattle.rules.specs.Outcome.{Outcome, refused, fine, or_refused}
+use Rattle.rules.specs.Lines.{line_bytes}
+use Rattle.rules.specs.Limits.{longest_file, longest_line}
+use Rattle.rules.specs.Grammar.{is_length}
+use Rattle.rules.specs.Verdict.{judge_lines}
+use Rattle.rules.specs.Combine.{has_room, fitting}
+use Rattle.rules.specs.Blocks.{after_commas, block_length, whole_blocks, blocks_of, judge_blocks, lines_of_blocks, in_lines}
 use Rattle.rules.proofs.Tests.{Known, holds, fails, known, and_left, and_right}
-use Rattle.laws.proofs.Refusals.{By, bind-by, then_by, check-by, checked-by, or-by, byReader, lines-judged-by}
+use Rattle.laws.proofs.Refusals.{By, bind-by, then_by, check-by, checked-by, or-by, by_reader, lines-judged-by}
 use Rattle.laws.proofs.CallAnswers.{numbered}
 
 -- what passes one test passes a wider one
@@ -27,34 +27,34 @@ or-first false t h = absurd h
 
 -- ---- the reader of blocks
 
-abbrev pub byBlocks : ℕ → Bool
-byBlocks n = between 1 13 n || eqb n 21
+abbrev pub by_blocks : ℕ → Bool
+by_blocks n = between 1 13 n || eqb n 21
 
-length-by : (file : Bytes) → By byBlocks (blockLength file)
-unfolding blockLength
+length-by : (file : Bytes) → By by_blocks (block_length file)
+unfolding block_length
 length-by file =
-    bind-by byBlocks (orRefused (afterCommas (take longestLine file) 6 0) 8 0) _ (or-by byBlocks (afterCommas (take longestLine file) 6 0) 8 0 tt) (λ l e.
-    checked-by byBlocks (isLength l.bytes) 8 l.place _ tt tt)
+    bind-by by_blocks (or_refused (after_commas (take longest_line file) 6 0) 8 0) _ (or-by by_blocks (after_commas (take longest_line file) 6 0) 8 0 tt) (λ l e.
+    checked-by by_blocks (is_length l.bytes) 8 l.place _ tt tt)
 
-whole_by : (size n : ℕ) (file : Bytes) → By byBlocks (wholeBlocks size n file)
-unfolding wholeBlocks
-whole_by size n file = checked-by byBlocks (eqb (n * size) (length file)) 21 (n * size) _ tt tt
+whole_by : (size n : ℕ) (file : Bytes) → By by_blocks (whole_blocks size n file)
+unfolding whole_blocks
+whole_by size n file = checked-by by_blocks (eqb (n * size) (length file)) 21 (n * size) _ tt tt
 
-cut_by : (file : Bytes) → By byBlocks (blocksOf file)
-unfolding blocksOf
+cut_by : (file : Bytes) → By by_blocks (blocks_of file)
+unfolding blocks_of
 cut_by file =
-    checked-by byBlocks (not (is_empty file)) 1 0 _ tt
-    (checked-by byBlocks (leb (length file) longestFile) 2 0 _ tt
-    (bind-by byBlocks (blockLength file) _ (length-by file) (λ size e. whole_by size (length file / size) file)))
+    checked-by by_blocks (not (is_empty file)) 1 0 _ tt
+    (checked-by by_blocks (leb (length file) longest_file) 2 0 _ tt
+    (bind-by by_blocks (block_length file) _ (length-by file) (λ size e. whole_by size (length file / size) file)))
 
-pub blocks-by : (file : Bytes) → By byBlocks (judgeBlocks file)
-unfolding judgeBlocks
+pub blocks-by : (file : Bytes) → By by_blocks (judge_blocks file)
+unfolding judge_blocks
 blocks-by file =
-    bind-by byBlocks (blocksOf file) _ (cut_by file) (λ ls e.
-    wider byReader byBlocks (λ n. or-first (byReader n) (eqb n 21)) (judgeLines (length file) ls) (lines-judged-by (length file) ls))
+    bind-by by_blocks (blocks_of file) _ (cut_by file) (λ ls e.
+    wider by_reader by_blocks (λ n. or-first (by_reader n) (eqb n 21)) (judge_lines (length file) ls) (lines-judged-by (length file) ls))
 
 -- none of these is 14 to 20
-pub none_between : (n : ℕ) → T (between 14 20 n) → T (byBlocks n) → ⊥
+pub none_between : (n : ℕ) → T (between 14 20 n) → T (by_blocks n) → ⊥
 none_between n k h = go (known (between 1 13 n))
   where
     low : 14 ≤ n
@@ -69,28 +69,28 @@ none_between n k h = go (known (between 1 13 n))
 
 -- ---- the conversion
 
-abbrev pub byConversion : ℕ → Bool
-byConversion n = byBlocks n || (eqb n 15 || eqb n 18)
+abbrev pub by_conversion : ℕ → Bool
+by_conversion n = by_blocks n || (eqb n 15 || eqb n 18)
 
-fitting-by : (all : Bytes) (room : ℕ) → By byConversion (fitting all room)
+fitting-by : (all : Bytes) (room : ℕ) → By by_conversion (fitting all room)
 unfolding fitting
 fitting-by all room =
-    then_by byConversion (hasRoom (length all) room) _
-    (checked-by byConversion (leb (length all) longestFile) 18 0 _ tt (check-by byConversion (leb (length all) room) 15 0 tt)) tt
+    then_by by_conversion (has_room (length all) room) _
+    (checked-by by_conversion (leb (length all) longest_file) 18 0 _ tt (check-by by_conversion (leb (length all) room) 15 0 tt)) tt
 
-pub conversion-by : (file : Bytes) (room : ℕ) → By byConversion (inLines file room)
-unfolding inLines
+pub conversion-by : (file : Bytes) (room : ℕ) → By by_conversion (in_lines file room)
+unfolding in_lines
 conversion-by file room =
-    let more : (n : ℕ) → T (byBlocks n) → T (byConversion n) = λ n. or-first (byBlocks n) (eqb n 15 || eqb n 18) in
-    bind-by byConversion (blocksOf file) _ (wider byBlocks byConversion more (blocksOf file) (cut_by file)) (λ ls e.
-    then_by byConversion (judgeLines (length file) ls) _
-    (wider byReader byConversion (λ n h. more n (or-first (byReader n) (eqb n 21) h)) (judgeLines (length file) ls) (lines-judged-by (length file) ls))
-    (fitting-by (lineBytes (linesOfBlocks ls)) room))
+    let more : (n : ℕ) → T (by_blocks n) → T (by_conversion n) = λ n. or-first (by_blocks n) (eqb n 15 || eqb n 18) in
+    bind-by by_conversion (blocks_of file) _ (wider by_blocks by_conversion more (blocks_of file) (cut_by file)) (λ ls e.
+    then_by by_conversion (judge_lines (length file) ls) _
+    (wider by_reader by_conversion (λ n h. more n (or-first (by_reader n) (eqb n 21) h)) (judge_lines (length file) ls) (lines-judged-by (length file) ls))
+    (fitting-by (line_bytes (lines_of_blocks ls)) room))
 
 -- 0 is none of these
-not-zero : (n : ℕ) → T (byConversion n) → T (numbered n)
+not-zero : (n : ℕ) → T (by_conversion n) → T (numbered n)
 not-zero zero h = absurd h
 not-zero (suc n) h = le→leb 1 (suc n) (omega arith)
 
-pub conversion-numbered : (file : Bytes) (room : ℕ) → By numbered (inLines file room)
-conversion-numbered file room = wider byConversion numbered not-zero (inLines file room) (conversion-by file room)
+pub conversion-numbered : (file : Bytes) (room : ℕ) → By numbered (in_lines file room)
+conversion-numbered file room = wider by_conversion numbered not-zero (in_lines file room) (conversion-by file room)

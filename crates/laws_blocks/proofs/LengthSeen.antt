@@ -10,7 +10,7 @@ use lib.Dec.{eqb}
 use lib.ListN.{length, take, drop, take-append-drop}
 use Rattle.rules.specs.Bytes.{Bytes, comma}
 use Rattle.rules.specs.Records.{Field}
-use Rattle.rules.specs.Blocks.{breaks, before, toComma, length_at, afterCommas}
+use Rattle.rules.specs.Blocks.{breaks, before, to_comma, length_at, after_commas}
 
 -- ---- what is found in the one is found in the other
 
@@ -35,16 +35,16 @@ length_found p (some bs) r f x h = rw (f bs refl) h
 
 -- ---- more bytes after these
 
-comma-more : (u v : Bytes) → Found (toComma u) (toComma (u ++ v))
-unfolding toComma
+comma-more : (u v : Bytes) → Found (to_comma u) (to_comma (u ++ v))
+unfolding to_comma
 comma-more [] v = λ x h. absurd (none-some x h)
 comma-more (b ∷ u) v =
-    either-found (eqb b comma) (some []) _ _ (either-found (breaks b) none _ _ (before-found b (toComma u) (toComma (u ++ v)) (comma-more u v)))
+    either-found (eqb b comma) (some []) _ _ (either-found (breaks b) none _ _ (before-found b (to_comma u) (to_comma (u ++ v)) (comma-more u v)))
 
-pub more-found : (u v : Bytes) (n p : ℕ) → Found (afterCommas u n p) (afterCommas (u ++ v) n p)
-unfolding afterCommas
+pub more-found : (u v : Bytes) (n p : ℕ) → Found (after_commas u n p) (after_commas (u ++ v) n p)
+unfolding after_commas
 more-found [] v n p = λ x h. absurd (none-some x h)
-more-found (b ∷ u) v zero p = length_found p (toComma (b ∷ u)) (toComma (b ∷ (u ++ v))) (comma-more (b ∷ u) v)
+more-found (b ∷ u) v zero p = length_found p (to_comma (b ∷ u)) (to_comma (b ∷ (u ++ v))) (comma-more (b ∷ u) v)
 more-found (b ∷ u) v (suc n) p = either-found (breaks b) none _ _ (more-found u v (cond (eqb b comma) n (suc n)) (suc p))
 
 -- ---- less a line end and what follows it
@@ -59,27 +59,27 @@ stops-taken zero e s = tt
 stops-taken (suc k) [] s = tt
 stops-taken (suc k) (b ∷ e) s = s
 
-comma-stopped : (e : Bytes) → Stops e → Found (toComma e) none
-unfolding toComma
+comma-stopped : (e : Bytes) → Stops e → Found (to_comma e) none
+unfolding to_comma
 comma-stopped [] s x h = h
 comma-stopped (b ∷ e) s x h = rw (s.0, s.1) at h
 
-comma-cut : (u e : Bytes) → Stops e → Found (toComma (u ++ e)) (toComma u)
-unfolding toComma
+comma-cut : (u e : Bytes) → Stops e → Found (to_comma (u ++ e)) (to_comma u)
+unfolding to_comma
 comma-cut [] e s = comma-stopped e s
 comma-cut (b ∷ u) e s =
-    either-found (eqb b comma) (some []) _ _ (either-found (breaks b) none _ _ (before-found b (toComma (u ++ e)) (toComma u) (comma-cut u e s)))
+    either-found (eqb b comma) (some []) _ _ (either-found (breaks b) none _ _ (before-found b (to_comma (u ++ e)) (to_comma u) (comma-cut u e s)))
 
-stopped : (e : Bytes) (n p : ℕ) → Stops e → Found (afterCommas e n p) none
-unfolding afterCommas
+stopped : (e : Bytes) (n p : ℕ) → Stops e → Found (after_commas e n p) none
+unfolding after_commas
 stopped [] n p s = λ x h. h
-stopped (b ∷ e) zero p s = length_found p (toComma (b ∷ e)) none (comma-stopped (b ∷ e) s)
+stopped (b ∷ e) zero p s = length_found p (to_comma (b ∷ e)) none (comma-stopped (b ∷ e) s)
 stopped (b ∷ e) (suc n) p s = λ x h. rw s.1 at h
 
-cut-found : (u e : Bytes) (n p : ℕ) → Stops e → Found (afterCommas (u ++ e) n p) (afterCommas u n p)
-unfolding afterCommas
+cut-found : (u e : Bytes) (n p : ℕ) → Stops e → Found (after_commas (u ++ e) n p) (after_commas u n p)
+unfolding after_commas
 cut-found [] e n p s = stopped e n p s
-cut-found (b ∷ u) e zero p s = length_found p (toComma (b ∷ (u ++ e))) (toComma (b ∷ u)) (comma-cut (b ∷ u) e s)
+cut-found (b ∷ u) e zero p s = length_found p (to_comma (b ∷ (u ++ e))) (to_comma (b ∷ u)) (comma-cut (b ∷ u) e s)
 cut-found (b ∷ u) e (suc n) p s = either-found (breaks b) none _ _ (cut-found u e (cond (eqb b comma) n (suc n)) (suc p) s)
 
 -- ---- a line's bytes, and what follows them
@@ -89,14 +89,14 @@ take-two zero w e = rw (zero-sub (length w))
 take-two (suc k) [] e = rw (sub-zero (suc k))
 take-two (suc k) (b ∷ w) e = rw (suc-sub-suc k (length w)) (ap (λ (x : Bytes). b ∷ x) (take-two k w e))
 
-module _ (k : ℕ) (w e : Bytes) (s : Stops e) (f : Field) (h : afterCommas (take k (w ++ e)) 6 0 ≡ some f) where
-  in-line : afterCommas (take k w) 6 0 ≡ some f
+module _ (k : ℕ) (w e : Bytes) (s : Stops e) (f : Field) (h : after_commas (take k (w ++ e)) 6 0 ≡ some f) where
+  in-line : after_commas (take k w) 6 0 ≡ some f
   in-line = cut-found (take k w) (take (k - length w) e) 6 0 (stops-taken (k - length w) e s) f (rw take-two at h)
 
   -- it is found in the line alone
-  pub in-first : afterCommas w 6 0 ≡ some f
-  in-first = subst (λ (bs : Bytes). afterCommas bs 6 0 ≡ some f) (take-append-drop k w) (more-found (take k w) (drop k w) 6 0 f in-line)
+  pub in-first : after_commas w 6 0 ≡ some f
+  in-first = subst (λ (bs : Bytes). after_commas bs 6 0 ≡ some f) (take-append-drop k w) (more-found (take k w) (drop k w) 6 0 f in-line)
 
   -- and whatever else follows it
-  pub in-others : (v : Bytes) → afterCommas (take k (w ++ v)) 6 0 ≡ some f
-  in-others v = subst (λ (bs : Bytes). afterCommas bs 6 0 ≡ some f) (sym (take-two k w v)) (more-found (take k w) (take (k - length w) v) 6 0 f in-line)
+  pub in-others : (v : Bytes) → after_commas (take k (w ++ v)) 6 0 ≡ some f
+  in-others v = subst (λ (bs : Bytes). after_commas bs 6 0 ≡ some f) (sym (take-two k w v)) (more-found (take k w) (take (k - length w) v) 6 0 f in-line)

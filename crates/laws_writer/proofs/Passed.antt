@@ -10,9 +10,9 @@ use borrow.Author.Tests.{leb-true}
 use Rattle.rules.specs.Bytes.{Bytes, clean}
 use Rattle.rules.specs.Outcome.{Outcome, refused, fine, ◌>>=◌, ◌>>◌, check}
 use Rattle.rules.specs.Numbers.{◌⊕◌, magnitudes}
-use Rattle.rules.specs.Limits.{most, longestFile}
-use Rattle.rules.specs.Grammar.{Kind, Judged, bad, good, takeNext}
-use Rattle.rules.specs.Writer.{Writer, Given, Entry, sound, in_turn, orTwenty, kindsAfter, goodTextOrNone, sumGiven, line_of, entry_of, lineFits, writeLine}
+use Rattle.rules.specs.Limits.{most, longest_file}
+use Rattle.rules.specs.Grammar.{Kind, Judged, bad, good, take_next}
+use Rattle.rules.specs.Writer.{Writer, Given, Entry, sound, in_turn, or_twenty, kinds_after, good_text_or_none, sum_given, line_of, entry_of, line_fits, write_line}
 use Rattle.rules.proofs.Tests.{is_true}
 use Rattle.rules.proofs.Binds.{from-bind, then-fine, first_fine, check-holds, fine-same}
 use Rattle.base_digits.proofs.DigitTests.{and_left, and_right}
@@ -23,10 +23,10 @@ pub record Passed (w : Writer) (g : Given) (room : ℕ) (e : Entry) : Type 0 whe
   pub sound : sound w ≡ true
   pub turn : in_turn g.code w.phase w.items ≡ true
   pub left : List Kind
-  pub fields : kindsAfter g.kinds g.fields ≡ fine left
-  pub text : goodTextOrNone g.text ≡ true
-  pub bound : magnitudes (w.file.sum ⊕ sumGiven g.amount) ≤ most
-  pub size : w.size + length (line_of g) ≤ longestFile
+  pub fields : kinds_after g.kinds g.fields ≡ fine left
+  pub text : good_text_or_none g.text ≡ true
+  pub bound : magnitudes (w.file.sum ⊕ sum_given g.amount) ≤ most
+  pub size : w.size + length (line_of g) ≤ longest_file
   pub room-left : w.size + length (line_of g) ≤ room
   pub entry : entry_of w g left ≡ e
 
@@ -34,21 +34,21 @@ pub record Passed (w : Writer) (g : Given) (room : ℕ) (e : Entry) : Type 0 whe
 held : {A : Type 0} (t : Bool) (n p : ℕ) (r : Outcome A) (a : A) → (check t n p >> r) ≡ fine a → (t ≡ true) × (r ≡ fine a)
 held t n p r a h = (is_true t (check-holds t n p (first_fine (check t n p) r a h)), then-fine (check t n p) r a h)
 
-room_says : (w : Writer) (g : Given) (room : ℕ) → lineFits w g room ≡ fine tt
-    → (magnitudes (w.file.sum ⊕ sumGiven g.amount) ≤ most) × (w.size + length (line_of g) ≤ longestFile) × (w.size + length (line_of g) ≤ room)
-unfolding lineFits
+room_says : (w : Writer) (g : Given) (room : ℕ) → line_fits w g room ≡ fine tt
+    → (magnitudes (w.file.sum ⊕ sum_given g.amount) ≤ most) × (w.size + length (line_of g) ≤ longest_file) × (w.size + length (line_of g) ≤ room)
+unfolding line_fits
 room_says w g room h =
-    let a = held (leb (magnitudes (w.file.sum ⊕ sumGiven g.amount)) most) 10 0 _ tt h in
-    let b = held (leb (w.size + length (line_of g)) longestFile) 18 0 _ tt a.1 in
-    (leb-true _ most a.0, leb-true _ longestFile b.0, leb→le _ room (check-holds (leb (w.size + length (line_of g)) room) 15 0 b.1))
+    let a = held (leb (magnitudes (w.file.sum ⊕ sum_given g.amount)) most) 10 0 _ tt h in
+    let b = held (leb (w.size + length (line_of g)) longest_file) 18 0 _ tt a.1 in
+    (leb-true _ most a.0, leb-true _ longest_file b.0, leb→le _ room (check-holds (leb (w.size + length (line_of g)) room) 15 0 b.1))
 
-pub passed : (w : Writer) (g : Given) (room : ℕ) (e : Entry) → writeLine w g room ≡ fine e → Passed w g room e
-unfolding writeLine
+pub passed : (w : Writer) (g : Given) (room : ℕ) (e : Entry) → write_line w g room ≡ fine e → Passed w g room e
+unfolding write_line
 passed w g room e h =
     let a = held (sound w && in_turn g.code w.phase w.items) 19 0 _ e h in
-    from-bind (kindsAfter g.kinds g.fields) _ e a.1 (λ left f rest.
-    let b = held (goodTextOrNone g.text) 20 0 _ e rest in
-    let d = room_says w g room (first_fine (lineFits w g room) _ e b.1) in
+    from-bind (kinds_after g.kinds g.fields) _ e a.1 (λ left f rest.
+    let b = held (good_text_or_none g.text) 20 0 _ e rest in
+    let d = room_says w g room (first_fine (line_fits w g room) _ e b.1) in
     record {
       sound = and_left (sound w) _ a.0;
       turn = and_right (sound w) _ a.0;
@@ -58,7 +58,7 @@ passed w g room e h =
       bound = d.0;
       size = d.1;
       room-left = d.2;
-      entry = fine-same (entry_of w g left) e (then-fine (lineFits w g room) _ e b.1);
+      entry = fine-same (entry_of w g left) e (then-fine (line_fits w g room) _ e b.1);
     })
 
 -- ---- no refusal has the number 0
@@ -75,26 +75,26 @@ bind-numbered : {A B : Type 0} (o : Outcome A) (f : A → Outcome B) → Numbere
 bind-numbered (refused why) f h k = h
 bind-numbered (fine a) f h k = k a
 
-twenty-numbered : (j : Judged) → Numbered (orTwenty j)
+twenty-numbered : (j : Judged) → Numbered (or_twenty j)
 twenty-numbered (bad n) = omega arith
 twenty-numbered (good next) = tt
 
-fields-numbered : (ks : List Kind) (fs : List Bytes) → Numbered (kindsAfter ks fs)
-unfolding kindsAfter
+fields-numbered : (ks : List Kind) (fs : List Bytes) → Numbered (kinds_after ks fs)
+unfolding kinds_after
 fields-numbered ks [] = tt
 fields-numbered ks (f ∷ fs) =
     then-numbered (clean f) 20 0 _ (omega arith)
-    (bind-numbered (orTwenty (takeNext ks f)) _ (twenty-numbered (takeNext ks f)) (λ next. fields-numbered next fs))
+    (bind-numbered (or_twenty (take_next ks f)) _ (twenty-numbered (take_next ks f)) (λ next. fields-numbered next fs))
 
-pub line-numbered : (w : Writer) (g : Given) (room : ℕ) → Numbered (writeLine w g room)
-unfolding writeLine lineFits
+pub line-numbered : (w : Writer) (g : Given) (room : ℕ) → Numbered (write_line w g room)
+unfolding write_line line_fits
 line-numbered w g room =
     then-numbered (sound w && in_turn g.code w.phase w.items) 19 0 _ (omega arith)
-    (bind-numbered (kindsAfter g.kinds g.fields) _ (fields-numbered g.kinds g.fields) (λ left.
-    then-numbered (goodTextOrNone g.text) 20 0 _ (omega arith)
-    (bind-numbered (lineFits w g room) _
-    (then-numbered (leb (magnitudes (w.file.sum ⊕ sumGiven g.amount)) most) 10 0 _ (omega arith)
-    (then-numbered (leb (w.size + length (line_of g)) longestFile) 18 0 _ (omega arith)
+    (bind-numbered (kinds_after g.kinds g.fields) _ (fields-numbered g.kinds g.fields) (λ left.
+    then-numbered (good_text_or_none g.text) 20 0 _ (omega arith)
+    (bind-numbered (line_fits w g room) _
+    (then-numbered (leb (magnitudes (w.file.sum ⊕ sum_given g.amount)) most) 10 0 _ (omega arith)
+    (then-numbered (leb (w.size + length (line_of g)) longest_file) 18 0 _ (omega arith)
     (last-numbered (leb (w.size + length (line_of g)) room))))
     (λ u. tt))))
   where

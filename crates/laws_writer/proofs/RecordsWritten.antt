@@ -10,66 +10,66 @@ use borrow.Author.Tests.{le-leb}
 use Rattle.rules.specs.Bytes.{Bytes, all, allowed}
 use Rattle.rules.specs.Outcome.{Outcome, fine, check, moved}
 use Rattle.rules.specs.Numbers.{◌⊕◌, magnitudes}
-use Rattle.rules.specs.Limits.{most, longestLine}
-use Rattle.rules.specs.Lines.{Line, lf, lines_of, Code, fileHeader, accountHeader, continuation, sameCode, codeBytes, begins, code_of, Record, recordsOf, fileRecords}
-use Rattle.rules.specs.Cells.{cellsFrom, cells_of}
-use Rattle.rules.specs.Grammar.{Kind, mayLack, fields_of, furtherType}
-use Rattle.rules.specs.Records.{Field, walkLines, walkRecord}
-use Rattle.rules.specs.Totals.{◌⊞◌, amountOf, sum_of, ofRecord, boundedFrom, balanced}
-use Rattle.rules.specs.Order.{mayFollow, among}
-use Rattle.rules.specs.Verdict.{State, start, goodLines, noneLonger, inOrder, coded, limitAfter, ownLines, Reading, stateAfter, step, run}
-use Rattle.rules.specs.Parts.{sizeOfAll, fieldsIn}
-use Rattle.rules.specs.Writer.{expectedIn, phaseAfter, Writer, Given, sumGiven, ofGiven, body_of, line_of, entry_of, wantsItem}
+use Rattle.rules.specs.Limits.{most, longest_line}
+use Rattle.rules.specs.Lines.{Line, lf, lines_of, Code, file_header, account_header, continuation, same_code, code_bytes, begins, code_of, Record, records_of, file_records}
+use Rattle.rules.specs.Cells.{cells_from, cells_of}
+use Rattle.rules.specs.Grammar.{Kind, may_lack, fields_of, further_type}
+use Rattle.rules.specs.Records.{Field, walk_lines, walk_record}
+use Rattle.rules.specs.Totals.{◌⊞◌, amount_of, sum_of, of_record, bounded_from, balanced}
+use Rattle.rules.specs.Order.{may_follow, among}
+use Rattle.rules.specs.Verdict.{State, start, good_lines, none_longer, in_order, coded, limit_after, own_lines, Reading, state_after, step, run}
+use Rattle.rules.specs.Parts.{size_of_all, fields_in}
+use Rattle.rules.specs.Writer.{expected_in, phase_after, Writer, Given, sum_given, of_given, body_of, line_of, entry_of, wants_item}
 use Rattle.rules.proofs.Binds.{from-bind, then-fine, or-fine, fine-same, refused-fine}
 use Rattle.rules.proofs.LineLaws.{records-append}
 use Rattle.rules.proofs.RunLaws.{run-append}
 use Rattle.rules.proofs.Accepted.{step-again}
-use Rattle.laws_writer.specs.SessionWords.{Value, Told, of_code, allSaid, codedSaid, recordSaid, recordsSaid, fileSaid, gathered}
-use Rattle.laws_writer.proofs.WalkWritten.{walkAt}
-use Rattle.laws_writer.proofs.LinesWritten.{all_both, Cut, lines_more, cut-more, code-bytes, good-line, in_order, none-longer}
-use Rattle.laws_writer.proofs.Found.{rest_of, textKinds, holdsItems, Found}
+use Rattle.laws_writer.specs.SessionWords.{Value, Told, of_code, all_said, coded_said, record_said, records_said, file_said, gathered}
+use Rattle.laws_writer.proofs.WalkWritten.{walk_at}
+use Rattle.laws_writer.proofs.LinesWritten.{all_both, Cut, lines_more, cut-more, code-bytes, good-line, in_order_lem, none-longer}
+use Rattle.laws_writer.proofs.Found.{rest_of, text_kinds, holds_items, Found}
 
 -- ---- a record that the reader takes
 
 -- the reader's state that a writer's numbers say
 abbrev pub state_of : Writer → State
-state_of w = record { expected = expectedIn w.phase; limit = longestLine; file = w.file; group = w.group; account = w.account }
+state_of w = record { expected = expected_in w.phase; limit = longest_line; file = w.file; group = w.group; account = w.account }
 
 abbrev pub reading : Code → List Field → Reading
 reading c fs = record { code = c; fields = fs }
 
 -- after what this writer has written; wanted: the kinds that may still come
 pub record Taken (w : Writer) (r : Record) (c : Code) (fs : List Field) (wanted : List Kind) : Type 0 where
-  pub lines : goodLines 0 longestLine r ≡ fine tt
-  pub order : inOrder (expectedIn w.phase) r ≡ fine c
+  pub lines : good_lines 0 longest_line r ≡ fine tt
+  pub order : in_order (expected_in w.phase) r ≡ fine c
   pub slash : ℕ
-  pub walked : walkLines 0 (walkAt (fields_of c) [] 0) r ≡ fine (walkAt wanted fs slash)
-  pub may : mayLack wanted ≡ true
-  pub limit : limitAfter c longestLine fs ≡ longestLine
+  pub walked : walk_lines 0 (walk_at (fields_of c) [] 0) r ≡ fine (walk_at wanted fs slash)
+  pub may : may_lack wanted ≡ true
+  pub limit : limit_after c longest_line fs ≡ longest_line
   pub bound : magnitudes w.file.sum + magnitudes (sum_of fs) ≤ most
-  pub balances : balanced c (w.account ⊞ ofRecord c r fs) (w.group ⊞ ofRecord c r fs) (w.file ⊞ ofRecord c r fs) fs ≡ fine tt
+  pub balances : balanced c (w.account ⊞ of_record c r fs) (w.group ⊞ of_record c r fs) (w.file ⊞ of_record c r fs) fs ≡ fine tt
 
-bounded-all : (m : ℕ) (fs : List Field) → m + magnitudes (sum_of fs) ≤ most → boundedFrom m fs ≡ fine tt
-unfolding boundedFrom sum_of
+bounded-all : (m : ℕ) (fs : List Field) → m + magnitudes (sum_of fs) ≤ most → bounded_from m fs ≡ fine tt
+unfolding bounded_from sum_of
 bounded-all m [] h = refl
-bounded-all m (f ∷ fs) h = rw (le-leb (m + magnitudes (amountOf f)) most (omega arith)) (bounded-all (m + magnitudes (amountOf f)) fs (omega arith))
+bounded-all m (f ∷ fs) h = rw (le-leb (m + magnitudes (amount_of f)) most (omega arith)) (bounded-all (m + magnitudes (amount_of f)) fs (omega arith))
 
-own-lines : (c : Code) (r : Record) → goodLines 0 longestLine r ≡ fine tt → ownLines c longestLine r ≡ fine tt
-unfolding ownLines
-own-lines c r h = by-test (sameCode c fileHeader)
+own-lines : (c : Code) (r : Record) → good_lines 0 longest_line r ≡ fine tt → own_lines c longest_line r ≡ fine tt
+unfolding own_lines
+own-lines c r h = by-test (same_code c file_header)
   where
-    by-test : (t : Bool) → ◌≡◌ {A = Outcome (Unit {0})} (cond t (noneLonger 0 longestLine r) (fine tt)) (fine tt)
-    by-test true = none-longer 0 longestLine r h
+    by-test : (t : Bool) → ◌≡◌ {A = Outcome (Unit {0})} (cond t (none_longer 0 longest_line r) (fine tt)) (fine tt)
+    by-test true = none-longer 0 longest_line r h
     by-test false = refl
 
 module _ {w : Writer} {r : Record} {c : Code} {fs : List Field} {wanted : List Kind} (t : Taken w r c fs wanted) where
-  walk-taken : walkRecord c r ≡ fine fs
-  unfolding walkRecord
+  walk-taken : walk_record c r ≡ fine fs
+  unfolding walk_record
   walk-taken = rw (t.walked, t.may)
 
-  step-taken : step (state_of w) r ≡ fine (stateAfter (state_of w) r (reading c fs))
+  step-taken : step (state_of w) r ≡ fine (state_after (state_of w) r (reading c fs))
   step-taken =
-      step-again (state_of w) r (stateAfter (state_of w) r (reading c fs))
+      step-again (state_of w) r (state_after (state_of w) r (reading c fs))
       (record {
         code = c;
         fields = fs;
@@ -82,16 +82,16 @@ module _ {w : Writer} {r : Record} {c : Code} {fs : List Field} {wanted : List K
         next = refl;
       })
 
-order-code : (cs : List Code) (l : Line) (ls : List Line) (c : Code) → inOrder cs (l ∷ ls) ≡ fine c → code_of l ≡ some c
-unfolding inOrder coded
+order-code : (cs : List Code) (l : Line) (ls : List Line) (c : Code) → in_order cs (l ∷ ls) ≡ fine c → code_of l ≡ some c
+unfolding in_order coded
 order-code cs l ls c h =
     from-bind (coded 0 l) _ c h (λ d first rest.
     rw (← fine-same d c (then-fine (check (among d cs) 6 0) (fine d) c rest)) (or-fine (code_of l) 5 0 d first))
 
-taken-said : (w : Writer) (r : Record) (c : Code) (fs : List Field) (wanted : List Kind) → Taken w r c fs wanted → recordSaid r ≡ of_code c (allSaid fs)
-unfolding recordSaid codedSaid fieldsIn inOrder
+taken-said : (w : Writer) (r : Record) (c : Code) (fs : List Field) (wanted : List Kind) → Taken w r c fs wanted → record_said r ≡ of_code c (all_said fs)
+unfolding record_said coded_said fields_in in_order
 taken-said w [] c fs wanted t = absurd (refused-fine _ c t.order)
-taken-said w (l ∷ ls) c fs wanted t = rw (order-code (expectedIn w.phase) l ls c t.order, walk-taken t)
+taken-said w (l ∷ ls) c fs wanted t = rw (order-code (expected_in w.phase) l ls c t.order, walk-taken t)
 
 -- ---- the bytes so far
 
@@ -108,8 +108,8 @@ extended r g left vs = record { writer = (entry_of r.writer g left).next; bytes 
 pub record Ready (r : Run) : Type 0 where
   pub cut : Cut r.bytes
   pub size : r.writer.size ≡ length r.bytes
-  pub runs : run 0 start (fileRecords r.bytes) ≡ fine (state_of r.writer)
-  pub told : fileSaid r.bytes ≡ r.told
+  pub runs : run 0 start (file_records r.bytes) ≡ fine (state_of r.writer)
+  pub told : file_said r.bytes ≡ r.told
 
 -- with the last record apart: v is the writer before it
 pub record After (r : Run) : Type 0 where
@@ -119,18 +119,18 @@ pub record After (r : Run) : Type 0 where
   pub code : Code
   pub fields : List Field
   pub wanted : List Kind
-  pub whole : fileRecords r.bytes ≡ before ++ (last ∷ [])
+  pub whole : file_records r.bytes ≡ before ++ (last ∷ [])
   pub first : run 0 start before ≡ fine (state_of v)
   pub taken : Taken v last code fields wanted
-  pub state : stateAfter (state_of v) last (reading code fields) ≡ state_of r.writer
-  pub items : r.writer.items ≡ wantsItem wanted
-  pub item : wantsItem wanted ≡ true → (wanted ≡ furtherType ∷ []) × (code ≡ accountHeader)
+  pub state : state_after (state_of v) last (reading code fields) ≡ state_of r.writer
+  pub items : r.writer.items ≡ wants_item wanted
+  pub item : wants_item wanted ≡ true → (wanted ≡ further_type ∷ []) × (code ≡ account_header)
   pub cut : Cut r.bytes
   pub size : r.writer.size ≡ length r.bytes
-  pub told : r.told ≡ recordsSaid before ++ (of_code code (allSaid fields) ∷ [])
+  pub told : r.told ≡ records_said before ++ (of_code code (all_said fields) ∷ [])
 
-records-said : (rs qs : List Record) → recordsSaid (rs ++ qs) ≡ recordsSaid rs ++ recordsSaid qs
-unfolding recordsSaid
+records-said : (rs qs : List Record) → records_said (rs ++ qs) ≡ records_said rs ++ records_said qs
+unfolding records_said
 records-said [] qs = refl
 records-said (r ∷ rs) qs = rw (records-said rs qs)
 
@@ -140,34 +140,34 @@ module _ (r : Run) (b : After r) where
   last-run p = rw (step-taken b.taken, b.state)
 
   pub ready-after : Ready r
-  unfolding fileSaid recordsSaid
+  unfolding file_said records_said
   ready-after =
       record {
         cut = b.cut;
         size = b.size;
-        runs = rw (b.whole, run-append 0 start b.before (b.last ∷ []), b.first) (last-run (0 + sizeOfAll b.before));
+        runs = rw (b.whole, run-append 0 start b.before (b.last ∷ []), b.first) (last-run (0 + size_of_all b.before));
         told = rw (b.whole, records-said b.before (b.last ∷ []), taken-said b.v b.last b.code b.fields b.wanted b.taken) (sym b.told);
       }
 
 -- ---- a line more
 
 abbrev pub line_at : Given → Line
-line_at g = record { body = body_of g; lineEnd = lf }
+line_at g = record { body = body_of g; line_end = lf }
 
 module _ (g : Given) {vs : List Value} {left : List Kind} (l : Found g vs left) where
   pub body-clear : all allowed (body_of g) ≡ true
   unfolding body_of
-  body-clear = all_both allowed (codeBytes g.code) (rest_of g) (code-bytes g.code).clear l.clear
+  body-clear = all_both allowed (code_bytes g.code) (rest_of g) (code-bytes g.code).clear l.clear
 
-  body-short : length (body_of g) ≤ longestLine
+  body-short : length (body_of g) ≤ longest_line
   unfolding body_of
-  body-short = rw (length-append (codeBytes g.code) (rest_of g), (code-bytes g.code).size) (omega (arith, l.short))
+  body-short = rw (length-append (code_bytes g.code) (rest_of g), (code-bytes g.code).size) (omega (arith, l.short))
 
-  pub good-body : (p : ℕ) → goodLines p longestLine (line_at g ∷ []) ≡ fine tt
+  pub good-body : (p : ℕ) → good_lines p longest_line (line_at g ∷ []) ≡ fine tt
   unfolding body_of
-  good-body p = good-line g.code (rest_of g) longestLine p body-clear body-short
+  good-body p = good-line g.code (rest_of g) longest_line p body-clear body-short
 
-  pub cells-body : (p : ℕ) → cells_of p (line_at g) ≡ cellsFrom (p + 3) (rest_of g)
+  pub cells-body : (p : ℕ) → cells_of p (line_at g) ≡ cells_from (p + 3) (rest_of g)
   unfolding body_of cells_of
   cells-body p = rw ((code-bytes g.code).past (rest_of g))
 
@@ -178,19 +178,19 @@ size-more w bytes g left h = rw (length-append bytes (line_of g), h)
 -- ---- a new record
 
 module _ (r : Run) (ready : Ready r) (g : Given) (vs : List Value) (left : List Kind) (l : Found g vs left) where
-  this-line : ofRecord g.code (line_at g ∷ []) (l.fields 3) ≡ ofGiven g
-  unfolding ofRecord ofGiven
+  this-line : of_record g.code (line_at g ∷ []) (l.fields 3) ≡ of_given g
+  unfolding of_record of_given
   this-line = rw (l.sum 3)
 
-  new-taken : among g.code (expectedIn r.writer.phase) ≡ true → g.kinds ++ textKinds g.text ≡ fields_of g.code
-      → limitAfter g.code longestLine (l.fields 3) ≡ longestLine → magnitudes (r.writer.file.sum ⊕ sumGiven g.amount) ≤ most
-      → balanced g.code (r.writer.account ⊞ ofGiven g) (r.writer.group ⊞ ofGiven g) (r.writer.file ⊞ ofGiven g) (l.fields 3) ≡ fine tt
+  new-taken : among g.code (expected_in r.writer.phase) ≡ true → g.kinds ++ text_kinds g.text ≡ fields_of g.code
+      → limit_after g.code longest_line (l.fields 3) ≡ longest_line → magnitudes (r.writer.file.sum ⊕ sum_given g.amount) ≤ most
+      → balanced g.code (r.writer.account ⊞ of_given g) (r.writer.group ⊞ of_given g) (r.writer.file ⊞ of_given g) (l.fields 3) ≡ fine tt
       → Taken r.writer (line_at g ∷ []) g.code (l.fields 3) l.wanted
-  unfolding body_of walkLines
+  unfolding body_of walk_lines
   new-taken turn kinds limit bound balances =
       record {
         lines = good-body g l 0;
-        order = in_order g.code (rest_of g) (expectedIn r.writer.phase) [] turn;
+        order = in_order_lem g.code (rest_of g) (expected_in r.writer.phase) [] turn;
         slash = l.slash 3 0;
         walked = rw (cells-body g l 0, ← kinds, l.walked 3 [] 0);
         may = l.may;
@@ -199,25 +199,25 @@ module _ (r : Run) (ready : Ready r) (g : Given) (vs : List Value) (left : List 
         balances = rw this-line balances;
       }
 
-  records-new : begins continuation (line_at g) ≡ false → fileRecords (r.bytes ++ line_of g) ≡ fileRecords r.bytes ++ ((line_at g ∷ []) ∷ [])
-  unfolding line_of fileRecords recordsOf
+  records-new : begins continuation (line_at g) ≡ false → file_records (r.bytes ++ line_of g) ≡ file_records r.bytes ++ ((line_at g ∷ []) ∷ [])
+  unfolding line_of file_records records_of
   records-new h = rw (lines_more r.bytes (body_of g) ready.cut (body-clear g l)) (records-append (lines_of r.bytes) (line_at g ∷ []) (rw h tt))
 
-  new-state : limitAfter g.code longestLine (l.fields 3) ≡ longestLine → mayFollow g.code ≡ expectedIn (phaseAfter g.code)
-      → stateAfter (state_of r.writer) (line_at g ∷ []) (reading g.code (l.fields 3)) ≡ state_of (entry_of r.writer g left).next
-  unfolding stateAfter entry_of
+  new-state : limit_after g.code longest_line (l.fields 3) ≡ longest_line → may_follow g.code ≡ expected_in (phase_after g.code)
+      → state_after (state_of r.writer) (line_at g ∷ []) (reading g.code (l.fields 3)) ≡ state_of (entry_of r.writer g left).next
+  unfolding state_after entry_of
   new-state limit phase = rw (this-line, limit, phase)
 
-  pub new-record : among g.code (expectedIn r.writer.phase) ≡ true → g.kinds ++ textKinds g.text ≡ fields_of g.code
-      → limitAfter g.code longestLine (l.fields 3) ≡ longestLine → magnitudes (r.writer.file.sum ⊕ sumGiven g.amount) ≤ most
-      → balanced g.code (r.writer.account ⊞ ofGiven g) (r.writer.group ⊞ ofGiven g) (r.writer.file ⊞ ofGiven g) (l.fields 3) ≡ fine tt
-      → begins continuation (line_at g) ≡ false → mayFollow g.code ≡ expectedIn (phaseAfter g.code)
-      → (holdsItems g.code ≡ true → g.code ≡ accountHeader) → gathered g.code r.told vs ≡ r.told ++ (of_code g.code vs ∷ [])
+  pub new-record : among g.code (expected_in r.writer.phase) ≡ true → g.kinds ++ text_kinds g.text ≡ fields_of g.code
+      → limit_after g.code longest_line (l.fields 3) ≡ longest_line → magnitudes (r.writer.file.sum ⊕ sum_given g.amount) ≤ most
+      → balanced g.code (r.writer.account ⊞ of_given g) (r.writer.group ⊞ of_given g) (r.writer.file ⊞ of_given g) (l.fields 3) ≡ fine tt
+      → begins continuation (line_at g) ≡ false → may_follow g.code ≡ expected_in (phase_after g.code)
+      → (holds_items g.code ≡ true → g.code ≡ account_header) → gathered g.code r.told vs ≡ r.told ++ (of_code g.code vs ∷ [])
       → After (extended r g left vs)
-  unfolding entry_of line_of fileSaid
+  unfolding entry_of line_of file_said
   new-record turn kinds limit bound balances begin phase item told =
       record {
-        before = fileRecords r.bytes;
+        before = file_records r.bytes;
         v = r.writer;
         last = line_at g ∷ [];
         code = g.code;

@@ -9,9 +9,9 @@ use lib.ListN.{length, take}
 use borrow.Author.Tests.{ne_eqb}
 use Rattle.rules.specs.Bytes.{Bytes}
 use Rattle.rules.specs.Outcome.{Outcome, refused, fine}
-use Rattle.rules.specs.Limits.{longestFile}
-use Rattle.rules.specs.Writer.{Call, endFile, finished, Writer, Given, given, sound, line_of, Entry, entry_of, writeLine, Written, written_by, write}
-use Rattle.laws_writer.specs.SessionWords.{gathered, gives, Session, freshSession, called, calledAll}
+use Rattle.rules.specs.Limits.{longest_file}
+use Rattle.rules.specs.Writer.{Call, end_file, finished, Writer, Given, given, sound, line_of, Entry, entry_of, write_line, Written, written_by, write}
+use Rattle.laws_writer.specs.SessionWords.{gathered, gives, Session, fresh_session, called, called_all}
 use Rattle.laws_writer.proofs.Placing.{placed-front, placed-length}
 use Rattle.laws_writer.proofs.Passed.{Passed, passed, Numbered, line-numbered}
 use Rattle.laws_writer.proofs.Sound.{sound-says, is-sound, line-some, next-sound}
@@ -28,7 +28,7 @@ pub record Keeps (s : Session) : Type 0 where
   pub inside : s.writer.size ≤ length s.output
   pub sound : sound s.writer ≡ true
 
-fresh_keeps : (out : Bytes) → Keeps (freshSession out)
+fresh_keeps : (out : Bytes) → Keeps (fresh_session out)
 unfolding sound
 fresh_keeps out = record { stands = nothing_yet; inside = zero-le; sound = refl }
 
@@ -64,17 +64,17 @@ module _ (s : Session) (call : Call) (k : Keeps s) where
   pub called-keeps : Keeps (called s call)
   unfolding called write
   called-keeps =
-      outcome-kept (writeLine s.writer line (length s.output)) (line-numbered s.writer line (length s.output))
+      outcome-kept (write_line s.writer line (length s.output)) (line-numbered s.writer line (length s.output))
       (λ e. passed s.writer line (length s.output) e)
 
-all_keep : (s : Session) (calls : List Call) → Keeps s → Keeps (calledAll s calls)
-unfolding calledAll
+all_keep : (s : Session) (calls : List Call) → Keeps s → Keeps (called_all s calls)
+unfolding called_all
 all_keep s [] k = k
 all_keep s (c ∷ cs) k = all_keep (called s c) cs (called-keeps s c k)
 
 -- after any calls on a fresh writer
-pub always-keeps : (calls : List Call) (out : Bytes) → Keeps (calledAll (freshSession out) calls)
-always-keeps calls out = all_keep (freshSession out) calls (fresh_keeps out)
+pub always-keeps : (calls : List Call) (out : Bytes) → Keeps (called_all (fresh_session out) calls)
+always-keeps calls out = all_keep (fresh_session out) calls (fresh_keeps out)
 
 -- ---- an accepted end of the file
 
@@ -82,21 +82,21 @@ pub record Ended (answer : Written) : Type 0 where
   pub len : answer.len ≡ answer.writer.size
   pub phase : answer.writer.phase ≡ finished
   pub some_byte : 1 ≤ answer.writer.size
-  pub few : answer.writer.size ≤ longestFile
+  pub few : answer.writer.size ≤ longest_file
 
 module _ (w : Writer) (out : Bytes) where
-  entry-ends : (e : Entry) → Passed w (given w endFile) (length out) e → Ended (written_by w (fine e) out)
+  entry-ends : (e : Entry) → Passed w (given w end_file) (length out) e → Ended (written_by w (fine e) out)
   unfolding written_by entry_of given
   entry-ends e p =
       subst (λ (y : Entry). Ended (written_by w (fine y) out)) p.entry
-      (record { len = refl; phase = refl; some_byte = omega (arith, line-some (given w endFile)); few = p.size })
+      (record { len = refl; phase = refl; some_byte = omega (arith, line-some (given w end_file)); few = p.size })
 
-  outcome-ends : (o : Outcome Entry) → Numbered o → ((e : Entry) → o ≡ fine e → Passed w (given w endFile) (length out) e) → (written_by w o out).refusal.number ≡ 0 → Ended (written_by w o out)
+  outcome-ends : (o : Outcome Entry) → Numbered o → ((e : Entry) → o ≡ fine e → Passed w (given w end_file) (length out) e) → (written_by w o out).refusal.number ≡ 0 → Ended (written_by w o out)
   unfolding written_by
   outcome-ends (refused why) h p z = absurd (omega arith)
   outcome-ends (fine e) h p z = entry-ends e (p e refl)
 
-  pub end-ends : (write w endFile out).refusal.number ≡ 0 → Ended (write w endFile out)
+  pub end-ends : (write w end_file out).refusal.number ≡ 0 → Ended (write w end_file out)
   unfolding write
   end-ends z =
-      outcome-ends (writeLine w (given w endFile) (length out)) (line-numbered w (given w endFile) (length out)) (λ e. passed w (given w endFile) (length out) e) z
+      outcome-ends (write_line w (given w end_file) (length out)) (line-numbered w (given w end_file) (length out)) (λ e. passed w (given w end_file) (length out) e) z

@@ -8,12 +8,12 @@ use lib.Dec.{leb}
 use lib.ListN.{length, length-append}
 use borrow.Author.Tests.{le-leb, leb-true}
 use Rattle.rules.specs.Numbers.{◌⊕◌, magnitudes}
-use Rattle.rules.specs.Limits.{most, longestFile}
-use Rattle.rules.specs.Lines.{Code, groupHeader, accountHeader, detail, sameCode}
+use Rattle.rules.specs.Limits.{most, longest_file}
+use Rattle.rules.specs.Lines.{Code, group_header, account_header, detail, same_code}
 use Rattle.rules.specs.Grammar.{Kind}
-use Rattle.rules.specs.Totals.{Summary, noSummary, ◌⊞◌, one, adding}
-use Rattle.rules.specs.Order.{groupOpen, accountOpen}
-use Rattle.rules.specs.Writer.{Writer, Given, counted, sound, sumGiven, ofGiven, line_of, entry_of}
+use Rattle.rules.specs.Totals.{Summary, no_summary, ◌⊞◌, one, adding}
+use Rattle.rules.specs.Order.{group_open, account_open}
+use Rattle.rules.specs.Writer.{Writer, Given, counted, sound, sum_given, of_given, line_of, entry_of}
 use Rattle.base_digits.proofs.DigitTests.{and_left, and_right}
 
 -- ---- what a sound state says, and back
@@ -25,7 +25,7 @@ pub record Counted (n : ℕ) (s : Summary) : Type 0 where
   pub records : s.records ≤ n
 
 pub record Sound (w : Writer) : Type 0 where
-  pub size : w.size ≤ longestFile
+  pub size : w.size ≤ longest_file
   pub file : magnitudes w.file.sum ≤ most
   pub group : magnitudes w.group.sum ≤ magnitudes w.file.sum
   pub account : magnitudes w.account.sum ≤ magnitudes w.file.sum
@@ -48,13 +48,13 @@ pub sound-says : (w : Writer) → sound w ≡ true → Sound w
 unfolding sound
 sound-says w h =
     let file = magnitudes w.file.sum in
-    let h1 = and_right (leb w.size longestFile) _ h in
+    let h1 = and_right (leb w.size longest_file) _ h in
     let h2 = and_right (leb file most) _ h1 in
     let h3 = and_right (leb (magnitudes w.group.sum) file) _ h2 in
     let h4 = and_right (leb (magnitudes w.account.sum) file) _ h3 in
     let h5 = and_right (counted w.size w.file) _ h4 in
     record {
-      size = leb-true w.size longestFile (and_left (leb w.size longestFile) _ h);
+      size = leb-true w.size longest_file (and_left (leb w.size longest_file) _ h);
       file = leb-true file most (and_left (leb file most) _ h1);
       group = leb-true (magnitudes w.group.sum) file (and_left (leb (magnitudes w.group.sum) file) _ h2);
       account = leb-true (magnitudes w.account.sum) file (and_left (leb (magnitudes w.account.sum) file) _ h3);
@@ -70,7 +70,7 @@ pub is-sound : (w : Writer) → Sound w → sound w ≡ true
 unfolding sound
 is-sound w s =
     rw (
-      le-leb w.size longestFile s.size,
+      le-leb w.size longest_file s.size,
       le-leb (magnitudes w.file.sum) most s.file,
       le-leb (magnitudes w.group.sum) (magnitudes w.file.sum) s.group,
       le-leb (magnitudes w.account.sum) (magnitudes w.file.sum) s.account,
@@ -82,7 +82,7 @@ is-sound w s =
 -- ---- one line more
 
 pub one-few : (c d : Code) → one c d ≤ 1
-one-few c d = by-test (sameCode c d)
+one-few c d = by-test (same_code c d)
   where
     by-test : (t : Bool) → cond t 1 0 ≤ 1
     by-test true = omega arith
@@ -93,13 +93,13 @@ unfolding line_of
 line-some g = rw length-append (omega arith)
 
 -- a line adds at most one to each count
-this-counted : (g : Given) → Counted (length (line_of g)) (ofGiven g)
-unfolding ofGiven adding
+this-counted : (g : Given) → Counted (length (line_of g)) (of_given g)
+unfolding of_given adding
 this-counted g =
     let some_byte = line-some g in
     record {
-      groups = omega (arith, one-few g.code groupHeader);
-      accounts = omega (arith, one-few g.code accountHeader);
+      groups = omega (arith, one-few g.code group_header);
+      accounts = omega (arith, one-few g.code account_header);
       details = omega (arith, one-few g.code detail);
       records = some_byte;
     }
@@ -115,29 +115,29 @@ more-counted x y =
     }
 
 -- so it is of what is open, where something is
-open-counted : (t : Bool) {m n : ℕ} {a b : Summary} → Counted m a → Counted n b → Counted (m + n) (cond t (a ⊞ b) noSummary)
+open-counted : (t : Bool) {m n : ℕ} {a b : Summary} → Counted m a → Counted n b → Counted (m + n) (cond t (a ⊞ b) no_summary)
 open-counted true x y = more-counted x y
 open-counted false x y = record { groups = omega arith; accounts = omega arith; details = omega arith; records = omega arith }
 
-open-sum : (t : Bool) (f a b : Summary) → magnitudes a.sum ≤ magnitudes f.sum → magnitudes (cond t (a ⊞ b) noSummary).sum ≤ magnitudes (f ⊞ b).sum
+open-sum : (t : Bool) (f a b : Summary) → magnitudes a.sum ≤ magnitudes f.sum → magnitudes (cond t (a ⊞ b) no_summary).sum ≤ magnitudes (f ⊞ b).sum
 unfolding ◌⊞◌
 open-sum true f a b h = omega arith
 open-sum false f a b h = omega arith
 
-sum-within : (w : Writer) (g : Given) → magnitudes (w.file.sum ⊕ sumGiven g.amount) ≤ most → magnitudes (w.file ⊞ ofGiven g).sum ≤ most
-unfolding ◌⊞◌ ofGiven adding
+sum-within : (w : Writer) (g : Given) → magnitudes (w.file.sum ⊕ sum_given g.amount) ≤ most → magnitudes (w.file ⊞ of_given g).sum ≤ most
+unfolding ◌⊞◌ of_given adding
 sum-within w g m = m
 
-pub next-sound : (w : Writer) (g : Given) (left : List Kind) → Sound w → magnitudes (w.file.sum ⊕ sumGiven g.amount) ≤ most → w.size + length (line_of g) ≤ longestFile
+pub next-sound : (w : Writer) (g : Given) (left : List Kind) → Sound w → magnitudes (w.file.sum ⊕ sum_given g.amount) ≤ most → w.size + length (line_of g) ≤ longest_file
     → Sound (entry_of w g left).next
 unfolding entry_of
 next-sound w g left s m n =
     record {
       size = n;
       file = sum-within w g m;
-      group = open-sum (groupOpen g.code) w.file w.group (ofGiven g) s.group;
-      account = open-sum (accountOpen g.code) w.file w.account (ofGiven g) s.account;
+      group = open-sum (group_open g.code) w.file w.group (of_given g) s.group;
+      account = open-sum (account_open g.code) w.file w.account (of_given g) s.account;
       in-file = more-counted s.in-file (this-counted g);
-      in_group = open-counted (groupOpen g.code) s.in_group (this-counted g);
-      in-account = open-counted (accountOpen g.code) s.in-account (this-counted g);
+      in_group = open-counted (group_open g.code) s.in_group (this-counted g);
+      in-account = open-counted (account_open g.code) s.in-account (this-counted g);
     }

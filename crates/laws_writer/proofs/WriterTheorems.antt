@@ -10,9 +10,9 @@ use borrow.Author.Tests.{ne_eqb}
 use Rattle.rules.specs.Bytes.{Bytes}
 use Rattle.rules.specs.Outcome.{Outcome, refused, fine}
 use Rattle.rules.specs.Verdict.{judge}
-use Rattle.rules.specs.Writer.{Call, endFile, sound, given, Entry, writeLine, Written, written_by, write}
+use Rattle.rules.specs.Writer.{Call, end_file, sound, given, Entry, write_line, Written, written_by, write}
 use Rattle.rules.proofs.Accepted.{accepted-again}
-use Rattle.laws_writer.specs.SessionWords.{fileSaid, gathered, gives, Session, freshSession, called, calledAll}
+use Rattle.laws_writer.specs.SessionWords.{file_said, gathered, gives, Session, fresh_session, called, called_all}
 use Rattle.laws_writer.proofs.NumberFields.{not-empty}
 use Rattle.laws_writer.proofs.RecordsWritten.{state_of, Ready}
 use Rattle.laws_writer.proofs.CallsKept.{ready}
@@ -21,16 +21,16 @@ use Rattle.laws_writer.proofs.Sessions.{run_of, always-keeps, called-keeps, end-
 -- Any calls on a fresh writer, each with the state and the slice that the one before left, refused ones among them; and then the end of the file.
 module _ (calls : List Call) (out : Bytes) where
   abbrev before : Session
-  before = calledAll (freshSession out) calls
+  before = called_all (fresh_session out) calls
 
   abbrev end : Written
-  end = write before.writer endFile before.output
+  end = write before.writer end_file before.output
 
   abbrev file : Bytes
   file = take end.len end.output
 
-  end-ready : Ready (run_of (called before endFile))
-  end-ready = ready (called-keeps before endFile (always-keeps calls out)).stands
+  end-ready : Ready (run_of (called before end_file))
+  end-ready = ready (called-keeps before end_file (always-keeps calls out)).stands
 
   written-size : end.refusal.number ≡ 0 → length file ≡ end.writer.size
   unfolding called
@@ -53,7 +53,7 @@ module _ (calls : List Call) (out : Bytes) where
       })
 
   -- and record by record, in order, its code and what its fields say are what the calls gave: each amount and count the number given, each text the bytes given.
-  pub reads-back : end.refusal.number ≡ 0 → fileSaid file ≡ (called before endFile).told
+  pub reads-back : end.refusal.number ≡ 0 → file_said file ≡ (called before end_file).told
   unfolding called
   reads-back h = rw (end-ends before.writer before.output h).len end-ready.told
 
@@ -64,7 +64,7 @@ module _ (calls : List Call) (out : Bytes) where
 -- A refused call changes nothing: neither the state nor the slice, nor what was told.
 pub refused-stays : (s : Session) (call : Call) → ((write s.writer call s.output).refusal.number ≡ 0 → ⊥) → called s call ≡ s
 unfolding called write written_by
-refused-stays s call h = by-outcome (writeLine s.writer (given s.writer call) (length s.output)) h
+refused-stays s call h = by-outcome (write_line s.writer (given s.writer call) (length s.output)) h
   where
     by-outcome : (o : Outcome Entry) → ((written_by s.writer o s.output).refusal.number ≡ 0 → ⊥)
         → record {

@@ -7,40 +7,40 @@ use native.Mathlib.Nat.{add-zero, zero-add, add-suc, suc-add, le_of_suc-le-suc, 
 use borrow.Author.Tests.{ne_eqb}
 use lib.ListN.{get_or, get_or-map}
 use Rattle.rules.specs.Bytes.{letter}
-use Rattle.rules.specs.CodeList.{isStatus, isSummary, Entry, unlisted, NA, CR, DB, entryIn, entry_of}
-use Rattle.name_codes.specs.ClassMeaning.{entryMeant}
+use Rattle.rules.specs.CodeList.{is_status, is_summary, Entry, unlisted, NA, CR, DB, entry_in, entry_of}
+use Rattle.name_codes.specs.ClassMeaning.{entry_meant}
 
 -- the letter for what the list says of a code
-abbrev pub letterOf : Entry → ℕ
-letterOf unlisted = letter "."
-letterOf (NA l) = cond (isStatus l) (letter "s") (letter "n")
-letterOf (CR l) = cond (isSummary l) (letter "C") (letter "c")
-letterOf (DB l) = cond (isSummary l) (letter "D") (letter "d")
+abbrev pub letter_of : Entry → ℕ
+letter_of unlisted = letter "."
+letter_of (NA l) = cond (is_status l) (letter "s") (letter "n")
+letter_of (CR l) = cond (is_summary l) (letter "C") (letter "c")
+letter_of (DB l) = cond (is_summary l) (letter "D") (letter "d")
 
 -- what it says of n codes from this one on
-unfoldable pub entriesFrom : ℕ → ℕ → List Entry
-entriesFrom code zero = []
-entriesFrom code (suc n) = entry_of code ∷ entriesFrom (suc code) n
+unfoldable pub entries_from : ℕ → ℕ → List Entry
+entries_from code zero = []
+entries_from code (suc n) = entry_of code ∷ entries_from (suc code) n
 
 abbrev pub letters : List ℕ
-letters = map letterOf (entriesFrom 0 1000)
+letters = map letter_of (entries_from 0 1000)
 
-letters-right : map entryMeant letters ≡ entriesFrom 0 1000
-unfolding entryMeant entriesFrom entryIn entry_of
+letters-right : map entry_meant letters ≡ entries_from 0 1000
+unfolding entry_meant entries_from entry_in entry_of
 letters-right = refl
 
-entry_at : (code n k : ℕ) (e : Entry) → k < n → get_or (entriesFrom code n) k e ≡ entry_of (code + k)
-unfolding entriesFrom
+entry_at : (code n k : ℕ) (e : Entry) → k < n → get_or (entries_from code n) k e ≡ entry_of (code + k)
+unfolding entries_from
 entry_at code zero k e below = absurd (not-suc-le-zero below)
 entry_at code (suc n) zero e below = ap entry_of (sym (add-zero code))
 entry_at code (suc n) (suc k) e below = entry_at (suc code) n k e (le_of_suc-le-suc below) ∙ ap entry_of (suc-add code k ∙ sym (add-suc code k))
 
 -- a letter means what the list says of its place
-pub letter_at : (code : ℕ) → code < 1000 → entryMeant (get_or letters code 0) ≡ entry_of code
+pub letter_at : (code : ℕ) → code < 1000 → entry_meant (get_or letters code 0) ≡ entry_of code
 letter_at code below =
-    sym (get_or-map entryMeant letters code 0)
-    ∙ ap (λ (es : List Entry). get_or es code (entryMeant 0)) letters-right
-    ∙ entry_at 0 1000 code (entryMeant 0) below
+    sym (get_or-map entry_meant letters code 0)
+    ∙ ap (λ (es : List Entry). get_or es code (entry_meant 0)) letters-right
+    ∙ entry_at 0 1000 code (entry_meant 0) below
     ∙ ap entry_of (zero-add code)
 
 -- ---- any other byte
@@ -48,7 +48,7 @@ letter_at code below =
 -- a byte that is none of the six letters means that the code isn't listed
 pub no-letter : (b : ℕ)
     → (b ≡ letter "s" → ⊥) → (b ≡ letter "C" → ⊥) → (b ≡ letter "c" → ⊥) → (b ≡ letter "D" → ⊥) → (b ≡ letter "d" → ⊥) → (b ≡ letter "n" → ⊥)
-    → entryMeant b ≡ unlisted
-unfolding entryMeant
+    → entry_meant b ≡ unlisted
+unfolding entry_meant
 no-letter b s C c D d n =
     rw (ne_eqb b (letter "s") s, ne_eqb b (letter "C") C, ne_eqb b (letter "c") c, ne_eqb b (letter "D") D, ne_eqb b (letter "d") d, ne_eqb b (letter "n") n) refl

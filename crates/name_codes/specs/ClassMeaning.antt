@@ -5,18 +5,18 @@ use Rattle.rules.specs.CodeList.{Status, Summary, Detail, Entry, unlisted, NA, C
 use Rattle.name_codes.specs.declared.CodeClass.{CodeClass}
 use Rattle.name_codes.specs.declared.CodeClass.TheVariants as classes
 
-abbrev pub classMeant : CodeClass → Entry
-classMeant classes.Unlisted = unlisted
-classMeant classes.Status = NA Status
-classMeant classes.CreditSummary = CR Summary
-classMeant classes.CreditDetail = CR Detail
-classMeant classes.DebitSummary = DB Summary
-classMeant classes.DebitDetail = DB Detail
-classMeant classes.NonMonetary = NA Detail
+abbrev pub class_meant : CodeClass → Entry
+class_meant classes.Unlisted = unlisted
+class_meant classes.Status = NA Status
+class_meant classes.CreditSummary = CR Summary
+class_meant classes.CreditDetail = CR Detail
+class_meant classes.DebitSummary = DB Summary
+class_meant classes.DebitDetail = DB Detail
+class_meant classes.NonMonetary = NA Detail
 
 -- and each letter of the table
-unfoldable pub entryMeant : ℕ → Entry
-entryMeant b =
+unfoldable pub entry_meant : ℕ → Entry
+entry_meant b =
     cond (eqb b (letter "s")) (NA Status)
     (cond (eqb b (letter "C")) (CR Summary)
     (cond (eqb b (letter "c")) (CR Detail)

@@ -1,7 +1,7 @@
 // What the uniform list of document 000 says of each type code, as one table over 000 to 999.
 ghost use Rattle.std.specs.Prelude.{◌≡◌};
 ghost use Rattle.rules.specs.CodeList.{entry_of};
-ghost use Rattle.name_codes.specs.ClassMeaning.{classMeant, entryMeant};
+ghost use Rattle.name_codes.specs.ClassMeaning.{class_meant, entry_meant};
 
 // What a type code is for. NonMonetary: a detail, neither credit nor debit.
 #[derive(Drop)]
@@ -40,7 +40,7 @@ const CLASSES: [u8; 1000] = *b"\
 
 // The table's letter for a code; for any number over 999 a dot.
 fn letter_of(code: u64) -> u8
-    ensures { entryMeant result ≡ entry_of code }
+    ensures { entry_meant result ≡ entry_of code }
 {
     if code > 999 {
         return b'.';
@@ -50,7 +50,7 @@ fn letter_of(code: u64) -> u8
 
 // The class that a letter of the table stands for.
 fn class_of(letter: u8) -> CodeClass
-    ensures { classMeant result ≡ entryMeant letter }
+    ensures { class_meant result ≡ entry_meant letter }
 {
     match letter {
         b's' => CodeClass::Status,
@@ -65,7 +65,7 @@ fn class_of(letter: u8) -> CodeClass
 
 // What the list says of a code, whatever the number; over 999 none is listed.
 pub fn code_class(code: u64) -> CodeClass
-    ensures { classMeant result ≡ entry_of code }
+    ensures { class_meant result ≡ entry_of code }
 {
     class_of(letter_of(code))
 }

@@ -2,19 +2,19 @@
 use Rattle.std.specs.Prelude.{◌+◌, ◌≤◌, ◌≡◌, length, take, drop}
 use Rattle.rules.specs.Bytes.{Bytes}
 use Rattle.rules.specs.Answers as rules
-use Rattle.base_refusals.specs.RefusalMeaning.{refusalMeant}
-use Rattle.base_amounts.specs.AmountsRead.{amountMeant}
+use Rattle.base_refusals.specs.RefusalMeaning.{refusal_meant}
+use Rattle.base_amounts.specs.AmountsRead.{amount_meant}
 use Rattle.part_details.specs.declared.DetailAnswer.{DetailAnswer}
 
 -- a detail: its refusal, and its figures
-abbrev pub detailMeant : DetailAnswer → rules.DetailAnswer
-detailMeant d =
+abbrev pub detail_meant : DetailAnswer → rules.DetailAnswer
+detail_meant d =
     record {
-      refusal = refusalMeant d.refusal;
+      refusal = refusal_meant d.refusal;
       type = d.type_code;
-      amount = amountMeant d.amount;
-      textStart = d.text_start.0;
-      textLength = d.text_length;
+      amount = amount_meant d.amount;
+      text_start = d.text_start.0;
+      text_length = d.text_length;
     }
 
 -- its text stands in the file where it says

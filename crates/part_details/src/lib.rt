@@ -2,8 +2,8 @@
 ghost use Rattle.std.specs.Prelude.{◌≡◌, ◌+◌, ◌≤◌, length};
 ghost use Rattle.rules.specs.Outcome.{or_else};
 ghost use Rattle.rules.specs.Parts as rules;
-ghost use Rattle.rules.specs.Answers.{detailOfFile, noDetail};
-ghost use Rattle.part_details.specs.DetailMeaning.{detailMeant, TextStands};
+ghost use Rattle.rules.specs.Answers.{detail_of_file, no_detail};
+ghost use Rattle.part_details.specs.DetailMeaning.{detail_meant, TextStands};
 ghost use Rattle.part_details.specs.TextPlace.{TextIs};
 
 use base_amounts::Amount;
@@ -49,7 +49,7 @@ fn text_in(file: &[u8], from: Place, to: Place) -> Spot
 
 // The detail of this number in that account: reader's refusal, 17.
 pub fn detail(file: &[u8], g: u64, a: u64, n: u64) -> DetailAnswer
-    ensures { (detailMeant result ≡ detailOfFile file.now g a n) × TextStands file.now result (or_else (rules.detailAt file.now g a n) noDetail).textBytes }
+    ensures { (detail_meant result ≡ detail_of_file file.now g a n) × TextStands file.now result (or_else (rules.detail_at file.now g a n) no_detail).text_bytes }
 {
     let part = part_groups::find_detail(file, g, a, n);
     let refusal = part.refusal;
@@ -79,7 +79,7 @@ pub fn detail(file: &[u8], g: u64, a: u64, n: u64) -> DetailAnswer
 
 // The detail's first text piece, in the file; empty if none, and when refused.
 pub fn detail_text(file: &[u8], g: u64, a: u64, n: u64) -> &[u8]
-    ensures { result.now ≡ (or_else (rules.detailAt file.now g a n) noDetail).textBytes }
+    ensures { result.now ≡ (or_else (rules.detail_at file.now g a n) no_detail).text_bytes }
 {
     let found = detail(file, g, a, n);
     let start = found.text_start;

@@ -1,9 +1,9 @@
 // The fields of the record that begins at a byte: of each its kind, its place in the file and its length. The file is not judged.
 ghost use Rattle.std.specs.Prelude.{◌≡◌, ◌*◌, leb, drop};
-ghost use Rattle.rules.specs.HandedOut.{fieldsOfRecord};
-ghost use Rattle.base_codes.specs.CodeMeaning.{codeMeant};
+ghost use Rattle.rules.specs.HandedOut.{fields_of_record};
+ghost use Rattle.base_codes.specs.CodeMeaning.{code_meant};
 ghost use Rattle.part_fields.specs.declared.Fields.TheVariants.{Refused};
-ghost use Rattle.part_fields.specs.FieldAnswers.{Gives, fieldsMeant};
+ghost use Rattle.part_fields.specs.FieldAnswers.{Gives, fields_meant};
 
 use base_codes::Code;
 use base_quantities::Place;
@@ -49,7 +49,7 @@ fn has_room(fields: usize, room: usize) -> bool
 
 // The fields of the record of this code that starts there, put into the slice at once; or, first, why not.
 fn fields_of(file: &[u8], start: Place, code: Code, out: &mut [u64]) -> Fields
-    ensures { Gives (drop start.0 file.now) start.0 (codeMeant code) out.old out.new result }
+    ensures { Gives (drop start.0 file.now) start.0 (code_meant code) out.old out.new result }
 {
     let mut held = [0u64; 48];
     match find_walk::walk_to(file, start, 1, code, NO_KIND, &mut held) {
@@ -73,7 +73,7 @@ fn fields_of(file: &[u8], start: Place, code: Code, out: &mut [u64]) -> Fields
 
 // The fields of the record that begins there: their numbers at the front of the slice, three a field.
 pub fn fields_at(file: &[u8], start: Place, out: &mut [u64]) -> Fields
-    ensures { fieldsMeant result out.new ≡ fieldsOfRecord file.now start.0 out.old }
+    ensures { fields_meant result out.new ≡ fields_of_record file.now start.0 out.old }
 {
     if file.len() <= start.0 {
         return refuse(NO_SUCH_PART, Place(0));

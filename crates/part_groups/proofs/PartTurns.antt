@@ -7,17 +7,17 @@ use mathlib.Core.List.{List, [], ◌∷◌, ◌++◌, append_assoc}
 use lib.Dec.{T}
 use lib.ListN.{length, take, drop}
 use lib.Seq.{drop-drop}
-use Rattle.rules.specs.Bytes.{Bytes, sameBytes}
-use Rattle.rules.specs.Outcome.{Outcome, notRefused}
-use Rattle.rules.specs.Lines.{lines_of, Code, fileHeader, groupHeader, accountHeader, detail, accountTrailer, groupTrailer, fileTrailer, continuation, codeBytes, Record, recordSize, recordBytes, fileRecords}
-use Rattle.rules.specs.Parts.{heads, cut_at, Placed, Parts, partFrom, partIn, partBytes, sizeOfAll}
+use Rattle.rules.specs.Bytes.{Bytes, same_bytes}
+use Rattle.rules.specs.Outcome.{Outcome, not_refused}
+use Rattle.rules.specs.Lines.{lines_of, Code, file_header, group_header, account_header, detail, account_trailer, group_trailer, file_trailer, continuation, code_bytes, Record, record_size, record_bytes, file_records}
+use Rattle.rules.specs.Parts.{heads, cut_at, Placed, Parts, part_from, part_in, part_bytes, size_of_all}
 use Rattle.rules.specs.Combine.{concat}
-use Rattle.rules.specs.Answers.{PartAnswer, partAnswer}
+use Rattle.rules.specs.Answers.{PartAnswer, part_answer}
 use Rattle.rules.proofs.Tests.{is_true}
-use Rattle.read_lines.specs.LineLengths.{firstRecord}
+use Rattle.read_lines.specs.LineLengths.{first_record}
 use Rattle.read_lines.proofs.LineLengthLaws.{first_of, line-some}
 use Rattle.read_lines.proofs.OneRecord.{first-size}
-use Rattle.find_lines.specs.LinesOfCode.{bytesBefore}
+use Rattle.find_lines.specs.LinesOfCode.{bytes_before}
 use Rattle.laws.specs.LawWords.{All, Begins, IsRecord}
 use Rattle.laws.proofs.Lists.{all_left, all_right, concat-append}
 use Rattle.laws.proofs.Codes.{of-own, not-of}
@@ -27,26 +27,26 @@ use Rattle.part_groups.specs.PartsEnclosed.{Apart, Ahead, Envelope}
 
 -- ---- any bytes
 
-coded : (c : Code) (xs : Bytes) → sameBytes (codeBytes c) (take 3 xs) ≡ true → 0 < length xs
-unfolding sameBytes
+coded : (c : Code) (xs : Bytes) → same_bytes (code_bytes c) (take 3 xs) ≡ true → 0 < length xs
+unfolding same_bytes
 coded c (b ∷ bs) h = omega arith
-coded fileHeader [] h = let z : ◌≡◌ {A = ℕ} 0 1 = cc in absurd (omega arith)
-coded groupHeader [] h = let z : ◌≡◌ {A = ℕ} 0 1 = cc in absurd (omega arith)
-coded accountHeader [] h = let z : ◌≡◌ {A = ℕ} 0 1 = cc in absurd (omega arith)
+coded file_header [] h = let z : ◌≡◌ {A = ℕ} 0 1 = cc in absurd (omega arith)
+coded group_header [] h = let z : ◌≡◌ {A = ℕ} 0 1 = cc in absurd (omega arith)
+coded account_header [] h = let z : ◌≡◌ {A = ℕ} 0 1 = cc in absurd (omega arith)
 coded detail [] h = let z : ◌≡◌ {A = ℕ} 0 1 = cc in absurd (omega arith)
-coded accountTrailer [] h = let z : ◌≡◌ {A = ℕ} 0 1 = cc in absurd (omega arith)
-coded groupTrailer [] h = let z : ◌≡◌ {A = ℕ} 0 1 = cc in absurd (omega arith)
-coded fileTrailer [] h = let z : ◌≡◌ {A = ℕ} 0 1 = cc in absurd (omega arith)
+coded account_trailer [] h = let z : ◌≡◌ {A = ℕ} 0 1 = cc in absurd (omega arith)
+coded group_trailer [] h = let z : ◌≡◌ {A = ℕ} 0 1 = cc in absurd (omega arith)
+coded file_trailer [] h = let z : ◌≡◌ {A = ℕ} 0 1 = cc in absurd (omega arith)
 coded continuation [] h = let z : ◌≡◌ {A = ℕ} 0 1 = cc in absurd (omega arith)
 
-some-record : (xs : Bytes) → 0 < length xs → 0 < recordSize (firstRecord (lines_of xs))
-unfolding firstRecord recordSize
+some-record : (xs : Bytes) → 0 < length xs → 0 < record_size (first_record (lines_of xs))
+unfolding first_record record_size
 some-record xs h = rw (first_of xs h) (omega (arith, first-size xs, line-some xs h))
 
 -- a turn's places: the record at `at` ends at m, the part at e
-pub spans : (c d : Code) (s : Bytes) (at m e : ℕ) → sameBytes (codeBytes c) (take 3 (drop at s)) ≡ true → at ≤ length s
-    → (m ≡ at + recordSize (firstRecord (lines_of (drop at s)))) × (m ≤ length s + (at - length s))
-    → (e ≡ m + bytesBefore c d (lines_of (drop m s))) × (e ≤ length s + (m - length s))
+pub spans : (c d : Code) (s : Bytes) (at m e : ℕ) → same_bytes (code_bytes c) (take 3 (drop at s)) ≡ true → at ≤ length s
+    → (m ≡ at + record_size (first_record (lines_of (drop at s)))) × (m ≤ length s + (at - length s))
+    → (e ≡ m + bytes_before c d (lines_of (drop m s))) × (e ≤ length s + (m - length s))
     → (at < e) × (e ≤ length s)
 spans c d s at m e begun within (p, p') (q, q') = let z = some-record (drop at s) (coded c (drop at s) begun) in (omega arith, omega arith)
 
@@ -55,33 +55,33 @@ spans c d s at m e begun within (p, p') (q, q') = let z = some-record (drop at s
 -- the parts left from `at` on, of which the one sought has number left
 pub record Left (c d : Code) (others : List Code) (s : Bytes) (sought : Outcome Placed) (at left : ℕ) : Type 0 where
   pub parts : List (List Record)
-  pub ahead : Ahead c d others parts (fileRecords (drop at s))
-  pub same : sought ≡ partFrom at parts left
+  pub ahead : Ahead c d others parts (file_records (drop at s))
+  pub same : sought ≡ part_from at parts left
 
 -- 17
 abbrev pub no_part : PartAnswer
 no_part = record { refusal = record { number = 17; place = 0 }; start = 0; len = 0 }
 
-no-part : (at left : ℕ) → no_part ≡ partAnswer (partFrom at [] left)
-unfolding partAnswer partFrom partBytes
+no-part : (at left : ℕ) → no_part ≡ part_answer (part_from at [] left)
+unfolding part_answer part_from part_bytes
 no-part at left = refl
 
 -- the first part
-pub started : (c d : Code) (s : Bytes) (n at : ℕ) → at ≡ 0 + recordSize (firstRecord (lines_of (drop 0 s))) → (e : Envelope c d (fileRecords s))
-    → Left c d e.others s (partIn 0 (cut_at c d (fileRecords s)) n) at n
-unfolding partIn sizeOfAll
+pub started : (c d : Code) (s : Bytes) (n at : ℕ) → at ≡ 0 + record_size (first_record (lines_of (drop 0 s))) → (e : Envelope c d (file_records s))
+    → Left c d e.others s (part_in 0 (cut_at c d (file_records s)) n) at n
+unfolding part_in size_of_all
 started c d s n at p e =
-    let size : at ≡ recordSize e.first + 0 = p ∙ ap (λ (r : Record). 0 + recordSize r) (first-is s e.first e.rest e.whole) ∙ omega arith in
-    let place : 0 + (recordSize e.first + 0) ≡ at = omega (arith, size) in
+    let size : at ≡ record_size e.first + 0 = p ∙ ap (λ (r : Record). 0 + record_size r) (first-is s e.first e.rest e.whole) ∙ omega arith in
+    let place : 0 + (record_size e.first + 0) ≡ at = omega (arith, size) in
     record {
       parts = e.parts;
-      ahead = subst (Ahead c d e.others e.parts) (sym (ap (λ (k : ℕ). fileRecords (drop k s)) size ∙ records-drop (e.first ∷ []) e.rest s e.whole)) e.ahead;
-      same = ap (λ (x : Parts). partFrom (0 + sizeOfAll x.waiting) x.parts n) e.cut ∙ ap (λ (k : ℕ). partFrom k e.parts n) place;
+      ahead = subst (Ahead c d e.others e.parts) (sym (ap (λ (k : ℕ). file_records (drop k s)) size ∙ records-drop (e.first ∷ []) e.rest s e.whole)) e.ahead;
+      same = ap (λ (x : Parts). part_from (0 + size_of_all x.waiting) x.parts n) e.cut ∙ ap (λ (k : ℕ). part_from k e.parts n) place;
     }
 
 module _ (c d : Code) (others : List Code) (a : Apart c d others) where
   -- where parts are over, or the next one begins, a line of code c or d stands
-  next-code : (ps : List (List Record)) (last : Record) → All (Begins c others) ps → T (heads d last) → bytesBefore c d (concat (concat ps ++ (last ∷ []))) ≡ 0
+  next-code : (ps : List (List Record)) (last : Record) → All (Begins c others) ps → T (heads d last) → bytes_before c d (concat (concat ps ++ (last ∷ []))) ≡ 0
   unfolding concat
   next-code [] last o h = before-first c d last [] (by_last (heads c last))
     where
@@ -92,30 +92,30 @@ module _ (c d : Code) (others : List Code) (a : Apart c d others) where
   next-code ((r ∷ rs) ∷ ps) last o h = before-first c d r (concat ((rs ++ concat ps) ++ (last ∷ []))) (rw (is_true (heads c r) o.0.0))
 
   -- the part in front of bytes, and what is after it
-  module _ (xs : Bytes) (r : Record) (rs : List Record) (ps : List (List Record)) (h : Ahead c d others ((r ∷ rs) ∷ ps) (fileRecords xs)) where
+  module _ (xs : Bytes) (r : Record) (rs : List Record) (ps : List (List Record)) (h : Ahead c d others ((r ∷ rs) ∷ ps) (file_records xs)) where
     abbrev after : List Record
     after = concat ps ++ (h.last ∷ [])
 
-    reads : fileRecords xs ≡ (r ∷ rs) ++ after
+    reads : file_records xs ≡ (r ∷ rs) ++ after
     unfolding concat
     reads = h.whole ∙ append_assoc (r ∷ rs) (concat ps) (h.last ∷ [])
 
-    first-size-is : recordSize (firstRecord (lines_of xs)) ≡ recordSize r
-    first-size-is = ap recordSize (first-is xs r (rs ++ after) reads)
+    first-size-is : record_size (first_record (lines_of xs)) ≡ record_size r
+    first-size-is = ap record_size (first-is xs r (rs ++ after) reads)
 
-    from_first : fileRecords (drop (recordSize r) xs) ≡ rs ++ after
-    unfolding sizeOfAll
-    from_first = let z : recordSize r ≡ recordSize r + 0 = omega arith in ap (λ (k : ℕ). fileRecords (drop k xs)) z ∙ records-drop (r ∷ []) (rs ++ after) xs reads
+    from_first : file_records (drop (record_size r) xs) ≡ rs ++ after
+    unfolding size_of_all
+    from_first = let z : record_size r ≡ record_size r + 0 = omega arith in ap (λ (k : ℕ). file_records (drop k xs)) z ∙ records-drop (r ∷ []) (rs ++ after) xs reads
 
-    rest-size : bytesBefore c d (lines_of (drop (recordSize r) xs)) ≡ sizeOfAll rs
+    rest-size : bytes_before c d (lines_of (drop (record_size r) xs)) ≡ size_of_all rs
     unfolding concat
     rest-size =
-        ap (bytesBefore c d) (lines_are (drop (recordSize r) xs) (rs ++ after) from_first ∙ concat-append rs after)
+        ap (bytes_before c d) (lines_are (drop (record_size r) xs) (rs ++ after) from_first ∙ concat-append rs after)
         ∙ before-past c d (concat rs) (concat after)
         (passed-records c d others a.c-else a.d-else a.c-88 a.d-88 rs h.opens.0.1 (all_left IsRecord rs (concat ps) h.are-records.1))
         ∙ omega (arith, size-joined rs, next-code ps h.last h.opens.1 h.is_last)
 
-    after-ahead : Ahead c d others ps (fileRecords (drop (sizeOfAll (r ∷ rs)) xs))
+    after-ahead : Ahead c d others ps (file_records (drop (size_of_all (r ∷ rs)) xs))
     unfolding concat
     after-ahead =
         record {
@@ -126,58 +126,58 @@ module _ (c d : Code) (others : List Code) (a : Apart c d others) where
           are-records = all_right IsRecord (r ∷ rs) (concat ps) h.are-records;
         }
 
-    headed : sameBytes (codeBytes c) (take 3 xs) ≡ true
+    headed : same_bytes (code_bytes c) (take 3 xs) ≡ true
     headed = sym (heads-front xs r (rs ++ after) reads c) ∙ is_true (heads c r) h.opens.0.0
 
   -- no part is left
-  over : (xs : Bytes) → Ahead c d others [] (fileRecords xs) → sameBytes (codeBytes c) (take 3 xs) ≡ false
+  over : (xs : Bytes) → Ahead c d others [] (file_records xs) → same_bytes (code_bytes c) (take 3 xs) ≡ false
   unfolding concat
   over xs h = sym (heads-front xs h.last [] h.whole c) ∙ not-of (d ∷ []) c h.last a.d-c (of-own d [] h.last h.is_last)
 
   -- a part stands at `at`: its first record ends at m, and it ends at e
-  module _ (s : Bytes) (at m e : ℕ) (begun : sameBytes (codeBytes c) (take 3 (drop at s)) ≡ true)
-      (p : m ≡ at + recordSize (firstRecord (lines_of (drop at s)))) (q : e ≡ m + bytesBefore c d (lines_of (drop m s))) where
+  module _ (s : Bytes) (at m e : ℕ) (begun : same_bytes (code_bytes c) (take 3 (drop at s)) ≡ true)
+      (p : m ≡ at + record_size (first_record (lines_of (drop at s)))) (q : e ≡ m + bytes_before c d (lines_of (drop m s))) where
     record Turn (ps : List (List Record)) : Type 0 where
       part : List Record
       further : List (List Record)
       split : ps ≡ part ∷ further
-      size : e ≡ at + sizeOfAll part
-      ahead : Ahead c d others further (fileRecords (drop e s))
+      size : e ≡ at + size_of_all part
+      ahead : Ahead c d others further (file_records (drop e s))
 
-    turn-of : (r : Record) (rs : List Record) (ps : List (List Record)) → Ahead c d others ((r ∷ rs) ∷ ps) (fileRecords (drop at s)) → Turn ((r ∷ rs) ∷ ps)
-    unfolding sizeOfAll
+    turn-of : (r : Record) (rs : List Record) (ps : List (List Record)) → Ahead c d others ((r ∷ rs) ∷ ps) (file_records (drop at s)) → Turn ((r ∷ rs) ∷ ps)
+    unfolding size_of_all
     turn-of r rs ps h =
         let xs = drop at s in
-        let m-is : m ≡ at + recordSize r = p ∙ ap (λ (k : ℕ). at + k) (first-size-is xs r rs ps h) in
-        let from-m : drop m s ≡ drop (recordSize r) xs = ap (λ (k : ℕ). drop k s) m-is ∙ sym (drop-drop (recordSize r) at s) in
-        let e-is : e ≡ at + (recordSize r + sizeOfAll rs) = q ∙ ap (λ (ys : Bytes). m + bytesBefore c d (lines_of ys)) from-m ∙ omega (arith, rest-size xs r rs ps h) in
-        let from-e : drop (recordSize r + sizeOfAll rs) xs ≡ drop e s = drop-drop (recordSize r + sizeOfAll rs) at s ∙ ap (λ (k : ℕ). drop k s) (sym e-is) in
+        let m-is : m ≡ at + record_size r = p ∙ ap (λ (k : ℕ). at + k) (first-size-is xs r rs ps h) in
+        let from-m : drop m s ≡ drop (record_size r) xs = ap (λ (k : ℕ). drop k s) m-is ∙ sym (drop-drop (record_size r) at s) in
+        let e-is : e ≡ at + (record_size r + size_of_all rs) = q ∙ ap (λ (ys : Bytes). m + bytes_before c d (lines_of ys)) from-m ∙ omega (arith, rest-size xs r rs ps h) in
+        let from-e : drop (record_size r + size_of_all rs) xs ≡ drop e s = drop-drop (record_size r + size_of_all rs) at s ∙ ap (λ (k : ℕ). drop k s) (sym e-is) in
         record {
           part = r ∷ rs;
           further = ps;
           split = refl;
           size = e-is;
-          ahead = subst (λ (ys : Bytes). Ahead c d others ps (fileRecords ys)) from-e (after-ahead xs r rs ps h);
+          ahead = subst (λ (ys : Bytes). Ahead c d others ps (file_records ys)) from-e (after-ahead xs r rs ps h);
         }
 
-    turn : (ps : List (List Record)) → Ahead c d others ps (fileRecords (drop at s)) → Turn ps
+    turn : (ps : List (List Record)) → Ahead c d others ps (file_records (drop at s)) → Turn ps
     turn [] h = let z : false ≡ true = sym (over (drop at s) h) ∙ begun in let y : ◌≡◌ {A = ℕ} 0 1 = cc in absurd (omega arith)
     turn ([] ∷ ps) h = absurd h.opens.0
     turn ((r ∷ rs) ∷ ps) h = turn-of r rs ps h
 
     module _ (sought : Outcome Placed) where
       -- it is the one sought
-      pub hit : (left : ℕ) → left ≡ 0 → Left c d others s sought at left → record { refusal = notRefused; start = at; len = e - at } ≡ partAnswer sought
-      unfolding partAnswer partFrom partBytes
+      pub hit : (left : ℕ) → left ≡ 0 → Left c d others s sought at left → record { refusal = not_refused; start = at; len = e - at } ≡ part_answer sought
+      unfolding part_answer part_from part_bytes
       hit left z l =
           let t = turn l.parts l.ahead in
-          let is : sought ≡ partFrom at (t.part ∷ t.further) 0 = l.same ∙ ap (λ (k : ℕ). partFrom at l.parts k) z ∙ ap (λ (ps : List (List Record)). partFrom at ps 0) t.split in
-          let size : e - at ≡ length (recordBytes t.part) = omega (arith, t.size, size-length t.part) in
+          let is : sought ≡ part_from at (t.part ∷ t.further) 0 = l.same ∙ ap (λ (k : ℕ). part_from at l.parts k) z ∙ ap (λ (ps : List (List Record)). part_from at ps 0) t.split in
+          let size : e - at ≡ length (record_bytes t.part) = omega (arith, t.size, size-length t.part) in
           rw (is, size)
 
       -- it is not, and the search goes on after it
       pub go : (left : ℕ) → 0 < left → Left c d others s sought at left → Left c d others s sought e (left - 1)
-      unfolding partFrom
+      unfolding part_from
       go zero z l = absurd (omega arith)
       go (suc k) z l =
           let t = turn l.parts l.ahead in
@@ -187,17 +187,17 @@ module _ (c d : Code) (others : List Code) (a : Apart c d others) where
             ahead = t.ahead;
             same =
                 l.same
-                ∙ ap (λ (ps : List (List Record)). partFrom at ps (suc k)) t.split
-                ∙ ap (λ (n : ℕ). partFrom n t.further k) (sym t.size)
-                ∙ ap (λ (n : ℕ). partFrom e t.further n) less;
+                ∙ ap (λ (ps : List (List Record)). part_from at ps (suc k)) t.split
+                ∙ ap (λ (n : ℕ). part_from n t.further k) (sym t.size)
+                ∙ ap (λ (n : ℕ). part_from e t.further n) less;
           }
 
   -- where none stands there is none
-  pub missed : (s : Bytes) (sought : Outcome Placed) (at left : ℕ) → sameBytes (codeBytes c) (take 3 (drop at s)) ≡ false → Left c d others s sought at left
-      → no_part ≡ partAnswer sought
+  pub missed : (s : Bytes) (sought : Outcome Placed) (at left : ℕ) → same_bytes (code_bytes c) (take 3 (drop at s)) ≡ false → Left c d others s sought at left
+      → no_part ≡ part_answer sought
   missed s sought at left none l = by_parts l.parts l.ahead l.same
     where
-      by_parts : (ps : List (List Record)) → Ahead c d others ps (fileRecords (drop at s)) → sought ≡ partFrom at ps left → no_part ≡ partAnswer sought
-      by_parts [] h e = no-part at left ∙ ap partAnswer (sym e)
+      by_parts : (ps : List (List Record)) → Ahead c d others ps (file_records (drop at s)) → sought ≡ part_from at ps left → no_part ≡ part_answer sought
+      by_parts [] h e = no-part at left ∙ ap part_answer (sym e)
       by_parts ([] ∷ ps) h e = absurd h.opens.0
       by_parts ((r ∷ rs) ∷ ps) h e = let z : true ≡ false = sym (headed (drop at s) r rs ps h) ∙ none in let y : ◌≡◌ {A = ℕ} 0 1 = cc in absurd (omega arith)

@@ -2,12 +2,12 @@
 use Rattle.std.specs.Prelude.{◌+◌, ◌≤◌, length, take, drop}
 use Rattle.rules.specs.Bytes.{Bytes}
 use Rattle.rules.specs.Answers.{PartAnswer}
-use Rattle.base_refusals.specs.RefusalMeaning.{refusalMeant}
+use Rattle.base_refusals.specs.RefusalMeaning.{refusal_meant}
 use Rattle.part_groups.specs.declared.Part.{Part}
 
 -- a part: its refusal, and where it stands
-abbrev pub partMeant : Part → PartAnswer
-partMeant p = record { refusal = refusalMeant p.refusal; start = p.start.0; len = p.length }
+abbrev pub part_meant : Part → PartAnswer
+part_meant p = record { refusal = refusal_meant p.refusal; start = p.start.0; len = p.length }
 
 -- it ends within these bytes
 abbrev pub Inside : Bytes → PartAnswer → Type 0

@@ -2,11 +2,11 @@
 use Rattle.std.specs.Prelude.{ℕ, ◌<◌, ◌≡◌, not, List, [], ◌∷◌, ◌++◌, T, length, take, drop}
 use Rattle.rules.specs.Bytes.{Bytes}
 use Rattle.rules.specs.Outcome.{Refusal, Outcome, refused, fine, ◌>>=◌}
-use Rattle.rules.specs.Lines.{Code, continuation, Record, recordBytes, fileRecords}
+use Rattle.rules.specs.Lines.{Code, continuation, Record, record_bytes, file_records}
 use Rattle.rules.specs.Order.{among}
-use Rattle.rules.specs.Parts.{heads, cut_at, Placed, partIn}
+use Rattle.rules.specs.Parts.{heads, cut_at, Placed, part_in}
 use Rattle.rules.specs.Combine.{concat}
-use Rattle.rules.specs.Answers.{PartAnswer, partAnswer}
+use Rattle.rules.specs.Answers.{PartAnswer, part_answer}
 use Rattle.laws.specs.LawWords.{All, Begins, IsRecord}
 use Rattle.part_groups.specs.PartMeaning.{Inside}
 
@@ -37,16 +37,16 @@ pub record Envelope (c d : Code) (rs : List Record) : Type 0 where
   pub ahead : Ahead c d others parts rest
   pub cut : cut_at c d rs ≡ record { waiting = first ∷ []; parts = parts }
 
--- where these bytes are an envelope: its part of number n, as `partIn` of `cut_at` (rules/specs/Parts.antt) gives it; for a file joined to `groupPart` by
+-- where these bytes are an envelope: its part of number n, as `part_in` of `cut_at` (rules/specs/Parts.antt) gives it; for a file joined to `group_part` by
 -- `group-accepted` (proofs/PartsStand.antt)
 pub record Finds (c d : Code) (xs : Bytes) (n : ℕ) (r : PartAnswer) : Type 0 where
-  pub found : Envelope c d (fileRecords xs) → r ≡ partAnswer (partIn 0 (cut_at c d (fileRecords xs)) n)
+  pub found : Envelope c d (file_records xs) → r ≡ part_answer (part_in 0 (cut_at c d (file_records xs)) n)
   pub inside : Inside xs r
 
 -- a part that is an envelope, and a slice of the file that reads as itself
 pub record Stands (c d : Code) (file : Bytes) (x : Placed) : Type 0 where
-  pub slice : take (length (recordBytes x.records)) (drop x.place file) ≡ recordBytes x.records
-  pub alone : fileRecords (recordBytes x.records) ≡ x.records
+  pub slice : take (length (record_bytes x.records)) (drop x.place file) ≡ record_bytes x.records
+  pub alone : file_records (record_bytes x.records) ≡ x.records
   pub envelope : Envelope c d x.records
 
 -- an outcome that is refused, if at all, by a number that isn't 0
@@ -58,8 +58,8 @@ pub record Outer (c d : Code) (file : Bytes) (o : Outcome Placed) : Type 0 where
   pub stands : (x : Placed) → o ≡ fine x → Stands c d file x
   pub refuses : Numbered o
 
--- where the outer part says so: its part of number n, or that refusal, as `accountAt` and `detailPartAt` (rules/specs/Parts.antt) give them; joined by
+-- where the outer part says so: its part of number n, or that refusal, as `account_at` and `detail_part_at` (rules/specs/Parts.antt) give them; joined by
 -- `outer-group` and `outer-account` (proofs/PartsStand.antt)
 pub record FindsWithin (c d : Code) (file : Bytes) (outer : PartAnswer) (n : ℕ) (r : PartAnswer) : Type 0 where
-  pub found : (o : Outcome Placed) → outer ≡ partAnswer o → Outer c d file o → r ≡ partAnswer (o >>= λ x. partIn x.place (cut_at c d x.records) n)
+  pub found : (o : Outcome Placed) → outer ≡ part_answer o → Outer c d file o → r ≡ part_answer (o >>= λ x. part_in x.place (cut_at c d x.records) n)
   pub inside : Inside file r

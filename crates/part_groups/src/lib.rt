@@ -1,11 +1,11 @@
 // Parts of a file by number: its groups, a group's accounts, an account's details. A part is a slice of the lent file itself.
 ghost use Rattle.std.specs.Prelude.{◌≡◌, ◌+◌, ◌≤◌, length};
-ghost use Rattle.rules.specs.Outcome.{refusalOf};
+ghost use Rattle.rules.specs.Outcome.{refusal_of};
 ghost use Rattle.rules.specs.Parts as rules;
-ghost use Rattle.rules.specs.Answers.{partAnswer, groupPart, accountPart};
-ghost use Rattle.base_refusals.specs.RefusalMeaning.{refusalMeant};
-ghost use Rattle.base_codes.specs.CodeMeaning.{codeMeant};
-ghost use Rattle.part_groups.specs.PartMeaning.{partMeant, Inside, bytes_at};
+ghost use Rattle.rules.specs.Answers.{part_answer, group_part, account_part};
+ghost use Rattle.base_refusals.specs.RefusalMeaning.{refusal_meant};
+ghost use Rattle.base_codes.specs.CodeMeaning.{code_meant};
+ghost use Rattle.part_groups.specs.PartMeaning.{part_meant, Inside, bytes_at};
 ghost use Rattle.part_groups.specs.PartsEnclosed.{Finds, FindsWithin};
 
 use base_codes::Code;
@@ -23,7 +23,7 @@ pub struct Part {
 
 // No part, for this reason.
 fn no_part(why: Refusal) -> Part
-    ensures { partMeant result ≡ record { refusal = refusalMeant why; start = 0; len = 0 } }
+    ensures { part_meant result ≡ record { refusal = refusal_meant why; start = 0; len = 0 } }
 {
     Part {
         refusal: why,
@@ -34,7 +34,7 @@ fn no_part(why: Refusal) -> Part
 
 // The part of this number in an envelope: parts open with one code, up to the next or to the envelope's last record, of the other code.
 fn nth_part(s: &[u8], opening: Code, closing: Code, n: u64) -> Part
-    ensures { Finds (codeMeant opening) (codeMeant closing) s.now n (partMeant result) }
+    ensures { Finds (code_meant opening) (code_meant closing) s.now n (part_meant result) }
 {
     let mut at = read_lines::record_end(s, Place(0)).0;
     let mut left = n;
@@ -64,7 +64,7 @@ fn nth_part(s: &[u8], opening: Code, closing: Code, n: u64) -> Part
 // The same in a part of the file: the middle of the file is handed on, and the place answered there is counted from the file's start.
 fn part_within(file: &[u8], outer: Part, opening: Code, closing: Code, n: u64) -> Part
     requires { outer.start.0 + outer.length ≤ length file.now }
-    ensures { FindsWithin (codeMeant opening) (codeMeant closing) file.now (partMeant outer) n (partMeant result) }
+    ensures { FindsWithin (code_meant opening) (code_meant closing) file.now (part_meant outer) n (part_meant result) }
 {
     let why = outer.refusal;
     if why.number != 0 {
@@ -92,7 +92,7 @@ fn part_within(file: &[u8], outer: Part, opening: Code, closing: Code, n: u64) -
 
 // Where the group of this number stands, from its 02 to the end of its 98's last line: reader's refusal, 17.
 pub fn find_group(file: &[u8], n: u64) -> Part
-    ensures { (partMeant result ≡ groupPart file.now n) × Inside file.now (partMeant result) }
+    ensures { (part_meant result ≡ group_part file.now n) × Inside file.now (part_meant result) }
 {
     match read_file::read(file) {
         Verdict::Refused(why) => no_part(why),
@@ -102,7 +102,7 @@ pub fn find_group(file: &[u8], n: u64) -> Part
 
 // Where the account of this number in that group stands, from its 03 to the end of its 49's last line.
 pub fn find_account(file: &[u8], g: u64, n: u64) -> Part
-    ensures { (partMeant result ≡ accountPart file.now g n) × Inside file.now (partMeant result) }
+    ensures { (part_meant result ≡ account_part file.now g n) × Inside file.now (part_meant result) }
 {
     part_within(
         file,
@@ -115,7 +115,7 @@ pub fn find_account(file: &[u8], g: u64, n: u64) -> Part
 
 // Where the detail of this number in that account stands: its 16, to the end of its last line.
 pub fn find_detail(file: &[u8], g: u64, a: u64, n: u64) -> Part
-    ensures { (partMeant result ≡ partAnswer (rules.detailPartAt file.now g a n)) × Inside file.now (partMeant result) }
+    ensures { (part_meant result ≡ part_answer (rules.detail_part_at file.now g a n)) × Inside file.now (part_meant result) }
 {
     part_within(
         file,
@@ -128,8 +128,8 @@ pub fn find_detail(file: &[u8], g: u64, a: u64, n: u64) -> Part
 
 // The bytes of a part that ends within the file.
 fn bytes_of(file: &[u8], part: Part) -> &[u8]
-    requires { Inside file.now (partMeant part) }
-    ensures { result.now ≡ bytes_at file.now (partMeant part) }
+    requires { Inside file.now (part_meant part) }
+    ensures { result.now ≡ bytes_at file.now (part_meant part) }
 {
     let start = part.start;
     let from = start.0;
@@ -139,21 +139,21 @@ fn bytes_of(file: &[u8], part: Part) -> &[u8]
 
 // The group's part of the file; empty when refused.
 pub fn group(file: &[u8], n: u64) -> &[u8]
-    ensures { result.now ≡ rules.partBytes (rules.groupAt file.now n) }
+    ensures { result.now ≡ rules.part_bytes (rules.group_at file.now n) }
 {
     bytes_of(file, find_group(file, n))
 }
 
 // The account's part of the file; empty when refused.
 pub fn account(file: &[u8], g: u64, n: u64) -> &[u8]
-    ensures { result.now ≡ rules.partBytes (rules.accountAt file.now g n) }
+    ensures { result.now ≡ rules.part_bytes (rules.account_at file.now g n) }
 {
     bytes_of(file, find_account(file, g, n))
 }
 
 // Why there is no such group.
 pub fn group_refusal(file: &[u8], n: u64) -> Refusal
-    ensures { refusalMeant result ≡ refusalOf (rules.groupAt file.now n) }
+    ensures { refusal_meant result ≡ refusal_of (rules.group_at file.now n) }
 {
     let part = find_group(file, n);
     part.refusal
@@ -161,7 +161,7 @@ pub fn group_refusal(file: &[u8], n: u64) -> Refusal
 
 // Why there is no such account.
 pub fn account_refusal(file: &[u8], g: u64, n: u64) -> Refusal
-    ensures { refusalMeant result ≡ refusalOf (rules.accountAt file.now g n) }
+    ensures { refusal_meant result ≡ refusal_of (rules.account_at file.now g n) }
 {
     let part = find_account(file, g, n);
     part.refusal

@@ -2,9 +2,9 @@
 ghost use Rattle.std.specs.Prelude.{◌≡◌};
 ghost use Rattle.std.proofs.Math.Option.{none};
 ghost use Rattle.rules.specs.Amounts.{empty};
-ghost use Rattle.rules.specs.Answers.{itemOfFile};
-ghost use Rattle.base_refusals.specs.RefusalMeaning.{refusalMeant};
-ghost use Rattle.part_items.specs.ItemMeaning.{itemMeant};
+ghost use Rattle.rules.specs.Answers.{item_of_file};
+ghost use Rattle.base_refusals.specs.RefusalMeaning.{refusal_meant};
+ghost use Rattle.part_items.specs.ItemMeaning.{item_meant};
 
 use base_amounts::Amount;
 use base_quantities::Place;
@@ -22,7 +22,7 @@ pub struct ItemAnswer {
 
 // No item, for this reason.
 fn no_item(why: Refusal) -> ItemAnswer
-    ensures { itemMeant result ≡ record { refusal = refusalMeant why; type = 0; amount = empty; count = none } }
+    ensures { item_meant result ≡ record { refusal = refusal_meant why; type = 0; amount = empty; count = none } }
 {
     ItemAnswer {
         refusal: why,
@@ -34,7 +34,7 @@ fn no_item(why: Refusal) -> ItemAnswer
 
 // The item of this number in the 03 of that account: reader's refusal, 17.
 pub fn item(file: &[u8], g: u64, a: u64, n: u64) -> ItemAnswer
-    ensures { itemMeant result ≡ itemOfFile file.now g a n }
+    ensures { item_meant result ≡ item_of_file file.now g a n }
 {
     let part = part_groups::find_account(file, g, a);
     let refusal = part.refusal;

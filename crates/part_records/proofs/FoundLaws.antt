@@ -7,16 +7,16 @@ use mathlib.Core.Option.{none, some}
 use mathlib.Core.Bool.{true, false}
 use lib.ListN.{length, take, drop, get_or, length-take, length-drop, drop_of_length-le}
 use lib.Seq.{drop-drop, length-take-le}
-use Rattle.rules.specs.Bytes.{Bytes, sameBytes}
+use Rattle.rules.specs.Bytes.{Bytes, same_bytes}
 use Rattle.rules.specs.Outcome.{refuse, fine, ◌>>=◌}
-use Rattle.rules.specs.Lines.{Line, Code, fileHeader, groupHeader, accountHeader, detail, continuation, lines_of, codeBytes, code_in, code_of, Record, recordsOf, recordSize, fileRecords}
+use Rattle.rules.specs.Lines.{Line, Code, file_header, group_header, account_header, detail, continuation, lines_of, code_bytes, code_in, code_of, Record, records_of, record_size, file_records}
 use Rattle.rules.proofs.Tests.{same-eq}
 use Rattle.rules.specs.Verdict.{coded}
-use Rattle.rules.specs.HandedOut.{firstCoded, recordAt, recordAnswer}
+use Rattle.rules.specs.HandedOut.{first_coded, record_at, record_answer}
 use Rattle.base_quantities.specs.declared.Records.{Records}
 use Rattle.base_codes.specs.declared.Code as code
-use Rattle.base_codes.specs.CodeMeaning.{codeMeant}
-use Rattle.read_lines.specs.LineLengths.{lineLen, firstLine, further, firstRecord}
+use Rattle.base_codes.specs.CodeMeaning.{code_meant}
+use Rattle.read_lines.specs.LineLengths.{line_len, first_line, further, first_record}
 use Rattle.read_lines.proofs.LineLengthLaws.{first_of}
 use Rattle.read_lines.proofs.Fronts.{begins-front}
 use Rattle.read_lines.proofs.LineLaws.{record-start, further-none}
@@ -30,13 +30,13 @@ module _ (file : Bytes) (start : ℕ) where
   there = drop start file
 
   -- refused by this number at this place
-  refused-finds : (r : Found) (n p : ℕ) → r ≡ found.Refused (record { number = n; place = record { 0 = p } }) → recordAt file start ≡ refuse n p → Finds file start r
-  unfolding recordAnswer
-  refused-finds r n p q e = subst (Finds file start) (sym q) (record { answer = sym (ap recordAnswer e); outcome = e; inside = tt })
+  refused-finds : (r : Found) (n p : ℕ) → r ≡ found.Refused (record { number = n; place = record { 0 = p } }) → record_at file start ≡ refuse n p → Finds file start r
+  unfolding record_answer
+  refused-finds r n p q e = subst (Finds file start) (sym q) (record { answer = sym (ap record_answer e); outcome = e; inside = tt })
 
   -- past the end
   pub past_finds : (r : Found) → r ≡ found.Refused (record { number = 17; place = record { 0 = 0 } }) → length file ≤ start → Finds file start r
-  unfolding recordAt firstCoded fileRecords recordsOf lines_of
+  unfolding record_at first_coded file_records records_of lines_of
   past_finds r q h = refused-finds r 17 0 q (rw (drop_of_length-le file {i = start} h))
 
   module _ (h : start < length file) where
@@ -44,33 +44,33 @@ module _ (file : Bytes) (start : ℕ) where
     some_byte = omega (arith, length-drop start file)
 
     -- the line that starts there decides
-    pub by_code : recordAt file start ≡ (coded start (firstLine there) >>= λ c. fine (record { code = c; lines = firstRecord (lines_of there) }))
-    unfolding recordAt firstCoded fileRecords firstRecord
-    by_code = rw (one-record there (recordSize (firstRecord (lines_of there))) refl some_byte, first_of there some_byte)
+    pub by_code : record_at file start ≡ (coded start (first_line there) >>= λ c. fine (record { code = c; lines = first_record (lines_of there) }))
+    unfolding record_at first_coded file_records first_record
+    by_code = rw (one-record there (record_size (first_record (lines_of there))) refl some_byte, first_of there some_byte)
 
-    pub uncoded-finds : (r : Found) → r ≡ found.Refused (record { number = 5; place = record { 0 = start } }) → none ≡ code_of (firstLine there) → Finds file start r
+    pub uncoded-finds : (r : Found) → r ≡ found.Refused (record { number = 5; place = record { 0 = start } }) → none ≡ code_of (first_line there) → Finds file start r
     unfolding coded
     uncoded-finds r q e = refused-finds r 5 start q (by_code ∙ rw (← e))
 
     -- n: where the next line starts; it is followed by `lines` 88 lines up to `end`
-    module _ (c : code.Code) (e : some (codeMeant c) ≡ code_of (firstLine there)) (n lines end : ℕ) (hn : n ≡ start + lineLen there)
-        (hl : lines ≡ length (further (lines_of (drop n file)))) (he : end ≡ n + recordSize (further (lines_of (drop n file)))) (within : end ≤ length file) where
-      first : firstRecord (lines_of there) ≡ firstLine there ∷ further (lines_of (drop n file))
-      unfolding firstRecord
+    module _ (c : code.Code) (e : some (code_meant c) ≡ code_of (first_line there)) (n lines end : ℕ) (hn : n ≡ start + line_len there)
+        (hl : lines ≡ length (further (lines_of (drop n file)))) (he : end ≡ n + record_size (further (lines_of (drop n file)))) (within : end ≤ length file) where
+      first : first_record (lines_of there) ≡ first_line there ∷ further (lines_of (drop n file))
+      unfolding first_record
       first =
-          let q : drop (lineLen there) there ≡ drop n file = drop-drop (lineLen there) start file ∙ ap (λ (i : ℕ). drop i file) (sym hn) in
+          let q : drop (line_len there) there ≡ drop n file = drop-drop (line_len there) start file ∙ ap (λ (i : ℕ). drop i file) (sym hn) in
           rw (first_of there some_byte, q)
 
       abbrev size : ℕ
       size = end - start
 
-      size_is : size ≡ recordSize (firstRecord (lines_of there))
+      size_is : size ≡ record_size (first_record (lines_of there))
       size_is = omega (arith, record-start file start n hn, he)
 
-      part-is : lines_of (take size there) ≡ firstRecord (lines_of there)
+      part-is : lines_of (take size there) ≡ first_record (lines_of there)
       part-is = first_part there size size_is some_byte
 
-      outcome-is : recordAt file start ≡ fine (record { code = codeMeant c; lines = lines_of (take size there) })
+      outcome-is : record_at file start ≡ fine (record { code = code_meant c; lines = lines_of (take size there) })
       unfolding coded
       outcome-is = by_code ∙ rw (← e, part-is)
 
@@ -78,33 +78,33 @@ module _ (file : Bytes) (start : ℕ) where
       count-is = rw (part-is, first) (omega (arith, hl))
 
       pub coded-finds : start ≤ end → Finds file start (found.Record c (record { 0 = lines + 1 }) size)
-      unfolding recordAnswer
+      unfolding record_answer
       coded-finds low =
-          let length-is : recordSize (lines_of (take size there)) ≡ size = lines-size (take size there) ∙ length-take-le size there (omega (arith, length-drop start file)) in
-          record { answer = sym (ap recordAnswer outcome-is ∙ rw (length-is, ← count-is)); outcome = outcome-is; inside = omega arith }
+          let length-is : record_size (lines_of (take size there)) ≡ size = lines-size (take size there) ∙ length-take-le size there (omega (arith, length-drop start file)) in
+          record { answer = sym (ap record_answer outcome-is ∙ rw (length-is, ← count-is)); outcome = outcome-is; inside = omega arith }
 
     -- it is followed by no 88 line
-    pub single-finds : (c : code.Code) → some (codeMeant c) ≡ code_of (firstLine there) → (n : ℕ) → n ≡ start + lineLen there → sameBytes (codeBytes continuation) (take 3 (drop n file)) ≡ false
+    pub single-finds : (c : code.Code) → some (code_meant c) ≡ code_of (first_line there) → (n : ℕ) → n ≡ start + line_len there → same_bytes (code_bytes continuation) (take 3 (drop n file)) ≡ false
         → n ≤ length file → start ≤ n → Finds file start (found.Record c (record { 0 = 1 }) (n - start))
-    unfolding recordSize
+    unfolding record_size
     single-finds c e n hn last within low =
         let z = further-none file n last in
         let size : n ≡ n + 0 = omega arith in
-        coded-finds c e n 0 n hn (sym (ap length z)) (size ∙ sym (ap (λ (ls : List Line). n + recordSize ls) z)) within low
+        coded-finds c e n 0 n hn (sym (ap length z)) (size ∙ sym (ap (λ (ls : List Line). n + record_size ls) z)) within low
 
 -- ---- the code of a line: a detail's, or sought one after the other
 
-pub detail-found : (xs : Bytes) → sameBytes (codeBytes detail) (take 3 xs) ≡ true → code_of (firstLine xs) ≡ some detail
-unfolding code_of code_in sameBytes
+pub detail-found : (xs : Bytes) → same_bytes (code_bytes detail) (take 3 xs) ≡ true → code_of (first_line xs) ≡ some detail
+unfolding code_of code_in same_bytes
 detail-found xs t =
-    let is : take 3 xs ≡ codeBytes detail = sym (same-eq (codeBytes detail) (take 3 xs) (rw t tt)) in
-    rw (begins-front fileHeader xs, begins-front groupHeader xs, begins-front accountHeader xs, begins-front detail xs, is)
+    let is : take 3 xs ≡ code_bytes detail = sym (same-eq (code_bytes detail) (take 3 xs) (rw t tt)) in
+    rw (begins-front file_header xs, begins-front group_header xs, begins-front account_header xs, begins-front detail xs, is)
 
 unfoldable pub meant : List code.Code → List Code
 meant [] = []
-meant (c ∷ cs) = codeMeant c ∷ meant cs
+meant (c ∷ cs) = code_meant c ∷ meant cs
 
-from-here : (cs : List code.Code) (i : ℕ) (d : code.Code) → i < length cs → drop i (meant cs) ≡ codeMeant (get_or cs i d) ∷ drop (i + 1) (meant cs)
+from-here : (cs : List code.Code) (i : ℕ) (d : code.Code) → i < length cs → drop i (meant cs) ≡ code_meant (get_or cs i d) ∷ drop (i + 1) (meant cs)
 unfolding meant
 from-here [] i d h = absurd (omega arith)
 from-here (c ∷ cs) zero d h = refl
@@ -112,22 +112,22 @@ from-here (c ∷ cs) (suc i) d h = let z : suc i + 1 ≡ suc (i + 1) = omega ari
 
 module _ (xs : Bytes) (cs : List code.Code) (i : ℕ) (d : code.Code) (h : i < length cs) where
   abbrev this : Code
-  this = codeMeant (get_or cs i d)
+  this = code_meant (get_or cs i d)
 
-  pub code-found : sameBytes (codeBytes this) (take 3 xs) ≡ true → code_in (drop i (meant cs)) (firstLine xs) ≡ some this
+  pub code-found : same_bytes (code_bytes this) (take 3 xs) ≡ true → code_in (drop i (meant cs)) (first_line xs) ≡ some this
   unfolding code_in
   code-found t = rw (from-here cs i d h, begins-front this xs, t)
 
-  pub code-passed : sameBytes (codeBytes this) (take 3 xs) ≡ false → code_in (drop i (meant cs)) (firstLine xs) ≡ code_in (drop (i + 1) (meant cs)) (firstLine xs)
+  pub code-passed : same_bytes (code_bytes this) (take 3 xs) ≡ false → code_in (drop i (meant cs)) (first_line xs) ≡ code_in (drop (i + 1) (meant cs)) (first_line xs)
   unfolding code_in
   code-passed t = rw (from-here cs i d h, begins-front this xs, t)
 
 -- none is left
-pub none_left : (xs : Bytes) (cs : List code.Code) (i : ℕ) → length cs ≤ i → code_in (drop i (meant cs)) (firstLine xs) ≡ none
+pub none_left : (xs : Bytes) (cs : List code.Code) (i : ℕ) → length cs ≤ i → code_in (drop i (meant cs)) (first_line xs) ≡ none
 unfolding code_in meant
 none_left xs [] i h = nothing i
   where
-    nothing : (n : ℕ) → code_in (drop n []) (firstLine xs) ≡ none
+    nothing : (n : ℕ) → code_in (drop n []) (first_line xs) ≡ none
     nothing zero = refl
     nothing (suc n) = refl
 none_left xs (c ∷ cs) zero h = absurd (omega arith)

@@ -1,8 +1,8 @@
 // The record that begins at a byte: its code, its lines and its length. The file is not judged.
 ghost use Rattle.std.specs.Prelude.{◌≡◌, drop};
 ghost use Rattle.rules.specs.Lines.{code_of};
-ghost use Rattle.read_lines.specs.LineLengths.{firstLine};
-ghost use Rattle.read_lines.specs.LineAnswers.{codeFound};
+ghost use Rattle.read_lines.specs.LineLengths.{first_line};
+ghost use Rattle.read_lines.specs.LineAnswers.{code_found};
 ghost use Rattle.part_records.specs.declared.Found.TheVariants.{Refused};
 ghost use Rattle.part_records.specs.RecordsFound.{Finds};
 
@@ -28,7 +28,7 @@ fn refuse(number: u64, place: Place) -> Found
 // The code of the line that starts there: a detail's is sought first, then one after the other. (`read_lines::code_at` answers the same, and is the reader's alone: with a second caller
 // the compiler no longer draws it into the reader.)
 pub fn code_there(file: &[u8], start: Place) -> Coded
-    ensures { codeFound result ≡ code_of (firstLine (drop start.0 file.now)) }
+    ensures { code_found result ≡ code_of (first_line (drop start.0 file.now)) }
 {
     if read_lines::begins(file, start, Code::Detail) {
         return Coded::With(Code::Detail);

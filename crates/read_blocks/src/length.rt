@@ -2,7 +2,7 @@
 ghost use Rattle.std.specs.Prelude.{◌≡◌, ◌+◌, ◌-◌, ◌≤◌, length, drop};
 ghost use Rattle.read_lines.specs.LineLengths.{run};
 ghost use Rattle.read_blocks.specs.declared.length.BlockLength.TheVariants.{Refused};
-ghost use Rattle.read_blocks.specs.BlockAnswers.{isMark, CommaIs, StartIs, LengthIs};
+ghost use Rattle.read_blocks.specs.BlockAnswers.{is_mark, CommaIs, StartIs, LengthIs};
 
 use base_limits::LONGEST_LINE;
 use base_quantities::Place;
@@ -27,7 +27,7 @@ pub enum BlockLength {
 
 // The first comma, slash, CR or LF from there on.
 fn mark_end(s: &[u8], start: Place) -> Place
-    ensures { (result.0 ≡ start.0 + run isMark (drop start.0 s.now)) × (result.0 ≤ length s.now + (start.0 - length s.now)) }
+    ensures { (result.0 ≡ start.0 + run is_mark (drop start.0 s.now)) × (result.0 ≤ length s.now + (start.0 - length s.now)) }
 {
     let mut i = start.0;
     while i < s.len() {

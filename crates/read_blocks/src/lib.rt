@@ -1,7 +1,7 @@
 // Files of blocks: each of their lines is exactly L bytes, and none has a line end. `length` finds L; this file has 1, 2, 21, and the verdict.
 ghost use Rattle.std.specs.Prelude.{◌≡◌};
-ghost use Rattle.rules.specs.Blocks.{judgeBlocks};
-ghost use Rattle.read_file.specs.FileMeanings.{verdictMeant};
+ghost use Rattle.rules.specs.Blocks.{judge_blocks};
+ghost use Rattle.read_file.specs.FileMeanings.{verdict_meant};
 ghost use Rattle.read_blocks.specs.BlockAnswers.{SizeIs, BlocksAre};
 
 use crate::length::BlockLength;
@@ -69,7 +69,7 @@ pub fn judge_blocks(file: &[u8]) -> JudgedBlocks
 
 // The verdict of a file of blocks.
 pub fn read_blocks(file: &[u8]) -> Verdict
-    ensures { verdictMeant result ≡ judgeBlocks file.now }
+    ensures { verdict_meant result ≡ judge_blocks file.now }
 {
     match judge_blocks(file) {
         JudgedBlocks::Refused(why) => Verdict::Refused(why),

@@ -1,7 +1,7 @@
 // Lines by either cut, which a number names: 0 is at line ends, n is n bytes each.
 ghost use Rattle.std.specs.Prelude.{◌≡◌, ◌+◌, length, take, drop};
-ghost use Rattle.read_lines.specs.Cuts.{bodyBy, tailLen, lineBy};
-ghost use Rattle.read_cuts.specs.Reaches.{reachBy, endFrom};
+ghost use Rattle.read_lines.specs.Cuts.{body_by, tail_len, line_by};
+ghost use Rattle.read_cuts.specs.Reaches.{reach_by, end_from};
 
 use base_quantities::Place;
 
@@ -28,7 +28,7 @@ fn block_end(s: &[u8], start: Place, size: usize) -> Place
 
 // The bytes up to where the line that starts there must have ended: all, or up to its block's end.
 pub fn reach(cut: usize, s: &[u8], start: Place) -> &[u8]
-    ensures { result.now ≡ reachBy cut start.0 s.now }
+    ensures { result.now ≡ reach_by cut start.0 s.now }
 {
     if cut == 0 {
         return s;
@@ -39,7 +39,7 @@ pub fn reach(cut: usize, s: &[u8], start: Place) -> &[u8]
 
 // Where the line that goes on there ends, without its end, in what it may reach.
 pub fn end_from(cut: usize, s: &[u8], start: Place) -> Place
-    ensures { result.0 ≡ endFrom cut start.0 s.now }
+    ensures { result.0 ≡ end_from cut start.0 s.now }
 {
     if cut == 0 {
         return read_lines::body_end(s, start);
@@ -49,7 +49,7 @@ pub fn end_from(cut: usize, s: &[u8], start: Place) -> Place
 
 // How many bytes of a line's end stand there; a block has none.
 pub fn tail_len(cut: usize, s: &[u8], start: Place) -> usize
-    ensures { result ≡ tailLen cut (drop start.0 s.now) }
+    ensures { result ≡ tail_len cut (drop start.0 s.now) }
 {
     if cut == 0 {
         return read_lines::end_len(s, start);
@@ -59,7 +59,7 @@ pub fn tail_len(cut: usize, s: &[u8], start: Place) -> usize
 
 // Where the line that starts there ends among the first `size` bytes; after them more bytes help to search by blocks.
 pub fn line_in(cut: usize, s: &[u8], size: usize, start: Place) -> LineEnds
-    ensures { (result.end.0 ≡ start.0 + bodyBy cut (drop start.0 (take size s.now))) × (result.next.0 ≡ start.0 + lineBy cut (drop start.0 (take size s.now))) }
+    ensures { (result.end.0 ≡ start.0 + body_by cut (drop start.0 (take size s.now))) × (result.next.0 ≡ start.0 + line_by cut (drop start.0 (take size s.now))) }
 {
     let part = base_slices::front(s, size);
     if cut == 0 {

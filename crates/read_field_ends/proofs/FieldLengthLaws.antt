@@ -9,9 +9,9 @@ use lib.Dec.{eqb, ltb}
 use lib.ListN.{length, get_or, take, drop, drop_of_length-le, length-take}
 use lib.Seq.{drop-cons, take_all, take-suc, length-take-le}
 use borrow.Author.Tests.{ne_eqb, ltb-true, ltb-false, lt-ltb, le-ltb}
-use Rattle.rules.specs.Bytes.{Bytes, blank, comma, slash, trimmed, trimmedBefore}
-use Rattle.rules.specs.Cells.{leadingBlanks}
-use Rattle.read_field_ends.specs.FieldLengths.{until, isMark, fieldLen, extentOf}
+use Rattle.rules.specs.Bytes.{Bytes, blank, comma, slash, trimmed, trimmed_before}
+use Rattle.rules.specs.Cells.{leading_blanks}
+use Rattle.read_field_ends.specs.FieldLengths.{until, is_mark, field_len, extent_of}
 use Rattle.read_field_ends.specs.declared.Extent.TheVariants.{Field, Open}
 
 -- ---- up to the first byte that passes a test
@@ -31,52 +31,52 @@ module _ (test : ℕ → Bool) (f : Bytes) (i : ℕ) (left : i + until test (dro
 
 -- ---- a comma or slash
 
-pub mark-comma : (b : ℕ) → b ≡ comma → isMark b ≡ true
+pub mark-comma : (b : ℕ) → b ≡ comma → is_mark b ≡ true
 mark-comma b e = rw e
 
-pub mark-slash : (b : ℕ) → b ≡ slash → isMark b ≡ true
+pub mark-slash : (b : ℕ) → b ≡ slash → is_mark b ≡ true
 mark-slash b e = rw e
 
-pub mark-none : (b : ℕ) → (b ≡ comma → ⊥) → (b ≡ slash → ⊥) → isMark b ≡ false
+pub mark-none : (b : ℕ) → (b ≡ comma → ⊥) → (b ≡ slash → ⊥) → is_mark b ≡ false
 mark-none b h k = rw (ne_eqb b comma h, ne_eqb b slash k)
 
 -- ---- blanks in front
 
 -- a byte that is no blank
-abbrev pub noBlank : ℕ → Bool
-noBlank b = not (eqb b blank)
+abbrev pub no_blank : ℕ → Bool
+no_blank b = not (eqb b blank)
 
-pub blank_none : (b : ℕ) → (b ≡ blank → ⊥) → noBlank b ≡ true
+pub blank_none : (b : ℕ) → (b ≡ blank → ⊥) → no_blank b ≡ true
 blank_none b h = rw (ne_eqb b blank h)
 
-pub blank-here : (b : ℕ) → b ≡ blank → noBlank b ≡ false
+pub blank-here : (b : ℕ) → b ≡ blank → no_blank b ≡ false
 blank-here b e = rw e
 
-pub blanks-until : (f : Bytes) → until noBlank f ≡ leadingBlanks f
-unfolding until leadingBlanks
+pub blanks-until : (f : Bytes) → until no_blank f ≡ leading_blanks f
+unfolding until leading_blanks
 blanks-until [] = refl
 blanks-until (b ∷ f) = go (eqb b blank) (blanks-until f)
   where
-    go : (t : Bool) → until noBlank f ≡ leadingBlanks f → cond (not t) 0 (suc (until noBlank f)) ≡ cond t (suc (leadingBlanks f)) 0
+    go : (t : Bool) → until no_blank f ≡ leading_blanks f → cond (not t) 0 (suc (until no_blank f)) ≡ cond t (suc (leading_blanks f)) 0
     go true ih = ap suc ih
     go false ih = refl
 
 -- ---- trailing blanks
 
 blank-last : (s : Bytes) → trimmed (s ++ (blank ∷ [])) ≡ trimmed s
-unfolding trimmed trimmedBefore
+unfolding trimmed trimmed_before
 blank-last [] = refl
-blank-last (b ∷ s) = ap (trimmedBefore b) (blank-last s)
+blank-last (b ∷ s) = ap (trimmed_before b) (blank-last s)
 
-before-some : (b c : ℕ) (s : Bytes) → trimmedBefore b (s ++ (c ∷ [])) ≡ b ∷ s ++ (c ∷ [])
-unfolding trimmedBefore
+before-some : (b c : ℕ) (s : Bytes) → trimmed_before b (s ++ (c ∷ [])) ≡ b ∷ s ++ (c ∷ [])
+unfolding trimmed_before
 before-some b c [] = refl
 before-some b c (d ∷ s) = refl
 
 other_last : (s : Bytes) (b : ℕ) → (b ≡ blank → ⊥) → trimmed (s ++ (b ∷ [])) ≡ s ++ (b ∷ [])
-unfolding trimmed trimmedBefore
+unfolding trimmed trimmed_before
 other_last [] b h = rw (ne_eqb b blank h)
-other_last (c ∷ s) b h = ap (trimmedBefore c) (other_last s b h) ∙ before-some c b s
+other_last (c ∷ s) b h = ap (trimmed_before c) (other_last s b h) ∙ before-some c b s
 
 module _ (s : Bytes) (n : ℕ) (some : 0 < n) (long : n ≤ length s) (left : trimmed (take n s) ≡ trimmed s) where
   last_of : take n s ≡ take (n - 1) s ++ (get_or s (n - 1) 0 ∷ [])
@@ -103,8 +103,8 @@ trim-none s zero h e = ap length e
 trim-none s (suc n) h e = absurd (omega arith)
 
 -- what is left is the front
-trim-front-step : (b : ℕ) (s t : Bytes) → t ≡ trimmed s → take (length t) s ≡ t → take (length (trimmedBefore b t)) (b ∷ s) ≡ trimmedBefore b t
-unfolding trimmedBefore
+trim-front-step : (b : ℕ) (s t : Bytes) → t ≡ trimmed s → take (length t) s ≡ t → take (length (trimmed_before b t)) (b ∷ s) ≡ trimmed_before b t
+unfolding trimmed_before
 trim-front-step b s [] e ih = go (eqb b blank)
   where
     go : (x : Bool) → take (length (cond x [] (b ∷ []))) (b ∷ s) ≡ cond x [] (b ∷ [])
@@ -123,17 +123,17 @@ trim-most s = omega (arith, ap length (trim-front s), length-take (length (trimm
 -- ---- how far a field goes, case by case, and what a caller knows of it
 
 module _ (s : Bytes) (n : ℕ) where
-  pub text-extent : n ≡ length (trimmed s) → Field n ≡ extentOf true s
-  unfolding extentOf
+  pub text-extent : n ≡ length (trimmed s) → Field n ≡ extent_of true s
+  unfolding extent_of
   text-extent e = rw e
 
-  module _ (e : n ≡ fieldLen s) where
-    pub field-extent : n < length s → Field n ≡ extentOf false s
-    unfolding extentOf
+  module _ (e : n ≡ field_len s) where
+    pub field-extent : n < length s → Field n ≡ extent_of false s
+    unfolding extent_of
     field-extent h = rw (← e, lt-ltb n (length s) h)
 
-    pub open-extent : length s ≤ n → Open ≡ extentOf false s
-    unfolding extentOf
+    pub open-extent : length s ≤ n → Open ≡ extent_of false s
+    unfolding extent_of
     open-extent h = rw (← e, le-ltb n (length s) h)
 
 cond-field : (t : Bool) (n m : ℕ) → Field n ≡ cond t (Field m) Open → (t ≡ true) × (n ≡ m)
@@ -141,29 +141,29 @@ cond-field true n m e = (refl, cc)
 cond-field false n m e = absurd (let z : ◌≡◌ {A = ℕ} 0 1 = cc in omega arith)
 
 -- a field that is no text ends at its comma or slash
-pub extent-short : (s : Bytes) (n : ℕ) → Field n ≡ extentOf false s → (n ≡ fieldLen s) × (n < length s)
-unfolding extentOf
+pub extent-short : (s : Bytes) (n : ℕ) → Field n ≡ extent_of false s → (n ≡ field_len s) × (n < length s)
+unfolding extent_of
 extent-short s n e =
-    let z = cond-field (ltb (fieldLen s) (length s)) n (fieldLen s) e in
-    (z.1, rw z.1 (ltb-true (fieldLen s) (length s) z.0))
+    let z = cond-field (ltb (field_len s) (length s)) n (field_len s) e in
+    (z.1, rw z.1 (ltb-true (field_len s) (length s) z.0))
 
 cond-open : (t : Bool) (m : ℕ) → Open ≡ cond t (Field m) Open → t ≡ false
 cond-open true m e = absurd (let z : ◌≡◌ {A = ℕ} 0 1 = cc in omega arith)
 cond-open false m e = refl
 
 -- where the line is open, it has no comma or slash, and no text was wanted
-pub extent-open : (text : Bool) (s : Bytes) → Open ≡ extentOf text s → (text ≡ false) × (length s ≤ fieldLen s)
-unfolding extentOf
+pub extent-open : (text : Bool) (s : Bytes) → Open ≡ extent_of text s → (text ≡ false) × (length s ≤ field_len s)
+unfolding extent_of
 extent-open true s e = absurd (let z : ◌≡◌ {A = ℕ} 0 1 = cc in omega arith)
-extent-open false s e = (refl, ltb-false (fieldLen s) (length s) (cond-open (ltb (fieldLen s) (length s)) (fieldLen s) e))
+extent-open false s e = (refl, ltb-false (field_len s) (length s) (cond-open (ltb (field_len s) (length s)) (field_len s) e))
 
 -- a text is all of the line, less trailing blanks
-pub extent-text : (s : Bytes) (n : ℕ) → Field n ≡ extentOf true s → take n s ≡ trimmed s
-unfolding extentOf
+pub extent-text : (s : Bytes) (n : ℕ) → Field n ≡ extent_of true s → take n s ≡ trimmed s
+unfolding extent_of
 extent-text s n e = let z : n ≡ length (trimmed s) = cc in rw z (trim-front s)
 
-pub extent-within : (text : Bool) (s : Bytes) (n : ℕ) → Field n ≡ extentOf text s → n ≤ length s
-unfolding extentOf
+pub extent-within : (text : Bool) (s : Bytes) (n : ℕ) → Field n ≡ extent_of text s → n ≤ length s
+unfolding extent_of
 extent-within true s n e =
     let z : n ≡ length (trimmed s) = cc in
     let l = ap length (trim-front s) in

@@ -10,14 +10,14 @@ until test [] = 0
 until test (b ∷ bs) = cond (test b) 0 (suc (until test bs))
 
 -- a comma or slash
-abbrev pub isMark : ℕ → Bool
-isMark b = eqb b comma || eqb b slash
+abbrev pub is_mark : ℕ → Bool
+is_mark b = eqb b comma || eqb b slash
 
--- the first field's length: of the first of `cellsFrom` (rules/specs/Cells.antt); joined by `first-comma`, `first-slash` and `first-open` (read_walk/proofs/FirstCells.antt)
-abbrev pub fieldLen : Bytes → ℕ
-fieldLen bs = until isMark bs
+-- the first field's length: of the first of `cells_from` (rules/specs/Cells.antt); joined by `first-comma`, `first-slash` and `first-open` (read_walk/proofs/FirstCells.antt)
+abbrev pub field_len : Bytes → ℕ
+field_len bs = until is_mark bs
 
 -- a text takes all, less trailing blanks; any other field ends at a comma or slash
-unfoldable pub extentOf : Bool → Bytes → Extent
-extentOf true bs = Field (length (trimmed bs))
-extentOf false bs = cond (ltb (fieldLen bs) (length bs)) (Field (fieldLen bs)) Open
+unfoldable pub extent_of : Bool → Bytes → Extent
+extent_of true bs = Field (length (trimmed bs))
+extent_of false bs = cond (ltb (field_len bs) (length bs)) (Field (field_len bs)) Open

@@ -1,8 +1,8 @@
 // How long a field is in what is left of a line: up to a comma or slash, or, of a text, up to its trailing blanks.
 ghost use Rattle.std.specs.Prelude.{◌≡◌, ◌≤◌, length};
 ghost use Rattle.rules.specs.Bytes.{trimmed};
-ghost use Rattle.rules.specs.Cells.{leadingBlanks};
-ghost use Rattle.read_field_ends.specs.FieldLengths.{fieldLen, extentOf};
+ghost use Rattle.rules.specs.Cells.{leading_blanks};
+ghost use Rattle.read_field_ends.specs.FieldLengths.{field_len, extent_of};
 
 // How far a field goes: so many bytes; or the line ends before a comma or slash.
 #[derive(Drop)]
@@ -13,7 +13,7 @@ pub enum Extent {
 
 // How many bytes stand before the first comma or slash.
 fn field_len(f: &[u8]) -> usize
-    ensures { (result ≡ fieldLen f.now) × (result ≤ length f.now) }
+    ensures { (result ≡ field_len f.now) × (result ≤ length f.now) }
 {
     let mut i: usize = 0;
     while i < f.len() {
@@ -30,7 +30,7 @@ fn field_len(f: &[u8]) -> usize
 
 // How many blanks stand in front.
 pub fn blanks_len(f: &[u8]) -> usize
-    ensures { (result ≡ leadingBlanks f.now) × (result ≤ length f.now) }
+    ensures { (result ≡ leading_blanks f.now) × (result ≤ length f.now) }
 {
     let mut i: usize = 0;
     while i < f.len() {
@@ -58,7 +58,7 @@ pub fn trimmed_len(f: &[u8]) -> usize
 
 // How long the first field is of what is left of a line; a text takes all of it, less trailing blanks.
 pub fn field_extent(text: bool, rest: &[u8]) -> Extent
-    ensures { result ≡ extentOf text rest.now }
+    ensures { result ≡ extent_of text rest.now }
 {
     if text {
         return Extent::Field(trimmed_len(rest));

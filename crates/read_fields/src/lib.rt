@@ -1,8 +1,8 @@
 // A record's fields: what one must be as the first of what is wanted.
 ghost use Rattle.std.specs.Prelude.{◌≡◌};
-ghost use Rattle.rules.specs.Grammar.{takeNext};
-ghost use Rattle.read_wanted.specs.Wants.{wantedOf};
-ghost use Rattle.read_wanted.specs.TakenMeaning.{judgedOf};
+ghost use Rattle.rules.specs.Grammar.{take_next};
+ghost use Rattle.read_wanted.specs.Wants.{wanted_of};
+ghost use Rattle.read_wanted.specs.TakenMeaning.{judged_of};
 
 use base_digits::{is_digits, is_signed, is_unsigned};
 use base_refusals::WRONG_FIELD;
@@ -18,7 +18,7 @@ use read_wanted::{
 
 // The answer on a field with these bytes, as the first of what is wanted; of a text, these are the line from its place on, trimmed.
 pub fn take_field(want: Want, f: &[u8]) -> Taken
-    ensures { judgedOf result ≡ takeNext (wantedOf want) f.now }
+    ensures { judged_of result ≡ take_next (wanted_of want) f.now }
 {
     match want {
         Want::Sender => fitted(is_name(f), Want::Receiver),
@@ -74,7 +74,7 @@ pub fn take_field(want: Want, f: &[u8]) -> Taken
 
 // The same answer. The fields of a detail, most of a file's fields, stand in a short table, which the compiler draws into the walk; the rest go by the whole one.
 pub fn take_detail_first(want: Want, f: &[u8]) -> Taken
-    ensures { judgedOf result ≡ takeNext (wantedOf want) f.now }
+    ensures { judged_of result ≡ take_next (wanted_of want) f.now }
 {
     match want {
         Want::DetailType => detail(type_class(f)),
@@ -90,7 +90,7 @@ pub fn take_detail_first(want: Want, f: &[u8]) -> Taken
 
 // The same answer once more, for the walk that yields fields (`find_next`): a table that two walks call is drawn into neither.
 pub fn take_yielded(want: Want, f: &[u8]) -> Taken
-    ensures { judgedOf result ≡ takeNext (wantedOf want) f.now }
+    ensures { judged_of result ≡ take_next (wanted_of want) f.now }
 {
     match want {
         Want::DetailType => detail(type_class(f)),

@@ -11,36 +11,36 @@ use Rattle.rules.specs.Numbers.{magnitudes}
 use Rattle.rules.specs.Lines.{Code, Record, code_of}
 use Rattle.rules.specs.Grammar.{fields_of}
 use Rattle.rules.specs.Order.{among}
-use Rattle.rules.specs.Verdict.{State, goodLines, coded, inOrder}
-use Rattle.read_lines.specs.LineLengths.{firstRecord}
-use Rattle.read_lines.specs.Cuts.{linesBy, firstBy}
-use Rattle.read_lines.proofs.CutLaws.{first_by}
+use Rattle.rules.specs.Verdict.{State, good_lines, coded, in_order}
+use Rattle.read_lines.specs.LineLengths.{first_record}
+use Rattle.read_lines.specs.Cuts.{lines_by, first_by}
+use Rattle.read_lines.proofs.CutLaws.{first_by_lem}
 use Rattle.read_kept.specs.declared.Kept.{Kept}
-use Rattle.read_kept.specs.KeepFields.{nothingKept}
-use Rattle.read_walk.specs.WalkKept.{walkFrom}
-use Rattle.read_file.specs.RecordSteps.{settledK, stepK}
+use Rattle.read_kept.specs.KeepFields.{nothing_kept}
+use Rattle.read_walk.specs.WalkKept.{walk_from}
+use Rattle.read_file.specs.RecordSteps.{settled_k, step_k}
 
 -- the first record's code in its order
-pub order_is : (cut : ℕ) (cs : List Code) (rest : Bytes) (c : Code) → 0 < length rest → code_of (firstBy cut rest) ≡ some c
-    → inOrder cs (firstRecord (linesBy cut rest)) ≡ (check (among c cs) 6 0 >> fine c)
-unfolding inOrder coded firstRecord
-order_is cut cs rest c h e = rw (first_by cut rest h) (rw e)
+pub order_is : (cut : ℕ) (cs : List Code) (rest : Bytes) (c : Code) → 0 < length rest → code_of (first_by cut rest) ≡ some c
+    → in_order cs (first_record (lines_by cut rest)) ≡ (check (among c cs) 6 0 >> fine c)
+unfolding in_order coded first_record
+order_is cut cs rest c h e = rw (first_by_lem cut rest h) (rw e)
 
 module _ (s : State) (r : Record) where
-  pub step_lines : (why : Refusal) → goodLines 0 s.limit r ≡ refused why → stepK s r ≡ refused why
-  unfolding stepK
+  pub step_lines : (why : Refusal) → good_lines 0 s.limit r ≡ refused why → step_k s r ≡ refused why
+  unfolding step_k
   step_lines why e = rw e
 
-  module _ (g : goodLines 0 s.limit r ≡ fine tt) (c : Code) (o : inOrder s.expected r ≡ (check (among c s.expected) 6 0 >> fine c)) where
-    pub step-order : among c s.expected ≡ false → stepK s r ≡ refuse 6 0
-    unfolding stepK
+  module _ (g : good_lines 0 s.limit r ≡ fine tt) (c : Code) (o : in_order s.expected r ≡ (check (among c s.expected) 6 0 >> fine c)) where
+    pub step-order : among c s.expected ≡ false → step_k s r ≡ refuse 6 0
+    unfolding step_k
     step-order a = rw (g, o, a)
 
     module _ (a : among c s.expected ≡ true) where
-      pub step-walk : (why : Refusal) → walkFrom (fields_of c) (nothingKept (magnitudes s.file.sum)) r ≡ refused why → stepK s r ≡ refused why
-      unfolding stepK
+      pub step-walk : (why : Refusal) → walk_from (fields_of c) (nothing_kept (magnitudes s.file.sum)) r ≡ refused why → step_k s r ≡ refused why
+      unfolding step_k
       step-walk why w = rw (g, o, a, w)
 
-      pub step-settle : (k : Kept) → walkFrom (fields_of c) (nothingKept (magnitudes s.file.sum)) r ≡ fine k → stepK s r ≡ settledK s r c k
-      unfolding stepK
+      pub step-settle : (k : Kept) → walk_from (fields_of c) (nothing_kept (magnitudes s.file.sum)) r ≡ fine k → step_k s r ≡ settled_k s r c k
+      unfolding step_k
       step-settle k w = rw (g, o, a, w)

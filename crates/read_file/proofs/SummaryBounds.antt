@@ -4,11 +4,11 @@ use mathlib.Core.Path.{◌≡◌, ap}
 use mathlib.Core.Bool.{Bool, true, false, cond}
 use native.Mathlib.Omega.{arith}
 use Rattle.rules.specs.Numbers.{Sum, magnitudes}
-use Rattle.rules.specs.Limits.{most, longestFile}
-use Rattle.rules.specs.Lines.{Code, sameCode, groupHeader, accountHeader, detail}
-use Rattle.rules.specs.Totals.{◌⊞◌, adding, noSummary}
+use Rattle.rules.specs.Limits.{most, longest_file}
+use Rattle.rules.specs.Lines.{Code, same_code, group_header, account_header, detail}
+use Rattle.rules.specs.Totals.{◌⊞◌, adding, no_summary}
 use Rattle.rules.specs.Totals as totals
-use Rattle.base_totals.specs.SummaryMeaning.{summaryMeant, Small}
+use Rattle.base_totals.specs.SummaryMeaning.{summary_meant, Small}
 use Rattle.read_file.specs.FileMeanings.{Below, Counted, Held}
 use Rattle.base_totals.specs.declared.Summary.{Summary}
 use Rattle.read_file.specs.declared.state.State.{State}
@@ -26,7 +26,7 @@ below-small a b l h =
       records = omega (arith, l.records, h.records);
     }
 
-pub file-small : (s : State) → Held s → s.file.records.0 ≤ longestFile → Small s.file
+pub file-small : (s : State) → Held s → s.file.records.0 ≤ longest_file → Small s.file
 file-small s h r =
     record {
       pluses = omega (arith, h.bound);
@@ -43,22 +43,22 @@ one-most : (t : Bool) → cond t 1 0 ≤ 1
 one-most true = omega arith
 one-most false = omega arith
 
-module _ (c : Code) (a : Sum) (n : ℕ) (t : Summary) (e : summaryMeant t ≡ adding c a n) where
+module _ (c : Code) (a : Sum) (n : ℕ) (t : Summary) (e : summary_meant t ≡ adding c a n) where
   this-counted : 0 < n → Counted t
   unfolding adding
   this-counted h =
       let l : t.records.0 ≡ n = ap (λ (m : totals.Summary). m.records) e in
       record {
-        groups = rw (ap (λ (m : totals.Summary). m.groups) e) (omega (arith, one-most (sameCode c groupHeader)));
-        accounts = rw (ap (λ (m : totals.Summary). m.accounts) e) (omega (arith, one-most (sameCode c accountHeader)));
-        details = rw (ap (λ (m : totals.Summary). m.details) e) (omega (arith, one-most (sameCode c detail)));
+        groups = rw (ap (λ (m : totals.Summary). m.groups) e) (omega (arith, one-most (same_code c group_header)));
+        accounts = rw (ap (λ (m : totals.Summary). m.accounts) e) (omega (arith, one-most (same_code c account_header)));
+        details = rw (ap (λ (m : totals.Summary). m.details) e) (omega (arith, one-most (same_code c detail)));
       }
 
   this-sums : (t.total.0 ≡ a.pluses) × (t.total.1 ≡ a.minuses) × (t.records.0 ≡ n)
   unfolding adding
   this-sums = (ap (λ (m : totals.Summary). m.sum.pluses) e, ap (λ (m : totals.Summary). m.sum.minuses) e, ap (λ (m : totals.Summary). m.records) e)
 
-  pub this-small : 0 < n → n ≤ longestFile → magnitudes a ≤ most → Small t
+  pub this-small : 0 < n → n ≤ longest_file → magnitudes a ≤ most → Small t
   this-small h l b =
       let k = this-counted h in
       let s = this-sums in
@@ -82,7 +82,7 @@ pub record Both (a b r : Summary) : Type 0 where
   pub details : r.details.0 ≡ a.details.0 + b.details.0
   pub records : r.records.0 ≡ a.records.0 + b.records.0
 
-both : (a b r : Summary) → summaryMeant r ≡ summaryMeant a ⊞ summaryMeant b → Both a b r
+both : (a b r : Summary) → summary_meant r ≡ summary_meant a ⊞ summary_meant b → Both a b r
 unfolding ◌⊞◌
 both a b r e =
     record {
@@ -106,7 +106,7 @@ both_below a f t r q l x y =
     }
 
 -- of a group or account that is open, or of none
-open-below : (is_open : Bool) (a r f : Summary) → summaryMeant r ≡ cond is_open (summaryMeant a) noSummary → Below a f → Below r f
+open-below : (is_open : Bool) (a r f : Summary) → summary_meant r ≡ cond is_open (summary_meant a) no_summary → Below a f → Below r f
 open-below true a r f e l =
     record {
       pluses = rw (ap (λ (m : totals.Summary). m.sum.pluses) e) l.pluses;
@@ -129,15 +129,15 @@ open-below false a r f e l =
 -- ---- the next state
 
 -- after a record that adds `this`: of n lines, with the sum a
-module _ (this : Summary) (c : Code) (a : Sum) (n : ℕ) (e : summaryMeant this ≡ adding c a n) where
-  pub records-next : (old file : Summary) → summaryMeant file ≡ summaryMeant old ⊞ summaryMeant this → file.records.0 ≡ old.records.0 + n
+module _ (this : Summary) (c : Code) (a : Sum) (n : ℕ) (e : summary_meant this ≡ adding c a n) where
+  pub records-next : (old file : Summary) → summary_meant file ≡ summary_meant old ⊞ summary_meant this → file.records.0 ≡ old.records.0 + n
   records-next old file f = let b = both old this file f in let k = this-sums c a n this e in omega (arith, b.records)
 
   -- group, account: theirs with the record
   pub held_next : (s t : State) (group account : Summary) → Held s → 0 < n → s.file.total.0 + s.file.total.1 + magnitudes a ≤ most
-      → summaryMeant t.file ≡ summaryMeant s.file ⊞ summaryMeant this
-      → summaryMeant group ≡ summaryMeant s.group ⊞ summaryMeant this → summaryMeant account ≡ summaryMeant s.account ⊞ summaryMeant this
-      → (x y : Bool) → summaryMeant t.group ≡ cond x (summaryMeant group) noSummary → summaryMeant t.account ≡ cond y (summaryMeant account) noSummary → Held t
+      → summary_meant t.file ≡ summary_meant s.file ⊞ summary_meant this
+      → summary_meant group ≡ summary_meant s.group ⊞ summary_meant this → summary_meant account ≡ summary_meant s.account ⊞ summary_meant this
+      → (x y : Bool) → summary_meant t.group ≡ cond x (summary_meant group) no_summary → summary_meant t.account ≡ cond y (summary_meant account) no_summary → Held t
   held_next s t group account h l m f p q x y u v =
       let b = both s.file this t.file f in
       let k = this-sums c a n this e in

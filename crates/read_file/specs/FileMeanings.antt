@@ -4,29 +4,29 @@ use Rattle.rules.specs.Outcome.{Outcome, refused, fine}
 use Rattle.rules.specs.Limits.{most}
 use Rattle.rules.specs.Totals as totals
 use Rattle.rules.specs.Verdict as verdict
-use Rattle.base_refusals.specs.RefusalMeaning.{refusalMeant}
-use Rattle.read_order.specs.ExpectedCodes.{expectedMeant}
+use Rattle.base_refusals.specs.RefusalMeaning.{refusal_meant}
+use Rattle.read_order.specs.ExpectedCodes.{expected_meant}
 use Rattle.base_totals.specs.declared.Summary.{Summary}
-use Rattle.base_totals.specs.SummaryMeaning.{summaryMeant}
+use Rattle.base_totals.specs.SummaryMeaning.{summary_meant}
 use Rattle.read_file.specs.declared.state.State.{State}
 use Rattle.read_file.specs.declared.Verdict.{Verdict}
 use Rattle.read_file.specs.declared.Verdict.TheVariants.{Accepted, Refused}
 
 -- ---- meanings
 
-abbrev pub stateMeant : State → verdict.State
-stateMeant s =
+abbrev pub state_meant : State → verdict.State
+state_meant s =
     record {
-      expected = expectedMeant s.expected;
+      expected = expected_meant s.expected;
       limit = s.limit;
-      file = summaryMeant s.file;
-      group = summaryMeant s.group;
-      account = summaryMeant s.account;
+      file = summary_meant s.file;
+      group = summary_meant s.group;
+      account = summary_meant s.account;
     }
 
-abbrev pub verdictMeant : Verdict → Outcome totals.Summary
-verdictMeant (Accepted s) = fine (summaryMeant s)
-verdictMeant (Refused why) = refused (refusalMeant why)
+abbrev pub verdict_meant : Verdict → Outcome totals.Summary
+verdict_meant (Accepted s) = fine (summary_meant s)
+verdict_meant (Refused why) = refused (refusal_meant why)
 
 -- ---- what keeps sums and counts in range
 

@@ -1,7 +1,7 @@
 // A file's verdict: `record` holds one record's checks in their order, `state` what is known between two records, and this file 1, 2 and a missing 99.
 ghost use Rattle.std.specs.Prelude.{◌≡◌};
 ghost use Rattle.rules.specs.Verdict.{judge};
-ghost use Rattle.read_file.specs.FileMeanings.{verdictMeant};
+ghost use Rattle.read_file.specs.FileMeanings.{verdict_meant};
 ghost use Rattle.read_file.specs.FileAnswers.{EndIs, JudgedBy, JudgedIs};
 
 use crate::record::Stepped;
@@ -103,7 +103,7 @@ pub fn judge_file(file: &[u8]) -> Judged
 
 // A file's verdict.
 pub fn read(file: &[u8]) -> Verdict
-    ensures { verdictMeant result ≡ judge file.now }
+    ensures { verdict_meant result ≡ judge file.now }
 {
     match judge_file(file) {
         Judged::Accepted(good) => {

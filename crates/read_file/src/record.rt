@@ -1,12 +1,12 @@
 // One record, in document 01's order: 3, 4, 5; 6; 7, 8, 9; the header's own lines against L; 10; 14, 11, 12, 13.
 ghost use Rattle.std.specs.Prelude.{◌≡◌, ◌+◌, ◌≤◌, length};
-ghost use Rattle.rules.specs.Verdict.{ownLines};
-ghost use Rattle.rules.specs.Limits.{longestFile};
-ghost use Rattle.base_codes.specs.CodeMeaning.{codeMeant};
-ghost use Rattle.base_totals.specs.SummaryMeaning.{summaryMeant};
-ghost use Rattle.read_lines.specs.Cuts.{linesBy};
-ghost use Rattle.read_line_checks.specs.LineChecks.{checkedOf, placeWithin};
-ghost use Rattle.read_file.specs.RecordSteps.{limitK};
+ghost use Rattle.rules.specs.Verdict.{own_lines};
+ghost use Rattle.rules.specs.Limits.{longest_file};
+ghost use Rattle.base_codes.specs.CodeMeaning.{code_meant};
+ghost use Rattle.base_totals.specs.SummaryMeaning.{summary_meant};
+ghost use Rattle.read_lines.specs.Cuts.{lines_by};
+ghost use Rattle.read_line_checks.specs.LineChecks.{checked_of, place_within};
+ghost use Rattle.read_file.specs.RecordSteps.{limit_k};
 ghost use Rattle.read_file.specs.FileAnswers.{NextIs, Settling, SettledIs, StepIs};
 ghost use Rattle.read_file.specs.FileMeanings.{Held};
 
@@ -37,7 +37,7 @@ enum Settled {
 
 // L, where a header gives it; else the limit that held before.
 fn limit_after(code: Code, limit: usize, kept: Kept) -> usize
-    ensures { result ≡ limitK (codeMeant code) limit kept }
+    ensures { result ≡ limit_k (code_meant code) limit kept }
 {
     if base_codes::same_code(code, Code::FileHeader) {
         if kept.length_given {
@@ -50,7 +50,7 @@ fn limit_after(code: Code, limit: usize, kept: Kept) -> usize
 
 // 3, of the header's own lines against L.
 fn own_lines(cut: usize, code: Code, limit: usize, rec: &[u8]) -> Checked
-    ensures { (checkedOf result ≡ ownLines (codeMeant code) limit (linesBy cut rec.now)) × placeWithin result (length rec.now) }
+    ensures { (checked_of result ≡ own_lines (code_meant code) limit (lines_by cut rec.now)) × place_within result (length rec.now) }
 {
     if base_codes::same_code(code, Code::FileHeader) {
         return read_line_checks::none_longer_by(cut, rec, limit);
@@ -60,7 +60,7 @@ fn own_lines(cut: usize, code: Code, limit: usize, rec: &[u8]) -> Checked
 
 // The state after a record of this code: these are the summaries of the file, the open group and the open account, the record included.
 fn next_state(code: Code, limit: usize, file: Summary, group: Summary, account: Summary) -> State
-    ensures { NextIs result (codeMeant code) limit file (summaryMeant group) (summaryMeant account) }
+    ensures { NextIs result (code_meant code) limit file (summary_meant group) (summary_meant account) }
 {
     State {
         expected: read_order::expected_after(code),
@@ -74,7 +74,7 @@ fn next_state(code: Code, limit: usize, file: Summary, group: Summary, account: 
 // After the fields of a record with so many lines: its header's own lines, 10, then a trailer's 14, 11, 12, 13.
 fn settle(cut: usize, st: State, rec: &[u8], code: Code, records: Records, kept: Kept) -> Settled
     requires { Settling cut st rec.now records.0 kept }
-    ensures { SettledIs result cut st rec.now (codeMeant code) records.0 kept }
+    ensures { SettledIs result cut st rec.now (code_meant code) records.0 kept }
 {
     let limit = limit_after(code, st.limit, kept);
     match own_lines(cut, code, limit, rec) {
@@ -101,7 +101,7 @@ fn settle(cut: usize, st: State, rec: &[u8], code: Code, records: Records, kept:
 
 // The record in front of the rest of the file, its lines by this cut.
 pub(crate) fn step(cut: usize, st: State, rest: &[u8]) -> Stepped
-    requires { (Held st) × (st.file.records.0 + length rest.now ≤ longestFile) }
+    requires { (Held st) × (st.file.records.0 + length rest.now ≤ longest_file) }
     ensures { StepIs result cut st rest.now }
 {
     match read_line_checks::scan_record(cut, rest, st.limit) {

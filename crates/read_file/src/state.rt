@@ -1,7 +1,7 @@
 // What is known between two records: what may come next, the longest line, and the summaries of the file, the open group and the open account.
 ghost use Rattle.std.specs.Prelude.{◌≡◌};
 ghost use Rattle.rules.specs.Verdict as verdict;
-ghost use Rattle.read_file.specs.FileMeanings.{stateMeant, Held};
+ghost use Rattle.read_file.specs.FileMeanings.{state_meant, Held};
 
 use base_codes::Code;
 use base_limits::LONGEST_LINE;
@@ -19,7 +19,7 @@ pub struct State {
 
 // The state before the first record.
 pub fn start() -> State
-    ensures { (stateMeant result ≡ verdict.start) × Held result × (result.file.records.0 ≡ 0) }
+    ensures { (state_meant result ≡ verdict.start) × Held result × (result.file.records.0 ≡ 0) }
 {
     let none = base_totals::no_summary();
     State {

@@ -2,11 +2,11 @@
 ghost use Rattle.std.specs.Prelude.{◌≡◌, not, ◌+◌, ltb};
 ghost use Rattle.rules.specs.Numbers.{magnitudes};
 ghost use Rattle.rules.specs.Limits.{most};
-ghost use Rattle.rules.specs.Grammar.{nextKind};
-ghost use Rattle.base_quantities.specs.QuantityMeanings.{sumMeant};
-ghost use Rattle.base_amounts.specs.AmountsRead.{amountRead};
-ghost use Rattle.read_wanted.specs.Wants.{wantedOf, forTotal, forCount, forRecords, forLength, forNothing, samePurpose, purpose};
-ghost use Rattle.read_kept.specs.KeepFields.{nothingKept, addedTo, keepRead};
+ghost use Rattle.rules.specs.Grammar.{next_kind};
+ghost use Rattle.base_quantities.specs.QuantityMeanings.{sum_meant};
+ghost use Rattle.base_amounts.specs.AmountsRead.{amount_read};
+ghost use Rattle.read_wanted.specs.Wants.{wanted_of, for_total, for_count, for_records, for_length, for_nothing, same_purpose, purpose};
+ghost use Rattle.read_kept.specs.KeepFields.{nothing_kept, added_to, keep_read};
 
 use base_limits::MOST;
 use base_quantities::{Count, Magnitude, Place, Records, Units};
@@ -55,7 +55,7 @@ pub struct Kept {
 
 // The next field is kept for something.
 pub fn is_kept(want: Want) -> bool
-    ensures { result ≡ not (samePurpose forNothing (purpose (nextKind (wantedOf want)))) }
+    ensures { result ≡ not (same_purpose for_nothing (purpose (next_kind (wanted_of want)))) }
 {
     match read_wanted::want::kept_for(want) {
         Keep::Amount => true,
@@ -70,7 +70,7 @@ pub fn is_kept(want: Want) -> bool
 impl Kept {
     // Nothing is kept yet, after records with these magnitudes.
     pub fn none(before: Magnitude) -> Kept
-        ensures { result ≡ nothingKept before.0 }
+        ensures { result ≡ nothing_kept before.0 }
     {
         Kept {
             before,
@@ -101,7 +101,7 @@ impl Kept {
 
     // The magnitudes with n more pass the largest.
     fn passes(self, n: Magnitude) -> bool
-        ensures { result ≡ ltb most (self.before.0 + magnitudes (sumMeant self.sum) + n.0) }
+        ensures { result ≡ ltb most (self.before.0 + magnitudes (sum_meant self.sum) + n.0) }
     {
         let sum = self.sum;
         let before = self.before;
@@ -120,7 +120,7 @@ impl Kept {
 
     // With an amount more, unless it or one before it passes the largest.
     fn add_amount(self, at: Place, f: &[u8]) -> Kept
-        ensures { result ≡ addedTo self at.0 (amountRead f.now) }
+        ensures { result ≡ added_to self at.0 (amount_read f.now) }
     {
         if self.over {
             return self;
@@ -140,7 +140,7 @@ impl Kept {
 
     // With a trailer's total, unless one was there before it.
     fn keep_total(self, at: Place, f: &[u8]) -> Kept
-        ensures { result ≡ keepRead forTotal self at.0 f.now }
+        ensures { result ≡ keep_read for_total self at.0 f.now }
     {
         if self.total_seen {
             return self;
@@ -157,7 +157,7 @@ impl Kept {
 
     // With a trailer's count of accounts or groups, unless one was there before it.
     fn keep_count(self, at: Place, f: &[u8]) -> Kept
-        ensures { result ≡ keepRead forCount self at.0 f.now }
+        ensures { result ≡ keep_read for_count self at.0 f.now }
     {
         if self.count_seen {
             return self;
@@ -175,7 +175,7 @@ impl Kept {
 
     // With a trailer's record count, unless one was there before it.
     fn keep_records(self, at: Place, f: &[u8]) -> Kept
-        ensures { result ≡ keepRead forRecords self at.0 f.now }
+        ensures { result ≡ keep_read for_records self at.0 f.now }
     {
         if self.records_seen {
             return self;
@@ -193,7 +193,7 @@ impl Kept {
 
     // With L, unless it was there before.
     fn keep_length(self, f: &[u8]) -> Kept
-        ensures { result ≡ keepRead forLength self 0 f.now }
+        ensures { result ≡ keep_read for_length self 0 f.now }
     {
         if self.length_seen {
             return self;
@@ -207,7 +207,7 @@ impl Kept {
 
     // With a field that is the first of what is wanted, kept for what it is needed for.
     pub fn keep(self, want: Want, at: Place, f: &[u8]) -> Kept
-        ensures { result ≡ keepRead (purpose (nextKind (wantedOf want))) self at.0 f.now }
+        ensures { result ≡ keep_read (purpose (next_kind (wanted_of want))) self at.0 f.now }
     {
         match read_wanted::want::kept_for(want) {
             Keep::Nothing => self,

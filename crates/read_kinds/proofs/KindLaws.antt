@@ -5,44 +5,44 @@ use mathlib.Core.Bool.{true}
 use mathlib.Core.List.{List, [], ◌∷◌}
 use lib.ListN.{get_or}
 use borrow.Author.Tests.{eqb-true}
-use Rattle.rules.specs.Grammar.{Kind, name, reference, ultimateReceiver, date, time, timeOrNone, fileNumber, physicalLength, blockSize, version, groupStatus, currency, modifier, firstType, furtherType, statusAmount, amount, itemCount, funds, detailType, text, furtherText, splitAmount, pairCount, days, dayAmount, total, count, records, nothing, kindNumber, sameKind}
+use Rattle.rules.specs.Grammar.{Kind, name, reference, ultimate_receiver, date, time, time_or_none, file_number, physical_length, block_size, version, group_status, currency, modifier, first_type, further_type, status_amount, amount, item_count, funds, detail_type, text, further_text, split_amount, pair_count, days, day_amount, total, count, records, nothing, kind_number, same_kind}
 
-abbrev kindsInOrder : List Kind
-kindsInOrder =
-    nothing ∷ name ∷ reference ∷ ultimateReceiver ∷ date ∷ time ∷ timeOrNone ∷ fileNumber ∷ physicalLength ∷ blockSize ∷ version ∷ groupStatus ∷ currency ∷ modifier ∷ firstType ∷ furtherType
-    ∷ statusAmount ∷ amount ∷ itemCount ∷ funds ∷ detailType ∷ text ∷ furtherText ∷ splitAmount ∷ pairCount ∷ days ∷ dayAmount ∷ total ∷ count ∷ records ∷ []
+abbrev kinds_in_order : List Kind
+kinds_in_order =
+    nothing ∷ name ∷ reference ∷ ultimate_receiver ∷ date ∷ time ∷ time_or_none ∷ file_number ∷ physical_length ∷ block_size ∷ version ∷ group_status ∷ currency ∷ modifier ∷ first_type ∷ further_type
+    ∷ status_amount ∷ amount ∷ item_count ∷ funds ∷ detail_type ∷ text ∷ further_text ∷ split_amount ∷ pair_count ∷ days ∷ day_amount ∷ total ∷ count ∷ records ∷ []
 
-numbered : (k : Kind) → get_or kindsInOrder (kindNumber k) nothing ≡ k
+numbered : (k : Kind) → get_or kinds_in_order (kind_number k) nothing ≡ k
 numbered name = refl
 numbered reference = refl
-numbered ultimateReceiver = refl
+numbered ultimate_receiver = refl
 numbered date = refl
 numbered time = refl
-numbered timeOrNone = refl
-numbered fileNumber = refl
-numbered physicalLength = refl
-numbered blockSize = refl
+numbered time_or_none = refl
+numbered file_number = refl
+numbered physical_length = refl
+numbered block_size = refl
 numbered version = refl
-numbered groupStatus = refl
+numbered group_status = refl
 numbered currency = refl
 numbered modifier = refl
-numbered firstType = refl
-numbered furtherType = refl
-numbered statusAmount = refl
+numbered first_type = refl
+numbered further_type = refl
+numbered status_amount = refl
 numbered amount = refl
-numbered itemCount = refl
+numbered item_count = refl
 numbered funds = refl
-numbered detailType = refl
+numbered detail_type = refl
 numbered text = refl
-numbered furtherText = refl
-numbered splitAmount = refl
-numbered pairCount = refl
+numbered further_text = refl
+numbered split_amount = refl
+numbered pair_count = refl
 numbered days = refl
-numbered dayAmount = refl
+numbered day_amount = refl
 numbered total = refl
 numbered count = refl
 numbered records = refl
 numbered nothing = refl
 
-pub same_kind : (k kd : Kind) → sameKind k kd ≡ true → kd ≡ k
-same_kind k kd e = sym (numbered kd) ∙ ap (λ (n : ℕ). get_or kindsInOrder n nothing) (sym (eqb-true (kindNumber k) (kindNumber kd) e)) ∙ numbered k
+pub same_kind_lem : (k kd : Kind) → same_kind k kd ≡ true → kd ≡ k
+same_kind_lem k kd e = sym (numbered kd) ∙ ap (λ (n : ℕ). get_or kinds_in_order n nothing) (sym (eqb-true (kind_number k) (kind_number kd) e)) ∙ numbered k

@@ -1,13 +1,13 @@
 // The number of the kind of field that is wanted next.
 ghost use Rattle.std.specs.Prelude.{◌≡◌};
-ghost use Rattle.rules.specs.Grammar.{kindNumber, nextKind};
-ghost use Rattle.read_wanted.specs.Wants.{wantedOf};
+ghost use Rattle.rules.specs.Grammar.{kind_number, next_kind};
+ghost use Rattle.read_wanted.specs.Wants.{wanted_of};
 
 use read_wanted::want::Want;
 
 // The number of the next field's kind, as include/bai2.h has it.
 pub fn kind_number(want: Want) -> u64
-    ensures { result ≡ kindNumber (nextKind (wantedOf want)) }
+    ensures { result ≡ kind_number (next_kind (wanted_of want)) }
 {
     match want {
         Want::Sender => 1,

@@ -1,13 +1,13 @@
--- What the answers about a record's lines say in the rules' terms: `goodLine`, `goodLines` and `noneLonger` (rules/specs/Verdict.antt). Assumes nothing.
+-- What the answers about a record's lines say in the rules' terms: `good_line`, `good_lines` and `none_longer` (rules/specs/Verdict.antt). Assumes nothing.
 use Rattle.std.specs.Prelude.{ℕ, ◌+◌, ◌≤◌, ◌<◌, ◌≡◌, length}
 use Rattle.std.proofs.Math.Option.{some}
 use Rattle.rules.specs.Bytes.{Bytes}
 use Rattle.rules.specs.Outcome.{Refusal, Outcome, refused, fine}
-use Rattle.rules.specs.Lines.{code_of, recordSize}
+use Rattle.rules.specs.Lines.{code_of, record_size}
 use Rattle.rules.specs.Lines as rules
-use Rattle.rules.specs.Verdict.{coded, goodLine, goodLines}
-use Rattle.base_codes.specs.CodeMeaning.{codeMeant}
-use Rattle.base_refusals.specs.RefusalMeaning.{refusalMeant}
+use Rattle.rules.specs.Verdict.{coded, good_line, good_lines}
+use Rattle.base_codes.specs.CodeMeaning.{code_meant}
+use Rattle.base_refusals.specs.RefusalMeaning.{refusal_meant}
 use Rattle.read_line_checks.specs.declared.Checked.{Checked}
 use Rattle.read_line_checks.specs.declared.Checked.TheVariants as checked
 use Rattle.read_line_checks.specs.declared.Clean.{Clean}
@@ -16,42 +16,42 @@ use Rattle.read_line_checks.specs.declared.GoodLine.{GoodLine}
 use Rattle.read_line_checks.specs.declared.GoodLine.TheVariants as good
 use Rattle.read_line_checks.specs.declared.Scanned.{Scanned}
 use Rattle.read_line_checks.specs.declared.Scanned.TheVariants as scanned
-use Rattle.read_lines.specs.LineLengths.{firstRecord}
-use Rattle.read_lines.specs.Cuts.{linesBy, firstBy}
-use Rattle.read_cuts.specs.Reaches.{nearBody, nearLen, nearLine}
+use Rattle.read_lines.specs.LineLengths.{first_record}
+use Rattle.read_lines.specs.Cuts.{lines_by, first_by}
+use Rattle.read_cuts.specs.Reaches.{near_body, near_len, near_line}
 
 -- checks that say nothing but fine
-abbrev pub checkedOf : Checked → Outcome (Unit {0})
-checkedOf checked.Fine = fine tt
-checkedOf (checked.Refused why) = refused (refusalMeant why)
+abbrev pub checked_of : Checked → Outcome (Unit {0})
+checked_of checked.Fine = fine tt
+checked_of (checked.Refused why) = refused (refusal_meant why)
 
 -- a refusal's place is at most this
-abbrev pub placeWithin : Checked → ℕ → Type 0
-placeWithin checked.Fine n = Unit {0}
-placeWithin (checked.Refused why) n = why.place.0 ≤ n
+abbrev pub place_within : Checked → ℕ → Type 0
+place_within checked.Fine n = Unit {0}
+place_within (checked.Refused why) n = why.place.0 ≤ n
 
 -- 3, 4 of the line that starts at p, with these bytes from there on for it to reach: refused; or 5 alone is left, and where it ends without its end
 abbrev pub CleanIs : Clean → ℕ → ℕ → ℕ → Bytes → Type 0
-CleanIs (clean.Refused why) cut p limit xs = (goodLine p limit (nearLine cut xs) ≡ refused (refusalMeant why)) × (why.place.0 ≤ p + length xs)
-CleanIs (clean.Ends e) cut p limit xs = (goodLine p limit (nearLine cut xs) ≡ coded p (nearLine cut xs)) × (e.0 ≡ p + nearBody cut xs)
+CleanIs (clean.Refused why) cut p limit xs = (good_line p limit (near_line cut xs) ≡ refused (refusal_meant why)) × (why.place.0 ≤ p + length xs)
+CleanIs (clean.Ends e) cut p limit xs = (good_line p limit (near_line cut xs) ≡ coded p (near_line cut xs)) × (e.0 ≡ p + near_body cut xs)
 
 -- 3, 4, 5 of the line that starts at p, with these bytes from there on for it to reach: refused; or its code, and the place after it
 abbrev pub LineIs : GoodLine → ℕ → ℕ → ℕ → Bytes → Type 0
-LineIs (good.Refused why) cut p limit xs = (goodLine p limit (nearLine cut xs) ≡ refused (refusalMeant why)) × (why.place.0 ≤ p + length xs)
-LineIs (good.Good c n) cut p limit xs = (goodLine p limit (nearLine cut xs) ≡ fine (codeMeant c)) × (n.0 ≡ p + nearLen cut xs)
+LineIs (good.Refused why) cut p limit xs = (good_line p limit (near_line cut xs) ≡ refused (refusal_meant why)) × (why.place.0 ≤ p + length xs)
+LineIs (good.Good c n) cut p limit xs = (good_line p limit (near_line cut xs) ≡ fine (code_meant c)) × (n.0 ≡ p + near_len cut xs)
 
 -- 3, 4, 5 of each line of the first record: refused
 pub record Stopped (cut limit : ℕ) (s : Bytes) (why : Refusal) : Type 0 where
-  pub stops : goodLines 0 limit (firstRecord (linesBy cut s)) ≡ refused why
+  pub stops : good_lines 0 limit (first_record (lines_by cut s)) ≡ refused why
   pub some_byte : 0 < length s
   pub within : why.place ≤ length s
 
 -- or all are good: its code, how many lines it has, and how many bytes
 pub record Whole (cut limit : ℕ) (s : Bytes) (c : rules.Code) (lines size : ℕ) : Type 0 where
-  pub good : goodLines 0 limit (firstRecord (linesBy cut s)) ≡ fine tt
-  pub code : code_of (firstBy cut s) ≡ some c
-  pub count : lines ≡ length (firstRecord (linesBy cut s))
-  pub extent : size ≡ recordSize (firstRecord (linesBy cut s))
+  pub good : good_lines 0 limit (first_record (lines_by cut s)) ≡ fine tt
+  pub code : code_of (first_by cut s) ≡ some c
+  pub count : lines ≡ length (first_record (lines_by cut s))
+  pub extent : size ≡ record_size (first_record (lines_by cut s))
   pub some-line : 0 < lines
   pub few : lines ≤ size
   pub fits : size ≤ length s
@@ -59,5 +59,5 @@ pub record Whole (cut limit : ℕ) (s : Bytes) (c : rules.Code) (lines size : �
 -- or there is no record
 abbrev pub ScanIs : Scanned → ℕ → ℕ → Bytes → Type 0
 ScanIs scanned.End cut limit s = length s ≡ 0
-ScanIs (scanned.Refused why) cut limit s = Stopped cut limit s (refusalMeant why)
-ScanIs (scanned.Record c n size) cut limit s = Whole cut limit s (codeMeant c) n.0 size
+ScanIs (scanned.Refused why) cut limit s = Stopped cut limit s (refusal_meant why)
+ScanIs (scanned.Record c n size) cut limit s = Whole cut limit s (code_meant c) n.0 size

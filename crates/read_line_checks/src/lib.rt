@@ -1,10 +1,10 @@
 // Refusals 3, 4 and 5: each line of a record in file order.
 ghost use Rattle.std.specs.Prelude.{◌≡◌, ◌<◌, length, drop};
 ghost use Rattle.rules.specs.Lines.{lines_of};
-ghost use Rattle.rules.specs.Verdict.{noneLonger};
-ghost use Rattle.read_lines.specs.Cuts.{linesBy};
-ghost use Rattle.read_cuts.specs.Reaches.{reachBy};
-ghost use Rattle.read_line_checks.specs.LineChecks.{checkedOf, placeWithin, CleanIs, LineIs, ScanIs};
+ghost use Rattle.rules.specs.Verdict.{none_longer};
+ghost use Rattle.read_lines.specs.Cuts.{lines_by};
+ghost use Rattle.read_cuts.specs.Reaches.{reach_by};
+ghost use Rattle.read_line_checks.specs.LineChecks.{checked_of, place_within, CleanIs, LineIs, ScanIs};
 
 use base_codes::Code;
 use base_quantities::{Place, Records};
@@ -85,7 +85,7 @@ fn good_line(cut: usize, near: &[u8], start: Place, limit: usize) -> GoodLine
 
 // 3, 4, 5 of the 88 lines from `next` on, after a good first line of this code.
 fn scan_further(cut: usize, s: &[u8], limit: usize, code: Code, next: Place) -> Scanned
-    requires { (0 < length s.now) × LineIs (GoodLine.Good code next) cut 0 limit (reachBy cut 0 s.now) }
+    requires { (0 < length s.now) × LineIs (GoodLine.Good code next) cut 0 limit (reach_by cut 0 s.now) }
     ensures { ScanIs result cut limit s.now }
 {
     let mut at = next.0;
@@ -118,7 +118,7 @@ pub fn scan_record(cut: usize, s: &[u8], limit: usize) -> Scanned
 
 // 3 alone, of each line.
 pub fn none_longer(s: &[u8], limit: usize) -> Checked
-    ensures { (checkedOf result ≡ noneLonger 0 limit (lines_of s.now)) × placeWithin result (length s.now) }
+    ensures { (checked_of result ≡ none_longer 0 limit (lines_of s.now)) × place_within result (length s.now) }
 {
     let mut start: usize = 0;
     while start < s.len() {
@@ -136,7 +136,7 @@ pub fn none_longer(s: &[u8], limit: usize) -> Checked
 
 // 3 alone, of each line by this cut; no block is longer than the first.
 pub fn none_longer_by(cut: usize, s: &[u8], limit: usize) -> Checked
-    ensures { (checkedOf result ≡ noneLonger 0 limit (linesBy cut s.now)) × placeWithin result (length s.now) }
+    ensures { (checked_of result ≡ none_longer 0 limit (lines_by cut s.now)) × place_within result (length s.now) }
 {
     if cut == 0 {
         return none_longer(s, limit);

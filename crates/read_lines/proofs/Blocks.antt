@@ -10,7 +10,7 @@ use lib.ListN.{length, drop, get_or}
 use lib.Dec.{ltb}
 use Rattle.rules.specs.Bytes.{Bytes}
 use Rattle.rules.proofs.Tests.{Known, holds, fails, known}
-use Rattle.read_lines.specs.LineLengths.{run, outside, stopsAt}
+use Rattle.read_lines.specs.LineLengths.{run, outside, stops_at}
 use Rattle.read_lines.specs.LineAnswers.{BlockIs}
 use Rattle.read_lines.proofs.RunLengths.{run-stop, run_step}
 
@@ -49,13 +49,13 @@ module _ (s : Bytes) (at high : ℕ) where
 
   -- a search goes on after plain bytes
   run-skip : (n : ℕ) → at + n ≤ length s → ((k : ℕ) → k < n → outside high (get_or s (at + k) 0) ≡ false)
-      → at + run (stopsAt high) (drop at s) ≡ at + n + run (stopsAt high) (drop (at + n) s)
+      → at + run (stops_at high) (drop at s) ≡ at + n + run (stops_at high) (drop (at + n) s)
   run-skip zero h p = rw add-zero
   run-skip (suc n) h p =
       let z : at + n + 1 ≡ at + suc n = omega arith in
       run-skip n (omega arith) (λ k l. p k (omega arith))
-      ∙ run_step (stopsAt high) s (at + n) (omega arith) (p n (omega arith))
-      ∙ ap (λ (m : ℕ). m + run (stopsAt high) (drop m s)) z
+      ∙ run_step (stops_at high) s (at + n) (omega arith) (p n (omega arith))
+      ∙ ap (λ (m : ℕ). m + run (stops_at high) (drop m s)) z
 
   pub block-is : (first : ℕ) → at + 64 ≤ length s → Nearest 64 first → BlockIs s at high first
   block-is first h n =
@@ -64,7 +64,7 @@ module _ (s : Bytes) (at high : ℕ) where
         found = λ l.
             let f = n.there l in
             let a = run-skip first (omega arith) (λ k b. n.plain k (omega arith) b) in
-            let b = run-stop (stopsAt high) s (at + first) (omega arith) f.1 in
+            let b = run-stop (stops_at high) s (at + first) (omega arith) f.1 in
             omega arith;
         missed = λ e. run-skip 64 h (λ k b. n.plain k b (omega arith));
       }

@@ -9,29 +9,29 @@ use borrow.Author.Tests.{leb-true, leb-false}
 use lib.ListN.{length, take, drop, drop_of_length-le, length-drop, length-take}
 use lib.Seq.{drop-drop, take-nil}
 use lib.Dec.{leb}
-use Rattle.rules.specs.Bytes.{Bytes, sameBytes}
-use Rattle.rules.specs.Lines.{lines_of, begins, continuation, codeBytes, recordSize}
+use Rattle.rules.specs.Bytes.{Bytes, same_bytes}
+use Rattle.rules.specs.Lines.{lines_of, begins, continuation, code_bytes, record_size}
 use Rattle.rules.proofs.Tests.{Known, holds, fails, known}
-use Rattle.read_lines.specs.LineLengths.{run, stopsAt, bodyLen, endLen, lineLen, firstLine, further, firstRecord}
-use Rattle.read_lines.specs.Cuts.{linesBy, bodyBy, tailBy, lineBy, firstBy}
+use Rattle.read_lines.specs.LineLengths.{run, stops_at, body_len, end_len, line_len, first_line, further, first_record}
+use Rattle.read_lines.specs.Cuts.{lines_by, body_by, tail_by, line_by, first_by}
 use Rattle.read_lines.proofs.LineLengthLaws.{line-some, line-fits, body-of-part}
-use Rattle.read_lines.proofs.CutLaws.{none-by, first_by}
+use Rattle.read_lines.proofs.CutLaws.{none-by, first_by_lem}
 use Rattle.read_lines.proofs.OneRecord.{size-by, first-size}
 use Rattle.read_lines.proofs.Fronts.{body-after, begins-front}
 
 -- the line's end is where a search from the first byte that is not plain finds it
-pub body-from : (s : Bytes) (at i high : ℕ) → i ≡ at + run (stopsAt high) (drop at s) → at + bodyLen (drop at s) ≡ i + bodyLen (drop i s)
+pub body-from : (s : Bytes) (at i high : ℕ) → i ≡ at + run (stops_at high) (drop at s) → at + body_len (drop at s) ≡ i + body_len (drop i s)
 body-from s at i high p =
-    let d : drop (run (stopsAt high) (drop at s)) (drop at s) ≡ drop i s = drop-drop (run (stopsAt high) (drop at s)) at s ∙ ap (λ (n : ℕ). drop n s) (sym p) in
-    let c : bodyLen (drop at s) ≡ run (stopsAt high) (drop at s) + bodyLen (drop i s) = body-after high (drop at s) ∙ rw d in
+    let d : drop (run (stops_at high) (drop at s)) (drop at s) ≡ drop i s = drop-drop (run (stops_at high) (drop at s)) at s ∙ ap (λ (n : ℕ). drop n s) (sym p) in
+    let c : body_len (drop at s) ≡ run (stops_at high) (drop at s) + body_len (drop i s) = body-after high (drop at s) ∙ rw d in
     omega arith
 
 -- the end of a line in the file, and the next line
-module _ (s : Bytes) (at e n : ℕ) (p : e ≡ at + bodyLen (drop at s)) (q : n ≡ e + endLen (drop e s)) where
-  pub next-is : n ≡ at + lineLen (drop at s)
+module _ (s : Bytes) (at e n : ℕ) (p : e ≡ at + body_len (drop at s)) (q : n ≡ e + end_len (drop e s)) where
+  pub next-is : n ≡ at + line_len (drop at s)
   next-is =
-      let d : drop (bodyLen (drop at s)) (drop at s) ≡ drop e s = drop-drop (bodyLen (drop at s)) at s ∙ ap (λ (n : ℕ). drop n s) (sym p) in
-      let c : lineLen (drop at s) ≡ bodyLen (drop at s) + endLen (drop e s) = rw d in
+      let d : drop (body_len (drop at s)) (drop at s) ≡ drop e s = drop-drop (body_len (drop at s)) at s ∙ ap (λ (n : ℕ). drop n s) (sym p) in
+      let c : line_len (drop at s) ≡ body_len (drop at s) + end_len (drop e s) = rw d in
       omega arith
 
   pub next-within : n ≤ length s + (at - length s)
@@ -48,11 +48,11 @@ take-drop (suc a) k [] = take-nil k ∙ sym (ap (λ (l : Bytes). drop (suc a) l)
 take-drop (suc a) k (x ∷ xs) = take-drop a k xs ∙ ap (λ (n : ℕ). drop (suc a) (take n (x ∷ xs))) (sym (suc-add a k))
 
 -- a line that ends there with its end is found there
-pub body-in : (s : Bytes) (size at e n : ℕ) → e ≡ at + bodyLen (drop at s) → n ≡ e + endLen (drop e s) → n ≤ size → e ≡ at + bodyLen (drop at (take size s))
+pub body-in : (s : Bytes) (size at e n : ℕ) → e ≡ at + body_len (drop at s) → n ≡ e + end_len (drop e s) → n ≤ size → e ≡ at + body_len (drop at (take size s))
 unfolding run
 body-in s size at e n p q h = by_size (known (leb (length s) at))
   where
-    by_size : Known (leb (length s) at) → e ≡ at + bodyLen (drop at (take size s))
+    by_size : Known (leb (length s) at) → e ≡ at + body_len (drop at (take size s))
     by_size (holds t) =
         let l = leb-true (length s) at t in
         let a = drop_of_length-le s {i = at} l in
@@ -64,85 +64,85 @@ body-in s size at e n p q h = by_size (known (leb (length s) at))
         let m : at + (size - at) ≡ size = omega arith in
         let part : take (size - at) (drop at s) ≡ drop at (take size s) = take-drop at (size - at) s ∙ ap (λ (k : ℕ). drop at (take k s)) m in
         let same = body-of-part (drop at s) (size - at) (omega (arith, length-drop at s)) (omega arith) in
-        p ∙ ap (λ (k : ℕ). at + k) (sym same ∙ ap (λ (xs : Bytes). bodyLen xs) part)
+        p ∙ ap (λ (k : ℕ). at + k) (sym same ∙ ap (λ (xs : Bytes). body_len xs) part)
 
 -- ---- lines one after the other, by either cut
 
 module _ (cut : ℕ) (s : Bytes) (at : ℕ) where
-  pub lines-here-by : (n : ℕ) → at < length s → n ≡ at + lineBy cut (drop at s) → linesBy cut (drop at s) ≡ firstBy cut (drop at s) ∷ linesBy cut (drop n s)
+  pub lines-here-by : (n : ℕ) → at < length s → n ≡ at + line_by cut (drop at s) → lines_by cut (drop at s) ≡ first_by cut (drop at s) ∷ lines_by cut (drop n s)
   lines-here-by n h p =
       let l = length-drop at s in
-      first_by cut (drop at s) (omega arith)
-      ∙ ap (λ (xs : Bytes). firstBy cut (drop at s) ∷ linesBy cut xs) (drop-drop (lineBy cut (drop at s)) at s ∙ ap (λ (k : ℕ). drop k s) (sym p))
+      first_by_lem cut (drop at s) (omega arith)
+      ∙ ap (λ (xs : Bytes). first_by cut (drop at s) ∷ lines_by cut xs) (drop-drop (line_by cut (drop at s)) at s ∙ ap (λ (k : ℕ). drop k s) (sym p))
 
-  pub no_lines : length s ≤ at → linesBy cut (drop at s) ≡ []
-  no_lines h = ap (linesBy cut) (drop_of_length-le s {i = at} h) ∙ none-by cut
+  pub no_lines : length s ≤ at → lines_by cut (drop at s) ≡ []
+  no_lines h = ap (lines_by cut) (drop_of_length-le s {i = at} h) ∙ none-by cut
 
   -- its 88 lines
-  pub further-some-by : begins continuation (firstBy cut (drop at s)) ≡ true → at < length s
-  unfolding begins sameBytes
+  pub further-some-by : begins continuation (first_by cut (drop at s)) ≡ true → at < length s
+  unfolding begins same_bytes
   further-some-by t = by_size (known (leb (length s) at))
     where
       by_size : Known (leb (length s) at) → at < length s
       by_size (holds q) =
           let e = drop_of_length-le s {i = at} (leb-true (length s) at q) in
-          let z : false ≡ true = rw (e, take-nil (bodyBy cut [])) at t in let y : ◌≡◌ {A = ℕ} 0 1 = cc in absurd (omega arith)
+          let z : false ≡ true = rw (e, take-nil (body_by cut [])) at t in let y : ◌≡◌ {A = ℕ} 0 1 = cc in absurd (omega arith)
       by_size (fails q) = leb-false (length s) at q
 
-  pub further-none-by : begins continuation (firstBy cut (drop at s)) ≡ false → further (linesBy cut (drop at s)) ≡ []
+  pub further-none-by : begins continuation (first_by cut (drop at s)) ≡ false → further (lines_by cut (drop at s)) ≡ []
   unfolding further
   further-none-by t = by_size (known (leb (length s) at))
     where
-      by_size : Known (leb (length s) at) → further (linesBy cut (drop at s)) ≡ []
+      by_size : Known (leb (length s) at) → further (lines_by cut (drop at s)) ≡ []
       by_size (holds q) = rw (no_lines (leb-true (length s) at q))
-      by_size (fails q) = rw (lines-here-by (at + lineBy cut (drop at s)) (leb-false (length s) at q) refl, t)
+      by_size (fails q) = rw (lines-here-by (at + line_by cut (drop at s)) (leb-false (length s) at q) refl, t)
 
-  module _ (t : begins continuation (firstBy cut (drop at s)) ≡ true) (n : ℕ) (p : n ≡ at + lineBy cut (drop at s)) where
-    pub further-first-by : further (linesBy cut (drop at s)) ≡ firstBy cut (drop at s) ∷ further (linesBy cut (drop n s))
+  module _ (t : begins continuation (first_by cut (drop at s)) ≡ true) (n : ℕ) (p : n ≡ at + line_by cut (drop at s)) where
+    pub further-first-by : further (lines_by cut (drop at s)) ≡ first_by cut (drop at s) ∷ further (lines_by cut (drop n s))
     unfolding further
     further-first-by = rw (lines-here-by n (further-some-by t) p, t)
 
-    pub further-size-by : at + recordSize (further (linesBy cut (drop at s))) ≡ n + recordSize (further (linesBy cut (drop n s)))
-    unfolding recordSize
+    pub further-size-by : at + record_size (further (lines_by cut (drop at s))) ≡ n + record_size (further (lines_by cut (drop n s)))
+    unfolding record_size
     further-size-by = rw further-first-by (let z = size-by cut (drop at s) in omega arith)
 
-    pub further-count-by : length (further (linesBy cut (drop at s))) ≡ suc (length (further (linesBy cut (drop n s))))
+    pub further-count-by : length (further (lines_by cut (drop at s))) ≡ suc (length (further (lines_by cut (drop n s))))
     further-count-by = rw further-first-by
 
 -- ---- the same at line ends, by the test of the three bytes at `at`
 
 module _ (s : Bytes) (at : ℕ) where
-  pub lines-here : (n : ℕ) → at < length s → n ≡ at + lineLen (drop at s) → lines_of (drop at s) ≡ firstLine (drop at s) ∷ lines_of (drop n s)
-  unfolding linesBy bodyBy tailBy
+  pub lines-here : (n : ℕ) → at < length s → n ≡ at + line_len (drop at s) → lines_of (drop at s) ≡ first_line (drop at s) ∷ lines_of (drop n s)
+  unfolding lines_by body_by tail_by
   lines-here n h p = lines-here-by 0 s at n h p
 
-  begun : (b : Bool) → sameBytes (codeBytes continuation) (take 3 (drop at s)) ≡ b → begins continuation (firstBy 0 (drop at s)) ≡ b
-  unfolding bodyBy tailBy
+  begun : (b : Bool) → same_bytes (code_bytes continuation) (take 3 (drop at s)) ≡ b → begins continuation (first_by 0 (drop at s)) ≡ b
+  unfolding body_by tail_by
   begun b t = begins-front continuation (drop at s) ∙ t
 
-  pub further-some : sameBytes (codeBytes continuation) (take 3 (drop at s)) ≡ true → at < length s
+  pub further-some : same_bytes (code_bytes continuation) (take 3 (drop at s)) ≡ true → at < length s
   further-some t = further-some-by 0 s at (begun true t)
 
-  pub further-none : sameBytes (codeBytes continuation) (take 3 (drop at s)) ≡ false → further (lines_of (drop at s)) ≡ []
-  unfolding linesBy
+  pub further-none : same_bytes (code_bytes continuation) (take 3 (drop at s)) ≡ false → further (lines_of (drop at s)) ≡ []
+  unfolding lines_by
   further-none t = further-none-by 0 s at (begun false t)
 
-  module _ (t : sameBytes (codeBytes continuation) (take 3 (drop at s)) ≡ true) (n : ℕ) (p : n ≡ at + lineLen (drop at s)) where
-    pub further-size : at + recordSize (further (lines_of (drop at s))) ≡ n + recordSize (further (lines_of (drop n s)))
-    unfolding linesBy bodyBy tailBy
+  module _ (t : same_bytes (code_bytes continuation) (take 3 (drop at s)) ≡ true) (n : ℕ) (p : n ≡ at + line_len (drop at s)) where
+    pub further-size : at + record_size (further (lines_of (drop at s))) ≡ n + record_size (further (lines_of (drop n s)))
+    unfolding lines_by body_by tail_by
     further-size = further-size-by 0 s at (begun true t) n p
 
     pub further-count : length (further (lines_of (drop at s))) ≡ suc (length (further (lines_of (drop n s))))
-    unfolding linesBy bodyBy tailBy
+    unfolding lines_by body_by tail_by
     further-count = further-count-by 0 s at (begun true t) n p
 
 -- ---- the record's end alone
 
-pub record-start : (s : Bytes) (at n : ℕ) → n ≡ at + lineLen (drop at s) → at + recordSize (firstRecord (lines_of (drop at s))) ≡ n + recordSize (further (lines_of (drop n s)))
-unfolding firstRecord recordSize lines_of further run
+pub record-start : (s : Bytes) (at n : ℕ) → n ≡ at + line_len (drop at s) → at + record_size (first_record (lines_of (drop at s))) ≡ n + record_size (further (lines_of (drop n s)))
+unfolding first_record record_size lines_of further run
 record-start s at n p = by_size (known (leb (length s) at))
   where
-    by_size : Known (leb (length s) at) → at + recordSize (firstRecord (lines_of (drop at s))) ≡ n + recordSize (further (lines_of (drop n s)))
+    by_size : Known (leb (length s) at) → at + record_size (first_record (lines_of (drop at s))) ≡ n + record_size (further (lines_of (drop n s)))
     by_size (holds q) =
         let e = drop_of_length-le s {i = at} (leb-true (length s) at q) in
         let z : n ≡ at = p ∙ rw e (add-zero at) in

@@ -9,8 +9,8 @@ use lib.ListN.{length, take, drop, length-take, length-drop}
 use lib.Seq.{take-nil, take_all}
 use lib.Dec.{eqb}
 use Rattle.rules.specs.Bytes.{Bytes, LF, CR}
-use Rattle.rules.specs.Lines.{lacking, endBytes, Line, longerLine, longerFirst, lines_of}
-use Rattle.read_lines.specs.LineLengths.{beginsLf, endBy, end_of, run, sucUnless, isEnd, bodyLen, endLen, lineLen, firstLine}
+use Rattle.rules.specs.Lines.{lacking, end_bytes, Line, longer_line, longer_first, lines_of}
+use Rattle.read_lines.specs.LineLengths.{begins_lf, end_by, end_of, run, suc_unless, is_end, body_len, end_len, line_len, first_line}
 
 -- LAWS OF RUNS
 module _ (p : ℕ → Bytes → Bool) where
@@ -19,13 +19,13 @@ module _ (p : ℕ → Bytes → Bool) where
   run-le [] = omega arith
   run-le (b ∷ bs) = go (p b bs) (run-le bs)
     where
-      go : (t : Bool) → run p bs ≤ length bs → sucUnless t (run p bs) ≤ suc (length bs)
+      go : (t : Bool) → run p bs ≤ length bs → suc_unless t (run p bs) ≤ suc (length bs)
       go true h = omega arith
       go false h = omega arith
 
--- THE FIRST LINE, also of a part that holds it whole: lineLen xs + k bytes
+-- THE FIRST LINE, also of a part that holds it whole: line_len xs + k bytes
 abbrev Cut : Bytes → ℕ → Type 0
-Cut xs k = lines_of (take (lineLen xs + k) xs) ≡ firstLine xs ∷ lines_of (take k (drop (lineLen xs) xs))
+Cut xs k = lines_of (take (line_len xs + k) xs) ≡ first_line xs ∷ lines_of (take k (drop (line_len xs) xs))
 
 one_more : (k : ℕ) → 1 + k ≡ suc k
 one_more k = omega arith
@@ -38,21 +38,21 @@ unfolding lines_of run
 cut-lf b bs k e = simp e (rw (one_more k, e))
 
 cut-crlf : (b c : ℕ) (cs : Bytes) (k : ℕ) → eqb b LF ≡ false → eqb b CR ≡ true → eqb c LF ≡ true → Cut (b ∷ c ∷ cs) k
-unfolding lines_of run longerFirst longerLine
+unfolding lines_of run longer_first longer_line
 cut-crlf b c cs k e f g = simp (e, f, g) (rw (two-more k, e, g, f))
 
 -- the last byte of all
 cut-last : (b : ℕ) (k : ℕ) → end_of (b ∷ []) ≡ lacking → eqb b LF ≡ false → Cut (b ∷ []) k
-unfolding lines_of run longerFirst
+unfolding lines_of run longer_first
 cut-last b k e f = simp e (rw (one_more k, f, take-nil k))
 
 -- a byte of the line before its other bytes
 abbrev longer : ℕ → Line → Line
-longer b l = record { body = b ∷ l.body; lineEnd = l.lineEnd }
+longer b l = record { body = b ∷ l.body; line_end = l.line_end }
 
-plain-longer : (b c : ℕ) (cs : Bytes) (x y z u v : Bool) → eqb b CR ≡ y → endBy x y z ≡ lacking → eqb c LF ≡ z → eqb c CR ≡ u → beginsLf cs ≡ v
-    → longerLine b (firstLine (c ∷ cs)).body (firstLine (c ∷ cs)).lineEnd ≡ longer b (firstLine (c ∷ cs))
-unfolding run longerLine
+plain-longer : (b c : ℕ) (cs : Bytes) (x y z u v : Bool) → eqb b CR ≡ y → end_by x y z ≡ lacking → eqb c LF ≡ z → eqb c CR ≡ u → begins_lf cs ≡ v
+    → longer_line b (first_line (c ∷ cs)).body (first_line (c ∷ cs)).line_end ≡ longer b (first_line (c ∷ cs))
+unfolding run longer_line
 plain-longer b c cs true y z u v f e g h i = cc
 plain-longer b c cs false true true u v f e g h i = cc
 plain-longer b c cs false false true u v f e g h i = simp g (rw f)
@@ -60,18 +60,18 @@ plain-longer b c cs false y false true true f e g h i = simp (g, h, i)
 plain-longer b c cs false y false true false f e g h i = simp (g, h, i)
 plain-longer b c cs false y false false v f e g h i = simp (g, h, i)
 
-pub body_more : (b : ℕ) (bs : Bytes) → isEnd b bs ≡ false → bodyLen (b ∷ bs) ≡ suc (bodyLen bs)
+pub body_more : (b : ℕ) (bs : Bytes) → is_end b bs ≡ false → body_len (b ∷ bs) ≡ suc (body_len bs)
 unfolding run
 body_more b bs e = rw e
 
 cut-plain : (b c : ℕ) (cs : Bytes) (k : ℕ) → end_of (b ∷ c ∷ cs) ≡ lacking → eqb b LF ≡ false → Cut (c ∷ cs) k → Cut (b ∷ c ∷ cs) k
-unfolding lines_of longerFirst
+unfolding lines_of longer_first
 cut-plain b c cs k e f ih =
     let n = body_more b (c ∷ cs) (rw e) in
-    let l = plain-longer b c cs (eqb b LF) (eqb b CR) (eqb c LF) (eqb c CR) (beginsLf cs) refl e refl refl refl in
+    let l = plain-longer b c cs (eqb b LF) (eqb b CR) (eqb c LF) (eqb c CR) (begins_lf cs) refl e refl refl refl in
     rw (n, suc-add, suc-add, f, ih, l)
 
-not-lf : (x y z : Bool) → endBy x y z ≡ lacking → x ≡ false
+not-lf : (x y z : Bool) → end_by x y z ≡ lacking → x ≡ false
 not-lf true y z e = cc
 not-lf false y z e = refl
 
@@ -91,7 +91,7 @@ cut-first b (c ∷ cs) k = go (eqb b LF) (eqb b CR) (eqb c LF) refl refl refl (c
     go false false z e f g ih = cut-plain b c cs k (rw (e, f)) e ih
 
 -- the first line of a part that holds it whole, and of the bytes themselves
-pub first-of-part : (xs : Bytes) (k : ℕ) → 0 < length xs → lines_of (take (lineLen xs + k) xs) ≡ firstLine xs ∷ lines_of (take k (drop (lineLen xs) xs))
+pub first-of-part : (xs : Bytes) (k : ℕ) → 0 < length xs → lines_of (take (line_len xs + k) xs) ≡ first_line xs ∷ lines_of (take k (drop (line_len xs) xs))
 first-of-part [] k h = absurd (omega arith)
 first-of-part (b ∷ bs) k h = cut-first b bs k
 
@@ -104,51 +104,51 @@ whole_of lines l k xs part =
     let b = take_all (length xs) (drop k xs) (omega arith) in
     ap lines (sym a) ∙ part (length xs) ∙ ap (λ (ys : Bytes). l ∷ lines ys) b
 
-pub first_of : (xs : Bytes) → 0 < length xs → lines_of xs ≡ firstLine xs ∷ lines_of (drop (lineLen xs) xs)
-first_of xs h = whole_of lines_of (firstLine xs) (lineLen xs) xs (λ n. first-of-part xs n h)
+pub first_of : (xs : Bytes) → 0 < length xs → lines_of xs ≡ first_line xs ∷ lines_of (drop (line_len xs) xs)
+first_of xs h = whole_of lines_of (first_line xs) (line_len xs) xs (λ n. first-of-part xs n h)
 
 -- a line's end is within the bytes
-pub end_fits : (xs : Bytes) → endLen xs ≤ length xs
+pub end_fits : (xs : Bytes) → end_len xs ≤ length xs
 end_fits [] = omega arith
 end_fits (b ∷ []) = go (eqb b LF) (eqb b CR)
   where
-    go : (x y : Bool) → length (endBytes (endBy x y false)) ≤ 1
+    go : (x y : Bool) → length (end_bytes (end_by x y false)) ≤ 1
     go true y = omega arith
     go false true = omega arith
     go false false = omega arith
 end_fits (b ∷ c ∷ cs) = go (eqb b LF) (eqb b CR) (eqb c LF)
   where
-    go : (x y z : Bool) → length (endBytes (endBy x y z)) ≤ suc (suc (length cs))
+    go : (x y z : Bool) → length (end_bytes (end_by x y z)) ≤ suc (suc (length cs))
     go true y z = omega arith
     go false true true = omega arith
     go false true false = omega arith
     go false false z = omega arith
 
-pub line-fits : (xs : Bytes) → lineLen xs ≤ length xs
-line-fits xs = let a = run-le isEnd xs in let b = end_fits (drop (bodyLen xs) xs) in let c = length-drop (bodyLen xs) xs in omega arith
+pub line-fits : (xs : Bytes) → line_len xs ≤ length xs
+line-fits xs = let a = run-le is_end xs in let b = end_fits (drop (body_len xs) xs) in let c = length-drop (body_len xs) xs in omega arith
 
 -- the first line is as long as its lengths say
-pub first_body : (xs : Bytes) → length (firstLine xs).body ≡ bodyLen xs
-first_body xs = let a = run-le isEnd xs in length-take (bodyLen xs) xs ∙ omega arith
+pub first_body : (xs : Bytes) → length (first_line xs).body ≡ body_len xs
+first_body xs = let a = run-le is_end xs in length-take (body_len xs) xs ∙ omega arith
 
 -- a line with its end has a byte
-pub line-some : (xs : Bytes) → 0 < length xs → 0 < lineLen xs
+pub line-some : (xs : Bytes) → 0 < length xs → 0 < line_len xs
 unfolding run
 line-some [] h = h
-line-some (b ∷ bs) h = go (eqb b LF) (eqb b CR) (beginsLf bs) refl refl refl
+line-some (b ∷ bs) h = go (eqb b LF) (eqb b CR) (begins_lf bs) refl refl refl
   where
-    go : (x y z : Bool) → eqb b LF ≡ x → eqb b CR ≡ y → beginsLf bs ≡ z → 0 < lineLen (b ∷ bs)
+    go : (x y z : Bool) → eqb b LF ≡ x → eqb b CR ≡ y → begins_lf bs ≡ z → 0 < line_len (b ∷ bs)
     go true y z e f g = simp e (omega arith)
     go false true true e f g = simp (e, f, g) (omega arith)
     go false true false e f g = simp (e, f, g) (omega arith)
     go false false z e f g = simp (e, f) (omega arith)
 
 -- a part that holds the first line whole begins with it
-pub body-of-part : (xs : Bytes) (m : ℕ) → 0 < length xs → lineLen xs ≤ m → bodyLen (take m xs) ≡ bodyLen xs
+pub body-of-part : (xs : Bytes) (m : ℕ) → 0 < length xs → line_len xs ≤ m → body_len (take m xs) ≡ body_len xs
 body-of-part xs m h g =
-    let k : lineLen xs + (m - lineLen xs) ≡ m = omega arith in
+    let k : line_len xs + (m - line_len xs) ≡ m = omega arith in
     let some : 0 < length (take m xs) = omega (arith, length-take m xs, line-some xs h) in
-    let both : firstLine (take m xs) ∷ lines_of (drop (lineLen (take m xs)) (take m xs)) ≡ firstLine xs ∷ lines_of (take (m - lineLen xs) (drop (lineLen xs) xs)) =
-    sym (first_of (take m xs) some) ∙ ap (λ (n : ℕ). lines_of (take n xs)) (sym k) ∙ first-of-part xs (m - lineLen xs) h in
-    let same : firstLine (take m xs) ≡ firstLine xs = cc in
+    let both : first_line (take m xs) ∷ lines_of (drop (line_len (take m xs)) (take m xs)) ≡ first_line xs ∷ lines_of (take (m - line_len xs) (drop (line_len xs) xs)) =
+    sym (first_of (take m xs) some) ∙ ap (λ (n : ℕ). lines_of (take n xs)) (sym k) ∙ first-of-part xs (m - line_len xs) h in
+    let same : first_line (take m xs) ≡ first_line xs = cc in
     sym (first_body (take m xs)) ∙ ap (λ (l : Line). length l.body) same ∙ first_body xs

@@ -9,8 +9,8 @@ use lib.ListN.{length, drop, get_or, drop_of_length-le}
 use lib.Seq.{drop-cons}
 use lib.Dec.{eqb}
 use Rattle.rules.specs.Bytes.{Bytes, LF, CR}
-use Rattle.rules.specs.Lines.{endBytes, LineEnd, lacking, lf, crlf}
-use Rattle.read_lines.specs.LineLengths.{beginsLf, endBy, end_of, isLineEnd, run, isEnd, outside}
+use Rattle.rules.specs.Lines.{end_bytes, LineEnd, lacking, lf, crlf}
+use Rattle.read_lines.specs.LineLengths.{begins_lf, end_by, end_of, is_line_end, run, is_end, outside}
 
 module _ (p : ℕ → Bytes → Bool) (xs : Bytes) (i : ℕ) where
   pub run_none : length xs ≤ i → i + run p (drop i xs) ≡ i
@@ -26,7 +26,7 @@ module _ (p : ℕ → Bytes → Bool) (xs : Bytes) (i : ℕ) where
   run_step h e = rw (drop-cons xs i 0 h, e, add-one) (omega arith)
 
 -- a byte that is allowed ends no line
-pub plain_byte : (b : ℕ) (bs : Bytes) → 32 ≤ b → isEnd b bs ≡ false
+pub plain_byte : (b : ℕ) (bs : Bytes) → 32 ≤ b → is_end b bs ≡ false
 plain_byte b bs h = rw (ne_eqb b LF (λ e. omega arith), ne_eqb b CR (λ e. omega arith))
 
 -- bytes below a blank, above the highest, and between
@@ -44,27 +44,27 @@ byte-good high b h k = rw (le-leb 32 b h, le-leb b high k)
 pub end_none : (s : Bytes) (i : ℕ) → length s ≤ i → end_of (drop i s) ≡ lacking
 end_none s i h = rw (drop_of_length-le s {i = i} h)
 
-pub begins-none : (s : Bytes) (i : ℕ) → length s ≤ i → beginsLf (drop i s) ≡ false
+pub begins-none : (s : Bytes) (i : ℕ) → length s ≤ i → begins_lf (drop i s) ≡ false
 begins-none s i h = rw (drop_of_length-le s {i = i} h)
 
-pub begins-at : (s : Bytes) (i : ℕ) → i < length s → beginsLf (drop i s) ≡ eqb (get_or s i 0) 10
+pub begins-at : (s : Bytes) (i : ℕ) → i < length s → begins_lf (drop i s) ≡ eqb (get_or s i 0) 10
 begins-at s i h = rw (drop-cons s i 0 h)
 
 -- with the tests of the byte and of the next one decided
-pub end-at : (s : Bytes) (i : ℕ) (x y z : Bool) → i < length s → eqb (get_or s i 0) 10 ≡ x → eqb (get_or s i 0) 13 ≡ y → beginsLf (drop (i + 1) s) ≡ z
-    → end_of (drop i s) ≡ endBy x y z
+pub end-at : (s : Bytes) (i : ℕ) (x y z : Bool) → i < length s → eqb (get_or s i 0) 10 ≡ x → eqb (get_or s i 0) 13 ≡ y → begins_lf (drop (i + 1) s) ≡ z
+    → end_of (drop i s) ≡ end_by x y z
 end-at s i x y z h p q r = rw (drop-cons s i 0 h, p, q, ← add-one, r)
 
 -- a line end that has bytes is one
-pub end-some : (e : LineEnd) → 0 < length (endBytes e) → isLineEnd e ≡ true
+pub end-some : (e : LineEnd) → 0 < length (end_bytes e) → is_line_end e ≡ true
 end-some lacking h = absurd (omega arith)
 end-some lf h = refl
 end-some crlf h = refl
 
-pub end_empty : (e : LineEnd) → length (endBytes e) ≤ 0 → isLineEnd e ≡ false
+pub end_empty : (e : LineEnd) → length (end_bytes e) ≤ 0 → is_line_end e ≡ false
 end_empty lacking h = refl
 end_empty lf h = absurd (omega arith)
 end_empty crlf h = absurd (omega arith)
 
-pub is-end-at : (s : Bytes) (i : ℕ) → i < length s → isEnd (get_or s i 0) (drop (suc i) s) ≡ isLineEnd (end_of (drop i s))
+pub is-end-at : (s : Bytes) (i : ℕ) → i < length s → is_end (get_or s i 0) (drop (suc i) s) ≡ is_line_end (end_of (drop i s))
 is-end-at s i h = rw (drop-cons s i 0 h)

@@ -3,26 +3,26 @@ use Rattle.std.specs.Prelude.{ℕ, ◌+◌, ◌-◌, ◌≤◌, ◌<◌, ◌≡�
 use Rattle.std.proofs.Math.Option.{Option, none, some}
 use Rattle.rules.specs.Bytes.{Bytes}
 use Rattle.rules.specs.Lines as rules
-use Rattle.base_codes.specs.CodeMeaning.{codeMeant}
+use Rattle.base_codes.specs.CodeMeaning.{code_meant}
 use Rattle.read_lines.specs.declared.Coded.{Coded}
 use Rattle.read_lines.specs.declared.Coded.TheVariants as coded
 use Rattle.read_lines.specs.declared.Lines.{Lines}
-use Rattle.read_lines.specs.LineLengths.{run, stopsAt, further}
+use Rattle.read_lines.specs.LineLengths.{run, stops_at, further}
 
 -- in the 64 bytes at `at` the first byte outside stands at n; or none does, and n is no place there
 pub record BlockIs (s : Bytes) (at high n : ℕ) : Type 0 where
   pub low : n ≤ 255
-  pub found : n < 64 → run (stopsAt high) (drop at s) ≡ n
-  pub missed : 64 ≤ n → at + run (stopsAt high) (drop at s) ≡ at + 64 + run (stopsAt high) (drop (at + 64) s)
+  pub found : n < 64 → run (stops_at high) (drop at s) ≡ n
+  pub missed : 64 ≤ n → at + run (stops_at high) (drop at s) ≡ at + 64 + run (stops_at high) (drop (at + 64) s)
 
 -- a line's code, if it has one
-abbrev pub codeFound : Coded → Option rules.Code
-codeFound coded.None = none
-codeFound (coded.With c) = some (codeMeant c)
+abbrev pub code_found : Coded → Option rules.Code
+code_found coded.None = none
+code_found (coded.With c) = some (code_meant c)
 
 -- from `at` on: how many 88 lines stand there, and where they end
 pub record LinesAre (r : Lines) (at : ℕ) (s : Bytes) : Type 0 where
   pub count : r.count.0 ≡ length (further (rules.lines_of (drop at s)))
-  pub ends : r.end.0 ≡ at + rules.recordSize (further (rules.lines_of (drop at s)))
+  pub ends : r.end.0 ≡ at + rules.record_size (further (rules.lines_of (drop at s)))
   pub within : r.end.0 ≤ length s + (at - length s)
   pub few : at + r.count.0 ≤ r.end.0

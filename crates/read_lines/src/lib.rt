@@ -1,10 +1,10 @@
 // Lines and records of a file: where they end, and a line's code. `scan` finds the first byte outside a range, block by block.
 ghost use Rattle.std.specs.Prelude.{◌≡◌, [], ◌∷◌, ◌+◌, ◌-◌, ◌≤◌, length, take, drop};
-ghost use Rattle.rules.specs.Bytes.{comma, sameBytes};
-ghost use Rattle.rules.specs.Lines.{lines_of, codeBytes, code_of, recordSize};
-ghost use Rattle.base_codes.specs.CodeMeaning.{codeMeant};
-ghost use Rattle.read_lines.specs.LineLengths.{bodyLen, endLen, lineLen, firstLine, firstRecord};
-ghost use Rattle.read_lines.specs.LineAnswers.{codeFound, LinesAre};
+ghost use Rattle.rules.specs.Bytes.{comma, same_bytes};
+ghost use Rattle.rules.specs.Lines.{lines_of, code_bytes, code_of, record_size};
+ghost use Rattle.base_codes.specs.CodeMeaning.{code_meant};
+ghost use Rattle.read_lines.specs.LineLengths.{body_len, end_len, line_len, first_line, first_record};
+ghost use Rattle.read_lines.specs.LineAnswers.{code_found, LinesAre};
 
 use base_codes::Code;
 use base_quantities::{Place, Records};
@@ -27,7 +27,7 @@ pub struct Lines {
 
 // How many bytes of a line's end stand there: LF, or CR and LF, or none.
 pub fn end_len(s: &[u8], start: Place) -> usize
-    ensures { result ≡ endLen (drop start.0 s.now) }
+    ensures { result ≡ end_len (drop start.0 s.now) }
 {
     let at = start.0;
     if s.len() <= at {
@@ -50,7 +50,7 @@ pub fn end_len(s: &[u8], start: Place) -> usize
 
 // Where the line that starts there ends, without its end.
 pub fn body_end(s: &[u8], start: Place) -> Place
-    ensures { (result.0 ≡ start.0 + bodyLen (drop start.0 s.now)) × (result.0 ≤ length s.now + (start.0 - length s.now)) }
+    ensures { (result.0 ≡ start.0 + body_len (drop start.0 s.now)) × (result.0 ≤ length s.now + (start.0 - length s.now)) }
 {
     let mut i = start.0;
     while i < s.len() {
@@ -64,7 +64,7 @@ pub fn body_end(s: &[u8], start: Place) -> Place
 
 // Where the line that starts there ends among the first `size` bytes; after them more bytes help to search by blocks.
 pub fn body_end_in(s: &[u8], size: usize, start: Place) -> Place
-    ensures { result.0 ≡ start.0 + bodyLen (drop start.0 (take size s.now)) }
+    ensures { result.0 ≡ start.0 + body_len (drop start.0 (take size s.now)) }
 {
     let e = body_end(s, start);
     if e.0 + end_len(s, e) <= size {
@@ -75,7 +75,7 @@ pub fn body_end_in(s: &[u8], size: usize, start: Place) -> Place
 
 // Where the line after the one that starts there starts.
 pub fn next_line(s: &[u8], start: Place) -> Place
-    ensures { (result.0 ≡ start.0 + lineLen (drop start.0 s.now)) × (result.0 ≤ length s.now + (start.0 - length s.now)) }
+    ensures { (result.0 ≡ start.0 + line_len (drop start.0 s.now)) × (result.0 ≤ length s.now + (start.0 - length s.now)) }
 {
     let e = body_end(s, start);
     Place(e.0 + end_len(s, e))
@@ -83,7 +83,7 @@ pub fn next_line(s: &[u8], start: Place) -> Place
 
 // x, y and a comma stand there.
 pub fn begins_with(s: &[u8], start: Place, x: u8, y: u8) -> bool
-    ensures { result ≡ sameBytes (x ∷ y ∷ comma ∷ []) (take 3 (drop start.0 s.now)) }
+    ensures { result ≡ same_bytes (x ∷ y ∷ comma ∷ []) (take 3 (drop start.0 s.now)) }
 {
     let at = start.0;
     if s.len() < 3 {
@@ -103,7 +103,7 @@ pub fn begins_with(s: &[u8], start: Place, x: u8, y: u8) -> bool
 
 // A line of this code starts there.
 pub fn begins(s: &[u8], start: Place, code: Code) -> bool
-    ensures { result ≡ sameBytes (codeBytes (codeMeant code)) (take 3 (drop start.0 s.now)) }
+    ensures { result ≡ same_bytes (code_bytes (code_meant code)) (take 3 (drop start.0 s.now)) }
 {
     let d = base_codes::digits_of(code);
     begins_with(s, start, d.0, d.1)
@@ -111,7 +111,7 @@ pub fn begins(s: &[u8], start: Place, code: Code) -> bool
 
 // The code of the line that starts there.
 pub fn code_at(s: &[u8], start: Place) -> Coded
-    ensures { codeFound result ≡ code_of (firstLine (drop start.0 s.now)) }
+    ensures { code_found result ≡ code_of (first_line (drop start.0 s.now)) }
 {
     if begins(s, start, Code::FileHeader) {
         return Coded::With(Code::FileHeader);
@@ -158,7 +158,7 @@ pub fn further_lines(s: &[u8], start: Place) -> Lines
 
 // Where the record that starts there ends: after its first line and all 88 lines after it.
 pub fn record_end(s: &[u8], start: Place) -> Place
-    ensures { (result.0 ≡ start.0 + recordSize (firstRecord (lines_of (drop start.0 s.now)))) × (result.0 ≤ length s.now + (start.0 - length s.now)) }
+    ensures { (result.0 ≡ start.0 + record_size (first_record (lines_of (drop start.0 s.now)))) × (result.0 ≤ length s.now + (start.0 - length s.now)) }
 {
     further_lines(s, next_line(s, start)).end
 }

@@ -1,6 +1,6 @@
 // The search for the first byte of a kind, by blocks of 64 bytes: no test leaves a block early, so it compiles to vector code.
 ghost use Rattle.std.specs.Prelude.{◌≡◌, cond, ◌+◌, ◌-◌, ◌≤◌, length, drop};
-ghost use Rattle.read_lines.specs.LineLengths.{run, outside, stopsAt};
+ghost use Rattle.read_lines.specs.LineLengths.{run, outside, stops_at};
 ghost use Rattle.read_lines.specs.LineAnswers.{BlockIs};
 
 use base_quantities::Place;
@@ -32,7 +32,7 @@ fn block(s: &[u8], start: Place, high: u8) -> usize
 
 // The first byte from there on that is below a blank or above `high`, byte by byte.
 fn end_by_bytes(s: &[u8], start: Place, high: u8) -> Place
-    ensures { (result.0 ≡ start.0 + run (stopsAt high) (drop start.0 s.now)) × (result.0 ≤ length s.now + (start.0 - length s.now)) }
+    ensures { (result.0 ≡ start.0 + run (stops_at high) (drop start.0 s.now)) × (result.0 ≤ length s.now + (start.0 - length s.now)) }
 {
     let mut i = start.0;
     while i < s.len() {
@@ -49,7 +49,7 @@ fn end_by_bytes(s: &[u8], start: Place, high: u8) -> Place
 
 // The first byte from there on that is below a blank or above `high`.
 pub fn plain_end(s: &[u8], start: Place, high: u8) -> Place
-    ensures { (result.0 ≡ start.0 + run (stopsAt high) (drop start.0 s.now)) × (result.0 ≤ length s.now + (start.0 - length s.now)) }
+    ensures { (result.0 ≡ start.0 + run (stops_at high) (drop start.0 s.now)) × (result.0 ≤ length s.now + (start.0 - length s.now)) }
 {
     let mut i = start.0;
     while i < s.len() {

@@ -1,8 +1,8 @@
 // Refusal 6: which record may come next, whether the file may end, and what is open after a record.
 ghost use Rattle.std.specs.Prelude.{◌≡◌};
-ghost use Rattle.rules.specs.Order.{mayFollow, among, ended, groupOpen, accountOpen};
-ghost use Rattle.base_codes.specs.CodeMeaning.{codeMeant};
-ghost use Rattle.read_order.specs.ExpectedCodes.{expectedMeant};
+ghost use Rattle.rules.specs.Order.{may_follow, among, ended, group_open, account_open};
+ghost use Rattle.base_codes.specs.CodeMeaning.{code_meant};
+ghost use Rattle.read_order.specs.ExpectedCodes.{expected_meant};
 
 use base_codes::Code;
 
@@ -16,7 +16,7 @@ pub enum Expected {
 
 // The codes that may follow this one.
 pub fn expected_after(code: Code) -> Expected
-    ensures { expectedMeant result ≡ mayFollow (codeMeant code) }
+    ensures { expected_meant result ≡ may_follow (code_meant code) }
 {
     match code {
         Code::FileHeader => Expected::Either(Code::GroupHeader, Code::FileTrailer),
@@ -32,7 +32,7 @@ pub fn expected_after(code: Code) -> Expected
 
 // A record of this code may come now.
 pub fn allows(expected: Expected, code: Code) -> bool
-    ensures { result ≡ among (codeMeant code) (expectedMeant expected) }
+    ensures { result ≡ among (code_meant code) (expected_meant expected) }
 {
     let n = base_codes::number_of(code);
     match expected {
@@ -49,7 +49,7 @@ pub fn allows(expected: Expected, code: Code) -> bool
 
 // Nothing may come any more: the 99 was there.
 pub fn has_ended(expected: Expected) -> bool
-    ensures { result ≡ ended (expectedMeant expected) }
+    ensures { result ≡ ended (expected_meant expected) }
 {
     match expected {
         Expected::Nothing => true,
@@ -60,7 +60,7 @@ pub fn has_ended(expected: Expected) -> bool
 
 // After a record of this code a group is open.
 pub fn group_open(code: Code) -> bool
-    ensures { result ≡ groupOpen (codeMeant code) }
+    ensures { result ≡ group_open (code_meant code) }
 {
     match code {
         Code::FileHeader => false,
@@ -76,7 +76,7 @@ pub fn group_open(code: Code) -> bool
 
 // After a record of this code an account is open.
 pub fn account_open(code: Code) -> bool
-    ensures { result ≡ accountOpen (codeMeant code) }
+    ensures { result ≡ account_open (code_meant code) }
 {
     match code {
         Code::FileHeader => false,

@@ -1,9 +1,9 @@
 // What a trailer is held to against the summary of what it encloses: refusals 14, 11, 12 and 13.
 ghost use Rattle.std.specs.Prelude.{◌≡◌};
-ghost use Rattle.base_codes.specs.CodeMeaning.{codeMeant};
-ghost use Rattle.read_line_checks.specs.LineChecks.{checkedOf};
-ghost use Rattle.base_totals.specs.SummaryMeaning.{summaryMeant};
-ghost use Rattle.read_trailers.specs.TrailerChecks.{withinK, totalK, countK, recordsK, trailerK, accountK, balancedK};
+ghost use Rattle.base_codes.specs.CodeMeaning.{code_meant};
+ghost use Rattle.read_line_checks.specs.LineChecks.{checked_of};
+ghost use Rattle.base_totals.specs.SummaryMeaning.{summary_meant};
+ghost use Rattle.read_trailers.specs.TrailerChecks.{within_k, total_k, count_k, records_k, trailer_k, account_k, balanced_k};
 
 use base_codes::Code;
 use base_limits::MOST;
@@ -15,7 +15,7 @@ use read_line_checks::Checked;
 
 // 14: a group's or file's sum, at the total.
 fn sum_within(s: Summary, kept: Kept) -> Checked
-    ensures { checkedOf result ≡ withinK (summaryMeant s) kept }
+    ensures { checked_of result ≡ within_k (summary_meant s) kept }
 {
     let sum = s.total;
     let t = kept.total;
@@ -38,7 +38,7 @@ fn sum_within(s: Summary, kept: Kept) -> Checked
 
 // 11: a trailer's total.
 fn right_total(s: Summary, kept: Kept) -> Checked
-    ensures { checkedOf result ≡ totalK (summaryMeant s) kept }
+    ensures { checked_of result ≡ total_k (summary_meant s) kept }
 {
     let sum = s.total;
     let t = kept.total;
@@ -68,7 +68,7 @@ fn right_total(s: Summary, kept: Kept) -> Checked
 
 // 12: a trailer's count of accounts or groups.
 fn right_count(n: Count, kept: Kept) -> Checked
-    ensures { checkedOf result ≡ countK n.0 kept }
+    ensures { checked_of result ≡ count_k n.0 kept }
 {
     let t = kept.count;
     let at = t.at;
@@ -85,7 +85,7 @@ fn right_count(n: Count, kept: Kept) -> Checked
 
 // 13: a trailer's record count.
 fn right_records(s: Summary, kept: Kept) -> Checked
-    ensures { checkedOf result ≡ recordsK (summaryMeant s) kept }
+    ensures { checked_of result ≡ records_k (summary_meant s) kept }
 {
     let n = s.records;
     let t = kept.records;
@@ -103,7 +103,7 @@ fn right_records(s: Summary, kept: Kept) -> Checked
 
 // The 98 of a group with n accounts, or the 99 of a file with n groups.
 fn right_trailer(s: Summary, n: Count, kept: Kept) -> Checked
-    ensures { checkedOf result ≡ trailerK (summaryMeant s) n.0 kept }
+    ensures { checked_of result ≡ trailer_k (summary_meant s) n.0 kept }
 {
     match sum_within(s, kept) {
         Checked::Refused(why) => return Checked::Refused(why),
@@ -122,7 +122,7 @@ fn right_trailer(s: Summary, n: Count, kept: Kept) -> Checked
 
 // The 49 of an account.
 fn right_account(s: Summary, kept: Kept) -> Checked
-    ensures { checkedOf result ≡ accountK (summaryMeant s) kept }
+    ensures { checked_of result ≡ account_k (summary_meant s) kept }
 {
     match right_total(s, kept) {
         Checked::Refused(why) => return Checked::Refused(why),
@@ -133,7 +133,7 @@ fn right_account(s: Summary, kept: Kept) -> Checked
 
 // A trailer against the summaries of its account, its group and the file, itself included.
 pub fn balance(code: Code, account: Summary, group: Summary, file: Summary, kept: Kept) -> Checked
-    ensures { checkedOf result ≡ balancedK (codeMeant code) (summaryMeant account) (summaryMeant group) (summaryMeant file) kept }
+    ensures { checked_of result ≡ balanced_k (code_meant code) (summary_meant account) (summary_meant group) (summary_meant file) kept }
 {
     match code {
         Code::FileHeader => Checked::Fine,

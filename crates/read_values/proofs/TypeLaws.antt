@@ -6,7 +6,7 @@ use native.Mathlib.Omega.{arith}
 use borrow.Author.Tests.{ne_eqb}
 use Rattle.rules.specs.Bytes.{Bytes}
 use Rattle.rules.specs.Numbers.{digits}
-use Rattle.rules.specs.TypeCodes.{Class, status, summaryOnly, summaryOrDetail, nonMonetary, unknown, class_of, typeClass}
+use Rattle.rules.specs.TypeCodes.{Class, status, summary_only, summary_or_detail, non_monetary, unknown, class_of, type_class}
 use Rattle.base_digits.specs.NumbersRead.{value_of}
 use Rattle.base_digits.proofs.DigitTests.{within, below, above}
 use Rattle.base_digits.proofs.ReadingLaws.{value-is}
@@ -20,15 +20,15 @@ module _ (n : ℕ) where
   unfolding class_of
   statuses h g = rw (within 1 99 n h (omega arith))
 
-  pub only-100 : n ≡ 100 → summaryOnly ≡ class_of n
+  pub only-100 : n ≡ 100 → summary_only ≡ class_of n
   unfolding class_of
   only-100 e = rw e
 
-  pub only-400 : n ≡ 400 → summaryOnly ≡ class_of n
+  pub only-400 : n ≡ 400 → summary_only ≡ class_of n
   unfolding class_of
   only-400 e = rw e
 
-  pub non-monetary : n ≡ 890 → nonMonetary ≡ class_of n
+  pub non-monetary : n ≡ 890 → non_monetary ≡ class_of n
   unfolding class_of
   non-monetary e = rw e
 
@@ -37,7 +37,7 @@ module _ (n : ℕ) where
   customised h g = rw (above 1 99 n (omega arith), within 900 919 n h (omega arith))
 
   module _ (h : 100 ≤ n) (p : n ≡ 100 → ⊥) (q : n ≡ 400 → ⊥) where
-    pub low : n < 800 → summaryOrDetail ≡ class_of n
+    pub low : n < 800 → summary_or_detail ≡ class_of n
     unfolding class_of
     low g =
         rw (above 1 99 n (omega arith), below 900 919 n (omega arith), ne_eqb n 100 p, ne_eqb n 400 q, within 101 799 n (omega arith) (omega arith))
@@ -48,7 +48,7 @@ module _ (n : ℕ) where
       gap f =
           rw (above 1 99 n (omega arith), below 900 919 n f, ne_eqb n 100 p, ne_eqb n 400 q, above 101 799 n (omega arith), below 920 999 n (omega arith), ne_eqb n 890 m)
 
-      pub high : 920 ≤ n → n < 1000 → summaryOrDetail ≡ class_of n
+      pub high : 920 ≤ n → n < 1000 → summary_or_detail ≡ class_of n
       unfolding class_of
       high f k =
           rw (above 1 99 n (omega arith), above 900 919 n (omega arith), ne_eqb n 100 p, ne_eqb n 400 q, above 101 799 n (omega arith), within 920 999 n f (omega arith))
@@ -58,10 +58,10 @@ module _ (n : ℕ) where
       beyond f =
           rw (above 1 99 n (omega arith), above 900 919 n (omega arith), ne_eqb n 100 p, ne_eqb n 400 q, above 101 799 n (omega arith), above 920 999 n (omega arith), ne_eqb n 890 m)
 
-pub type-not : (s : Bytes) → digits 3 3 s ≡ false → unknown ≡ typeClass s
-unfolding typeClass
+pub type-not : (s : Bytes) → digits 3 3 s ≡ false → unknown ≡ type_class s
+unfolding type_class
 type-not s e = rw e
 
-pub type-is : (s : Bytes) (n : ℕ) (c : Class) → digits 3 3 s ≡ true → n ≡ value_of s → c ≡ class_of n → c ≡ typeClass s
-unfolding typeClass
+pub type-is : (s : Bytes) (n : ℕ) (c : Class) → digits 3 3 s ≡ true → n ≡ value_of s → c ≡ class_of n → c ≡ type_class s
+unfolding type_class
 type-is s n c d e p = rw (d, ← value-is 3 3 s d (omega arith), ← e) p

@@ -8,7 +8,7 @@ use lib.Dec.{eqb}
 use lib.ListN.{length, get_or}
 use borrow.Author.Tests.{eq-eqb, ne_eqb}
 use Rattle.rules.specs.Bytes.{Bytes, between, all, is_empty, one_of}
-use Rattle.rules.specs.Grammar.{isCurrency}
+use Rattle.rules.specs.Grammar.{is_currency}
 
 pub empty-is : (s : Bytes) → eqb (length s) 0 ≡ is_empty s
 unfolding is_empty
@@ -31,8 +31,8 @@ one lo hi (b ∷ c ∷ s) h = absurd (omega arith)
 
 -- ---- a currency
 
-pub currency-none : (s : Bytes) → length s ≡ 0 → true ≡ isCurrency s
-unfolding isCurrency is_empty
+pub currency-none : (s : Bytes) → length s ≡ 0 → true ≡ is_currency s
+unfolding is_currency is_empty
 currency-none [] h = refl
 currency-none (b ∷ s) h = absurd (omega arith)
 
@@ -40,10 +40,10 @@ module _ (s : Bytes) (some : length s ≡ 0 → ⊥) where
   filled : is_empty s ≡ false
   filled = sym (empty-is s) ∙ ne_eqb (length s) 0 some
 
-  pub currency-not : (length s ≡ 3 → ⊥) → false ≡ isCurrency s
-  unfolding isCurrency
+  pub currency-not : (length s ≡ 3 → ⊥) → false ≡ is_currency s
+  unfolding is_currency
   currency-not h = rw (filled, ne_eqb (length s) 3 h)
 
-  pub currency-three : (r : Bool) → length s ≡ 3 → r ≡ all (between 65 90) s → r ≡ isCurrency s
-  unfolding isCurrency
+  pub currency-three : (r : Bool) → length s ≡ 3 → r ≡ all (between 65 90) s → r ≡ is_currency s
+  unfolding is_currency
   currency-three r h e = rw (filled, eq-eqb (length s) 3 h) e

@@ -2,7 +2,7 @@
 use Rattle.std.specs.Prelude.{cond, take, drop}
 use Rattle.rules.specs.Bytes.{Bytes}
 use Rattle.rules.specs.Numbers.{number}
-use Rattle.rules.specs.Dates.{isDate}
+use Rattle.rules.specs.Dates.{is_date}
 use Rattle.rules.specs.TypeCodes as types
 use Rattle.read_values.specs.declared.Class.{Class}
 use Rattle.read_values.specs.declared.Class.TheVariants.{Status, SummaryOnly, SummaryOrDetail, NonMonetary, Unknown}
@@ -10,14 +10,14 @@ use Rattle.read_values.specs.declared.date.DateRead.{DateRead}
 use Rattle.read_values.specs.declared.date.DateRead.TheVariants.{Given, NoDate}
 
 -- the rules' class
-abbrev pub classMeant : Class → types.Class
-classMeant Status = types.status
-classMeant SummaryOnly = types.summaryOnly
-classMeant SummaryOrDetail = types.summaryOrDetail
-classMeant NonMonetary = types.nonMonetary
-classMeant Unknown = types.unknown
+abbrev pub class_meant : Class → types.Class
+class_meant Status = types.status
+class_meant SummaryOnly = types.summary_only
+class_meant SummaryOrDetail = types.summary_or_detail
+class_meant NonMonetary = types.non_monetary
+class_meant Unknown = types.unknown
 
--- the date that six digits give: where `isDate` (rules/specs/Dates.antt) holds, its year, month and day
-unfoldable pub dateIn : Bytes → DateRead
-dateIn bs =
-    cond (isDate bs) (Given (record { year = number (take 2 bs); month = number (take 2 (drop 2 bs)); day = number (take 2 (drop 4 bs)) })) NoDate
+-- the date that six digits give: where `is_date` (rules/specs/Dates.antt) holds, its year, month and day
+unfoldable pub date_in : Bytes → DateRead
+date_in bs =
+    cond (is_date bs) (Given (record { year = number (take 2 bs); month = number (take 2 (drop 2 bs)); day = number (take 2 (drop 4 bs)) })) NoDate

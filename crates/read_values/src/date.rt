@@ -1,7 +1,7 @@
 // Dates: YYMMDD, years 2000 to 2099, a day that its month has.
 ghost use Rattle.std.specs.Prelude.{◌≡◌};
-ghost use Rattle.rules.specs.Dates.{isDate, daysOf};
-ghost use Rattle.read_values.specs.ValueMeanings.{dateIn};
+ghost use Rattle.rules.specs.Dates.{is_date, days_of};
+ghost use Rattle.read_values.specs.ValueMeanings.{date_in};
 
 // A year of the century, a month and a day.
 #[derive(Drop)]
@@ -30,7 +30,7 @@ impl Date {
 
     // The days of a month; February 29 where YY divides by 4.
     pub fn days_in(year: u64, month: u64) -> u64
-        ensures { result ≡ daysOf year month }
+        ensures { result ≡ days_of year month }
     {
         if month == Date::FEBRUARY {
             if year % Date::LEAP_YEARS == 0 {
@@ -55,7 +55,7 @@ impl Date {
 
     // The date that six digits give.
     pub fn read(f: &[u8]) -> DateRead
-        ensures { result ≡ dateIn f.now }
+        ensures { result ≡ date_in f.now }
     {
         if !base_digits::is_digits(f, Date::DIGITS, Date::DIGITS) {
             return DateRead::NoDate;
@@ -81,7 +81,7 @@ impl Date {
 
 // Six digits that give a date.
 pub fn is_date(f: &[u8]) -> bool
-    ensures { result ≡ isDate f.now }
+    ensures { result ≡ is_date f.now }
 {
     match Date::read(f) {
         DateRead::Given(_) => true,

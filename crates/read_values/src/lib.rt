@@ -1,11 +1,11 @@
 // What a field's bytes may be: names, single bytes, currencies, lengths, times and types. Dates are in `date`; numbers are in `base_digits`.
 ghost use Rattle.std.specs.Prelude.{◌≡◌, length, leb};
-ghost use Rattle.rules.specs.Limits.{longestName};
-ghost use Rattle.rules.specs.Bytes.{between, is_empty, one_of, inField, clean};
-ghost use Rattle.rules.specs.Dates.{isTime};
-ghost use Rattle.rules.specs.TypeCodes.{class_of, typeClass};
-ghost use Rattle.rules.specs.Grammar.{isCurrency, isLength};
-ghost use Rattle.read_values.specs.ValueMeanings.{classMeant};
+ghost use Rattle.rules.specs.Limits.{longest_name};
+ghost use Rattle.rules.specs.Bytes.{between, is_empty, one_of, in_field, clean};
+ghost use Rattle.rules.specs.Dates.{is_time};
+ghost use Rattle.rules.specs.TypeCodes.{class_of, type_class};
+ghost use Rattle.rules.specs.Grammar.{is_currency, is_length};
+ghost use Rattle.read_values.specs.ValueMeanings.{class_meant};
 
 use base_limits::{LONGEST_LINE, LONGEST_NAME};
 
@@ -21,14 +21,14 @@ const NO_TIME: u64 = 9999;
 
 // Ultimate receiver and references: 0 to 76 bytes.
 pub fn is_reference(f: &[u8]) -> bool
-    ensures { result ≡ leb (length f.now) longestName }
+    ensures { result ≡ leb (length f.now) longest_name }
 {
     f.len() <= LONGEST_NAME
 }
 
 // Sender, receiver, originator, account number: 1 to 76 bytes.
 pub fn is_name(f: &[u8]) -> bool
-    ensures { result ≡ between 1 longestName (length f.now) }
+    ensures { result ≡ between 1 longest_name (length f.now) }
 {
     if f.len() < 1 {
         return false;
@@ -38,7 +38,7 @@ pub fn is_name(f: &[u8]) -> bool
 
 // A byte that may stand in a field: an allowed one, no comma and no slash.
 fn in_field(b: u8) -> bool
-    ensures { result ≡ inField b }
+    ensures { result ≡ in_field b }
 {
     if b < b' ' {
         return false;
@@ -88,7 +88,7 @@ pub fn is_one_of(f: &[u8], lo: u8, hi: u8) -> bool
 
 // Empty, or three of A to Z.
 pub fn is_currency(f: &[u8]) -> bool
-    ensures { result ≡ isCurrency f.now }
+    ensures { result ≡ is_currency f.now }
 {
     if f.len() == 0 {
         return true;
@@ -101,7 +101,7 @@ pub fn is_currency(f: &[u8]) -> bool
 
 // The physical length: 1 to 4 digits, 48 to 4096.
 pub fn is_length(f: &[u8]) -> bool
-    ensures { result ≡ isLength f.now }
+    ensures { result ≡ is_length f.now }
 {
     if !base_digits::is_digits(f, 1, 4) {
         return false;
@@ -115,7 +115,7 @@ pub fn is_length(f: &[u8]) -> bool
 
 // Hours 00 to 23 with minutes 00 to 59, or 2400, or 9999.
 pub fn is_time(f: &[u8]) -> bool
-    ensures { result ≡ isTime f.now }
+    ensures { result ≡ is_time f.now }
 {
     if !base_digits::is_digits(f, 4, 4) {
         return false;
@@ -147,7 +147,7 @@ pub enum Class {
 
 // The class of a number.
 pub fn class_of(n: u64) -> Class
-    ensures { classMeant result ≡ class_of n }
+    ensures { class_meant result ≡ class_of n }
 {
     if n < 1 {
         return Class::Unknown;
@@ -181,7 +181,7 @@ pub fn class_of(n: u64) -> Class
 
 // The class of a type field: three digits; anything else is of none.
 pub fn type_class(f: &[u8]) -> Class
-    ensures { classMeant result ≡ typeClass f.now }
+    ensures { class_meant result ≡ type_class f.now }
 {
     if !base_digits::is_digits(f, 3, 3) {
         return Class::Unknown;

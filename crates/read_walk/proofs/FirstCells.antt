@@ -9,10 +9,10 @@ use lib.ListN.{length, take, drop, get_or, take-append-drop}
 use lib.Seq.{drop-cons, take_all, length-take-le}
 use borrow.Author.Tests.{eqb-true, eqb-false, ltb-true, ltb-false}
 use Rattle.rules.specs.Bytes.{Bytes, comma, slash, all}
-use Rattle.rules.specs.Cells.{Mark, atComma, atSlash, atLineEnd, Cell, cellsFrom}
+use Rattle.rules.specs.Cells.{Mark, at_comma, at_slash, at_line_end, Cell, cells_from}
 use Rattle.rules.proofs.Tests.{Known, holds, fails, known, both}
 use Rattle.rules.proofs.CellLaws.{plain_byte, cells-comma, cells-slash, cells-end}
-use Rattle.read_field_ends.specs.FieldLengths.{until, isMark, fieldLen}
+use Rattle.read_field_ends.specs.FieldLengths.{until, is_mark, field_len}
 
 -- ---- the bytes before the mark, and the mark
 
@@ -21,45 +21,45 @@ no-mark true y e = let z : ◌≡◌ {A = ℕ} 0 1 = cc in absurd (omega arith)
 no-mark false true e = let z : ◌≡◌ {A = ℕ} 0 1 = cc in absurd (omega arith)
 no-mark false false e = tt
 
-plain_step : (b : ℕ) (bs : Bytes) → T (all plain_byte (take (fieldLen bs) bs)) → Known (isMark b) → T (all plain_byte (take (fieldLen (b ∷ bs)) (b ∷ bs)))
+plain_step : (b : ℕ) (bs : Bytes) → T (all plain_byte (take (field_len bs) bs)) → Known (is_mark b) → T (all plain_byte (take (field_len (b ∷ bs)) (b ∷ bs)))
 unfolding until all
 plain_step b bs ih (holds e) = rw e tt
-plain_step b bs ih (fails e) = rw e (both (plain_byte b) (all plain_byte (take (fieldLen bs) bs)) (no-mark (eqb b comma) (eqb b slash) e) ih)
+plain_step b bs ih (fails e) = rw e (both (plain_byte b) (all plain_byte (take (field_len bs) bs)) (no-mark (eqb b comma) (eqb b slash) e) ih)
 
-front-plain : (xs : Bytes) → T (all plain_byte (take (fieldLen xs) xs))
+front-plain : (xs : Bytes) → T (all plain_byte (take (field_len xs) xs))
 unfolding until all
 front-plain [] = tt
-front-plain (b ∷ bs) = plain_step b bs (front-plain bs) (known (isMark b))
+front-plain (b ∷ bs) = plain_step b bs (front-plain bs) (known (is_mark b))
 
-mark-step : (b : ℕ) (bs : Bytes) → (fieldLen bs < length bs → isMark (get_or bs (fieldLen bs) 0) ≡ true) → Known (isMark b)
-    → fieldLen (b ∷ bs) < suc (length bs) → isMark (get_or (b ∷ bs) (fieldLen (b ∷ bs)) 0) ≡ true
+mark-step : (b : ℕ) (bs : Bytes) → (field_len bs < length bs → is_mark (get_or bs (field_len bs) 0) ≡ true) → Known (is_mark b)
+    → field_len (b ∷ bs) < suc (length bs) → is_mark (get_or (b ∷ bs) (field_len (b ∷ bs)) 0) ≡ true
 unfolding until
 mark-step b bs ih (holds e) h = simp e
 mark-step b bs ih (fails e) h = let z = simp e at h in simp e (ih (omega arith))
 
-mark-is : (xs : Bytes) → fieldLen xs < length xs → isMark (get_or xs (fieldLen xs) 0) ≡ true
+mark-is : (xs : Bytes) → field_len xs < length xs → is_mark (get_or xs (field_len xs) 0) ≡ true
 unfolding until
 mark-is [] h = absurd (omega arith)
-mark-is (b ∷ bs) h = mark-step b bs (mark-is bs) (known (isMark b)) h
+mark-is (b ∷ bs) h = mark-step b bs (mark-is bs) (known (is_mark b)) h
 
-length-step : (b : ℕ) (bs : Bytes) → fieldLen bs ≤ length bs → Known (isMark b) → fieldLen (b ∷ bs) ≤ suc (length bs)
+length-step : (b : ℕ) (bs : Bytes) → field_len bs ≤ length bs → Known (is_mark b) → field_len (b ∷ bs) ≤ suc (length bs)
 unfolding until
 length-step b bs ih (holds e) = simp e (omega arith)
 length-step b bs ih (fails e) = simp e (omega arith)
 
-pub field_fits : (xs : Bytes) → fieldLen xs ≤ length xs
+pub field_fits : (xs : Bytes) → field_len xs ≤ length xs
 unfolding until
 field_fits [] = omega arith
-field_fits (b ∷ bs) = length-step b bs (field_fits bs) (known (isMark b))
+field_fits (b ∷ bs) = length-step b bs (field_fits bs) (known (is_mark b))
 
 -- ---- the first cell
 
 -- the line ends first
-pub first-open : (p : ℕ) (xs : Bytes) → length xs ≤ fieldLen xs → cellsFrom p xs ≡ record { place = p; bytes = xs; mark = atLineEnd; rest = xs } ∷ []
-first-open p xs h = cells-end p xs (rw (take_all (fieldLen xs) xs h) at (front-plain xs))
+pub first-open : (p : ℕ) (xs : Bytes) → length xs ≤ field_len xs → cells_from p xs ≡ record { place = p; bytes = xs; mark = at_line_end; rest = xs } ∷ []
+first-open p xs h = cells-end p xs (rw (take_all (field_len xs) xs h) at (front-plain xs))
 
 -- a comma or slash ends it, n bytes on
-module _ (xs : Bytes) (n : ℕ) (e : n ≡ fieldLen xs) (h : n < length xs) where
+module _ (xs : Bytes) (n : ℕ) (e : n ≡ field_len xs) (h : n < length xs) where
   split : take n xs ++ (get_or xs n 0 ∷ drop (suc n) xs) ≡ xs
   split = ap (λ (l : Bytes). take n xs ++ l) (sym (drop-cons xs n 0 h)) ∙ take-append-drop n xs
 
@@ -80,15 +80,15 @@ module _ (xs : Bytes) (n : ℕ) (e : n ≡ fieldLen xs) (h : n < length xs) wher
       go (holds c) s = eqb-true (get_or xs n 0) comma c
       go (fails c) (holds s) = absurd (m (eqb-true (get_or xs n 0) slash s))
       go (fails c) (fails s) =
-          let z : isMark (get_or xs n 0) ≡ true = rw e (mark-is xs (rw e at h)) in
+          let z : is_mark (get_or xs n 0) ≡ true = rw e (mark-is xs (rw e at h)) in
           let y : ◌≡◌ {A = Bool} false true = rw (c, s) at z in
           let x : ◌≡◌ {A = ℕ} 0 1 = cc in
           absurd (omega arith)
 
-  pub first-comma : (p : ℕ) → get_or xs n 0 ≡ comma → cellsFrom p xs ≡ record { place = p; bytes = take n xs; mark = atComma; rest = xs } ∷ cellsFrom (suc (p + n)) (drop (suc n) xs)
+  pub first-comma : (p : ℕ) → get_or xs n 0 ≡ comma → cells_from p xs ≡ record { place = p; bytes = take n xs; mark = at_comma; rest = xs } ∷ cells_from (suc (p + n)) (drop (suc n) xs)
   first-comma p m = rw (with-mark comma m, long) at (cells-comma p (take n xs) (drop (suc n) xs) plain)
 
-  pub first-slash : (p : ℕ) → get_or xs n 0 ≡ slash → cellsFrom p xs ≡ record { place = p; bytes = take n xs; mark = atSlash (drop (suc n) xs); rest = xs } ∷ []
+  pub first-slash : (p : ℕ) → get_or xs n 0 ≡ slash → cells_from p xs ≡ record { place = p; bytes = take n xs; mark = at_slash (drop (suc n) xs); rest = xs } ∷ []
   first-slash p m = rw (with-mark slash m) at (cells-slash p (take n xs) (drop (suc n) xs) plain)
 
 -- ---- any first cell starts at p with all that is left
@@ -96,12 +96,12 @@ module _ (xs : Bytes) (n : ℕ) (e : n ≡ fieldLen xs) (h : n < length xs) wher
 pub data Starts (p : ℕ) (xs : Bytes) : List Cell → Type 0 where
   starts : (bs : Bytes) (m : Mark) (cs : List Cell) → Starts p xs (record { place = p; bytes = bs; mark = m; rest = xs } ∷ cs)
 
-pub cells-start : (p : ℕ) (xs : Bytes) → Starts p xs (cellsFrom p xs)
-cells-start p xs = go (known (ltb (fieldLen xs) (length xs))) (known (eqb (get_or xs (fieldLen xs) 0) slash))
+pub cells-start : (p : ℕ) (xs : Bytes) → Starts p xs (cells_from p xs)
+cells-start p xs = go (known (ltb (field_len xs) (length xs))) (known (eqb (get_or xs (field_len xs) 0) slash))
   where
-    go : Known (ltb (fieldLen xs) (length xs)) → Known (eqb (get_or xs (fieldLen xs) 0) slash) → Starts p xs (cellsFrom p xs)
-    go (holds q) (holds m) = rw (first-slash xs (fieldLen xs) refl (ltb-true (fieldLen xs) (length xs) q) p (eqb-true (get_or xs (fieldLen xs) 0) slash m)) (starts _ _ _)
+    go : Known (ltb (field_len xs) (length xs)) → Known (eqb (get_or xs (field_len xs) 0) slash) → Starts p xs (cells_from p xs)
+    go (holds q) (holds m) = rw (first-slash xs (field_len xs) refl (ltb-true (field_len xs) (length xs) q) p (eqb-true (get_or xs (field_len xs) 0) slash m)) (starts _ _ _)
     go (holds q) (fails m) =
-        let h = ltb-true (fieldLen xs) (length xs) q in
-        rw (first-comma xs (fieldLen xs) refl h p (comma-there xs (fieldLen xs) refl h (eqb-false (get_or xs (fieldLen xs) 0) slash m))) (starts _ _ _)
-    go (fails q) m = rw (first-open p xs (ltb-false (fieldLen xs) (length xs) q)) (starts _ _ _)
+        let h = ltb-true (field_len xs) (length xs) q in
+        rw (first-comma xs (field_len xs) refl h p (comma-there xs (field_len xs) refl h (eqb-false (get_or xs (field_len xs) 0) slash m))) (starts _ _ _)
+    go (fails q) m = rw (first-open p xs (ltb-false (field_len xs) (length xs) q)) (starts _ _ _)

@@ -8,9 +8,9 @@ use lib.ListN.{length, take, drop, get_or}
 use lib.Seq.{slice, take-take, drop-drop, get_or-drop, get_or-take}
 use Rattle.rules.specs.Bytes.{Bytes}
 use Rattle.rules.specs.Lines.{size_of}
-use Rattle.rules.specs.Grammar.{Kind, bad, and_then, takeNext, nextKind, isText}
-use Rattle.read_lines.specs.LineLengths.{bodyLen, lineLen, firstLine}
-use Rattle.read_lines.specs.Cuts.{bodyBy, tailBy, lineBy, firstBy}
+use Rattle.rules.specs.Grammar.{Kind, bad, and_then, take_next, next_kind, is_text}
+use Rattle.read_lines.specs.LineLengths.{body_len, line_len, first_line}
+use Rattle.read_lines.specs.Cuts.{body_by, tail_by, line_by, first_by}
 use Rattle.read_lines.proofs.OneRecord.{size-by}
 use Rattle.read_kept.proofs.EachKind.{told}
 use Rattle.read_lines.proofs.LineLaws.{take-drop}
@@ -31,29 +31,29 @@ part-get s a e k h = get_or-drop a (take e s) k 0 ∙ get_or-take e s (a + k) 0 
 
 -- ---- a line that starts at `at` and ends at e, before the one at n, by either cut
 
-module _ (cut : ℕ) (s : Bytes) (at e n : ℕ) (he : e ≡ at + bodyBy cut (drop at s)) (hn : n ≡ at + lineBy cut (drop at s)) where
-  pub line-size-by : at + size_of (firstBy cut (drop at s)) ≡ n
+module _ (cut : ℕ) (s : Bytes) (at e n : ℕ) (he : e ≡ at + body_by cut (drop at s)) (hn : n ≡ at + line_by cut (drop at s)) where
+  pub line-size-by : at + size_of (first_by cut (drop at s)) ≡ n
   line-size-by = ap (λ (m : ℕ). at + m) (size-by cut (drop at s)) ∙ sym hn
 
   -- its bytes after the code and the comma
-  pub line-fields-by : drop 3 (firstBy cut (drop at s)).body ≡ slice (at + 3) e s
+  pub line-fields-by : drop 3 (first_by cut (drop at s)).body ≡ slice (at + 3) e s
   line-fields-by =
-      let i : (firstBy cut (drop at s)).body ≡ slice at e s = take-drop at (bodyBy cut (drop at s)) s ∙ ap (λ (m : ℕ). slice at m s) (sym he) in
+      let i : (first_by cut (drop at s)).body ≡ slice at e s = take-drop at (body_by cut (drop at s)) s ∙ ap (λ (m : ℕ). slice at m s) (sym he) in
       ap (λ (xs : Bytes). drop 3 xs) i ∙ drop-drop 3 at (take e s)
 
 -- the same at line ends
-module _ (s : Bytes) (at e n : ℕ) (he : e ≡ at + bodyLen (drop at s)) (hn : n ≡ at + lineLen (drop at s)) where
-  pub line-size : at + size_of (firstLine (drop at s)) ≡ n
-  unfolding bodyBy tailBy
+module _ (s : Bytes) (at e n : ℕ) (he : e ≡ at + body_len (drop at s)) (hn : n ≡ at + line_len (drop at s)) where
+  pub line-size : at + size_of (first_line (drop at s)) ≡ n
+  unfolding body_by tail_by
   line-size = line-size-by 0 s at e n he hn
 
-  pub line-fields : drop 3 (firstLine (drop at s)).body ≡ slice (at + 3) e s
-  unfolding bodyBy tailBy
+  pub line-fields : drop 3 (first_line (drop at s)).body ≡ slice (at + 3) e s
+  unfolding body_by tail_by
   line-fields = line-fields-by 0 s at e n he hn
 
 -- ---- a line with no byte after its code
 
-pub text-empty : (ks : List Kind) → isText (nextKind ks) ≡ true → takeNext ks [] ≡ bad 7
-unfolding takeNext and_then
+pub text-empty : (ks : List Kind) → is_text (next_kind ks) ≡ true → take_next ks [] ≡ bad 7
+unfolding take_next and_then
 text-empty [] h = cc
 text-empty (k ∷ ks) h = rw ((told k).6 h)

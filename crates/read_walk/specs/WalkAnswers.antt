@@ -2,20 +2,20 @@
 use Rattle.std.specs.Prelude.{ℕ, ◌+◌, ◌≤◌, ◌≡◌, length}
 use Rattle.rules.specs.Bytes.{Bytes}
 use Rattle.rules.specs.Outcome.{Outcome, refused, fine}
-use Rattle.read_lines.specs.Cuts.{linesBy}
-use Rattle.base_refusals.specs.RefusalMeaning.{refusalMeant}
+use Rattle.read_lines.specs.Cuts.{lines_by}
+use Rattle.base_refusals.specs.RefusalMeaning.{refusal_meant}
 use Rattle.read_wanted.specs.declared.want.Want.{Want}
-use Rattle.read_wanted.specs.Wants.{wantedOf}
+use Rattle.read_wanted.specs.Wants.{wanted_of}
 use Rattle.read_kept.specs.declared.Kept.{Kept}
-use Rattle.read_kept.specs.KeepFields.{nothingKept, Within}
+use Rattle.read_kept.specs.KeepFields.{nothing_kept, Within}
 use Rattle.read_walk.specs.declared.Walked.{Walked}
 use Rattle.read_walk.specs.declared.Walked.TheVariants.{Refused, Done}
-use Rattle.read_walk.specs.WalkKept.{walkFrom}
+use Rattle.read_walk.specs.WalkKept.{walk_from}
 
 -- the answer
-abbrev pub walkedOf : Walked → Outcome Kept
-walkedOf (Refused why) = refused (refusalMeant why)
-walkedOf (Done k) = fine k
+abbrev pub walked_of : Walked → Outcome Kept
+walked_of (Refused why) = refused (refusal_meant why)
+walked_of (Done k) = fine k
 
 -- in a record of n bytes, after magnitudes m: places that a caller may add to the record's start, and sums within the largest
 abbrev pub Bounds : ℕ → ℕ → Walked → Type 0
@@ -24,5 +24,5 @@ Bounds n m (Done k) = Within n m k
 
 -- the cut, a record's bytes, what is wanted first, the magnitudes before, and the answer
 pub record Walks (cut : ℕ) (rec : Bytes) (first : Want) (before : ℕ) (r : Walked) : Type 0 where
-  pub answer : walkedOf r ≡ walkFrom (wantedOf first) (nothingKept before) (linesBy cut rec)
+  pub answer : walked_of r ≡ walk_from (wanted_of first) (nothing_kept before) (lines_by cut rec)
   pub bounds : Bounds (length rec) before r

@@ -1,9 +1,9 @@
 // The walk over a record's lines and fields: refusals 7, 8 and 9, and what the later checks need.
 ghost use Rattle.std.specs.Prelude.{◌≡◌, length, take};
-ghost use Rattle.read_wanted.specs.Wants.{wantedOf};
-ghost use Rattle.read_walk.specs.WalkKept.{point, endK};
+ghost use Rattle.read_wanted.specs.Wants.{wanted_of};
+ghost use Rattle.read_walk.specs.WalkKept.{point, end_k};
 ghost use Rattle.read_walk.specs.declared.Walked.TheVariants.{Refused};
-ghost use Rattle.read_walk.specs.WalkAnswers.{walkedOf, Walks};
+ghost use Rattle.read_walk.specs.WalkAnswers.{walked_of, Walks};
 
 use base_quantities::{Magnitude, Place};
 use base_refusals::{LINE_BADLY_ENDED, Refusal, WRONG_FIELD};
@@ -21,7 +21,7 @@ pub enum Walked {
 
 // After the record's last line, with this wanted, this kept and the last slash that ended a line: what is missing.
 fn finish(want: Want, kept: Kept, slash: Place) -> Walked
-    ensures { walkedOf result ≡ endK (point (wantedOf want) kept slash.0) }
+    ensures { walked_of result ≡ end_k (point (wanted_of want) kept slash.0) }
 {
     if want::may_lack(want) {
         return Walked::Done(kept);

@@ -7,9 +7,9 @@ use mathlib.Core.Logic.{inl, inr}
 use types.Run.{OneOf}
 use mir.Val.{has_key}
 use denote.Enum.Declared.{tag_of}
-use Rattle.rules.specs.Grammar.{fields_of, mayLack, isText, nextKind}
+use Rattle.rules.specs.Grammar.{fields_of, may_lack, is_text, next_kind}
 use Rattle.rules.proofs.Tests.{Known, holds, fails, known}
-use Rattle.read_wanted.specs.Wants.{wantedOf, references, forNothing, purpose}
+use Rattle.read_wanted.specs.Wants.{wanted_of, references, for_nothing, purpose}
 use Rattle.read_wanted.specs.declared.want.Want.{Want}
 use Rattle.read_wanted.specs.declared.want.Want.TheVariants as want
 use Rattle.read_wanted.specs.contracts.want.Want.{the_type}
@@ -31,12 +31,12 @@ keeps = 5 ∷ 21 ∷ 24 ∷ 29 ∷ 43 ∷ 44 ∷ 45 ∷ 46 ∷ []
 -- of every want
 abbrev Told : Want → Type 0
 Told w =
-    (mayLack (wantedOf w) ≡ has_key ends (tag w))
-    × (isText (nextKind (wantedOf w)) ≡ has_key texts (tag w))
-    × (purpose (nextKind (wantedOf w)) ≡ cond (has_key keeps (tag w)) (purpose (nextKind (wantedOf w))) forNothing)
+    (may_lack (wanted_of w) ≡ has_key ends (tag w))
+    × (is_text (next_kind (wanted_of w)) ≡ has_key texts (tag w))
+    × (purpose (next_kind (wanted_of w)) ≡ cond (has_key keeps (tag w)) (purpose (next_kind (wanted_of w))) for_nothing)
 
 told : (w : Want) → Told w
-unfolding wantedOf references fields_of purpose
+unfolding wanted_of references fields_of purpose
 told want.Sender = (refl, refl, refl)
 told want.Receiver = (refl, refl, refl)
 told want.FileDate = (refl, refl, refl)
@@ -111,13 +111,13 @@ other zero k skip x h = absurd h
 other (suc n) k skip x h = other_step k (counted n (suc k) skip) skip x (other n (suc k) skip x) (known (has_key skip k)) h
 
 -- a record may not end before any other
-pub must-come : (w : Want) → OneOf (others ends) (tag w) → false ≡ mayLack (wantedOf w)
+pub must-come : (w : Want) → OneOf (others ends) (tag w) → false ≡ may_lack (wanted_of w)
 must-come w h = sym ((told w).0 ∙ other 48 0 ends (tag w) h)
 
 -- no other is a text
-pub no_text : (w : Want) → OneOf (others texts) (tag w) → false ≡ isText (nextKind (wantedOf w))
+pub no_text : (w : Want) → OneOf (others texts) (tag w) → false ≡ is_text (next_kind (wanted_of w))
 no_text w h = sym ((told w).1 ∙ other 48 0 texts (tag w) h)
 
 -- no other is kept
-pub not-kept : (w : Want) → OneOf (others keeps) (tag w) → forNothing ≡ purpose (nextKind (wantedOf w))
+pub not-kept : (w : Want) → OneOf (others keeps) (tag w) → for_nothing ≡ purpose (next_kind (wanted_of w))
 not-kept w h = sym ((told w).2 ∙ rw (other 48 0 keeps (tag w) h))

@@ -6,9 +6,9 @@ use mathlib.Core.List.{List, [], ◌∷◌, ◌++◌}
 use lib.Dec.{eqb}
 use lib.ListN.{length}
 use Rattle.rules.specs.Grammar as kind
-use Rattle.rules.specs.Grammar.{Kind, sameKind, nextKind, pairs, fields_of, Judged}
-use Rattle.read_wanted.specs.Wants.{wantedOf, wantedAfter, references, splits, Purpose, forAmount, forTotal, forCount, forRecords, forLength, forNothing, keepMeant}
-use Rattle.read_wanted.specs.TakenMeaning.{judgedOf}
+use Rattle.rules.specs.Grammar.{Kind, same_kind, next_kind, pairs, fields_of, Judged}
+use Rattle.read_wanted.specs.Wants.{wanted_of, wanted_after, references, splits, Purpose, for_amount, for_total, for_count, for_records, for_length, for_nothing, keep_meant}
+use Rattle.read_wanted.specs.TakenMeaning.{judged_of}
 use Rattle.read_wanted.specs.declared.Taken.{Taken}
 use Rattle.read_wanted.specs.declared.Taken.TheVariants.{Next, Refused}
 use Rattle.read_wanted.specs.declared.want.After.{After}
@@ -23,11 +23,11 @@ use Rattle.read_wanted.specs.declared.want.Want.TheVariants as want
 -- how many of this kind are in it
 unfoldable many : Kind → List Kind → ℕ
 many k [] = 0
-many k (j ∷ js) = cond (sameKind k j) (suc (many k js)) (many k js)
+many k (j ∷ js) = cond (same_kind k j) (suc (many k js)) (many k js)
 
 -- where its funds stand: a detail's references come after them, or not
-abbrev afterIn : List Kind → After
-afterIn ks = cond (eqb (many kind.reference ks) 0) FurtherItem References
+abbrev after_in : List Kind → After
+after_in ks = cond (eqb (many kind.reference ks) 0) FurtherItem References
 
 -- the want whose kinds are k and these; any want for other kinds
 abbrev want_at : Kind → List Kind → Want
@@ -36,32 +36,32 @@ want_at kind.name ks =
     (cond (eqb (length ks) 6) want.Receiver
     (cond (eqb (length ks) 5) want.Originator want.Account))
 want_at kind.reference ks = cond (eqb (length ks) 2) want.BankReference want.CustomerReference
-want_at kind.ultimateReceiver ks = want.UltimateReceiver
+want_at kind.ultimate_receiver ks = want.UltimateReceiver
 want_at kind.date ks =
     cond (eqb (length ks) 5) want.FileDate
-    (cond (eqb (length ks) 3) want.GroupDate (want.ValueDate (afterIn ks)))
+    (cond (eqb (length ks) 3) want.GroupDate (want.ValueDate (after_in ks)))
 want_at kind.time ks = want.FileTime
-want_at kind.timeOrNone ks = cond (eqb (length ks) 2) want.GroupTime (want.ValueTime (afterIn ks))
-want_at kind.fileNumber ks = want.FileNumber
-want_at kind.physicalLength ks = want.Length
-want_at kind.blockSize ks = want.BlockSize
+want_at kind.time_or_none ks = cond (eqb (length ks) 2) want.GroupTime (want.ValueTime (after_in ks))
+want_at kind.file_number ks = want.FileNumber
+want_at kind.physical_length ks = want.Length
+want_at kind.block_size ks = want.BlockSize
 want_at kind.version ks = want.Version
-want_at kind.groupStatus ks = want.GroupStatus
-want_at kind.currency ks = cond (sameKind (nextKind ks) kind.modifier) want.GroupCurrency want.AccountCurrency
+want_at kind.group_status ks = want.GroupStatus
+want_at kind.currency ks = cond (same_kind (next_kind ks) kind.modifier) want.GroupCurrency want.AccountCurrency
 want_at kind.modifier ks = want.Modifier
-want_at kind.firstType ks = want.FirstType
-want_at kind.furtherType ks = want.FurtherType
-want_at kind.statusAmount ks = want.StatusAmount
+want_at kind.first_type ks = want.FirstType
+want_at kind.further_type ks = want.FurtherType
+want_at kind.status_amount ks = want.StatusAmount
 want_at kind.amount ks = cond (eqb (length ks) 3) want.ItemAmount want.DetailAmount
-want_at kind.itemCount ks = want.ItemCount
+want_at kind.item_count ks = want.ItemCount
 want_at kind.funds ks = cond (eqb (length ks) 1) want.ItemFunds want.DetailFunds
-want_at kind.detailType ks = want.DetailType
+want_at kind.detail_type ks = want.DetailType
 want_at kind.text ks = want.Text
-want_at kind.furtherText ks = want.FurtherText
-want_at kind.splitAmount ks = want.SplitAmount (afterIn ks) (many kind.splitAmount ks)
-want_at kind.pairCount ks = want.PairCount (afterIn ks)
-want_at kind.days ks = want.Days (afterIn ks) (many kind.days ks)
-want_at kind.dayAmount ks = want.DayAmount (afterIn ks) (many kind.days ks)
+want_at kind.further_text ks = want.FurtherText
+want_at kind.split_amount ks = want.SplitAmount (after_in ks) (many kind.split_amount ks)
+want_at kind.pair_count ks = want.PairCount (after_in ks)
+want_at kind.days ks = want.Days (after_in ks) (many kind.days ks)
+want_at kind.day_amount ks = want.DayAmount (after_in ks) (many kind.days ks)
 want_at kind.total ks = cond (eqb (length ks) 1) want.AccountTotal want.Total
 want_at kind.count ks = want.Count
 want_at kind.records ks = want.Records
@@ -69,23 +69,23 @@ want_at kind.nothing ks =
     cond (eqb (length ks) 0) want.EmptyFunds
     (cond (eqb (length ks) 3) want.NoFunds
     (cond (eqb (length ks) 4) want.NoAmount
-    (cond (eqb (length ks) 1) (cond (eqb (many kind.furtherType ks) 0) want.EmptyCount want.StatusFunds)
-    (cond (eqb (many kind.furtherType ks) 0) want.EmptyAmount want.StatusCount))))
+    (cond (eqb (length ks) 1) (cond (eqb (many kind.further_type ks) 0) want.EmptyCount want.StatusFunds)
+    (cond (eqb (many kind.further_type ks) 0) want.EmptyAmount want.StatusCount))))
 
 -- the want of a list of kinds
-abbrev wantOf : List Kind → Want
-wantOf [] = want.End
-wantOf (k ∷ ks) = want_at k ks
+abbrev want_of : List Kind → Want
+want_of [] = want.End
+want_of (k ∷ ks) = want_at k ks
 
 -- ---- after the amounts of S and the pairs of D
 
-after-back : (a : After) → afterIn (wantedAfter a) ≡ a
-unfolding wantedAfter references fields_of many
+after-back : (a : After) → after_in (wanted_after a) ≡ a
+unfolding wanted_after references fields_of many
 after-back FurtherItem = refl
 after-back References = refl
 
-splits-counted : (a : After) (n : ℕ) → many kind.splitAmount (splits n ++ wantedAfter a) ≡ n
-unfolding splits wantedAfter references fields_of many
+splits-counted : (a : After) (n : ℕ) → many kind.split_amount (splits n ++ wanted_after a) ≡ n
+unfolding splits wanted_after references fields_of many
 splits-counted FurtherItem zero = refl
 splits-counted References zero = refl
 splits-counted a (suc n) = ap suc (splits-counted a n)
@@ -95,8 +95,8 @@ unfolding splits many
 splits-passed zero ks = refl
 splits-passed (suc n) ks = splits-passed n ks
 
-pairs-counted : (a : After) (n : ℕ) → many kind.days (pairs n ++ wantedAfter a) ≡ n
-unfolding pairs wantedAfter references fields_of many
+pairs-counted : (a : After) (n : ℕ) → many kind.days (pairs n ++ wanted_after a) ≡ n
+unfolding pairs wanted_after references fields_of many
 pairs-counted FurtherItem zero = refl
 pairs-counted References zero = refl
 pairs-counted a (suc n) = ap suc (pairs-counted a n)
@@ -108,8 +108,8 @@ pairs-passed (suc n) ks = pairs-passed n ks
 
 -- ---- every want
 
-want-back : (w : Want) → wantOf (wantedOf w) ≡ w
-unfolding wantedOf wantedAfter references fields_of many
+want-back : (w : Want) → want_of (wanted_of w) ≡ w
+unfolding wanted_of wanted_after references fields_of many
 want-back want.Sender = refl
 want-back want.Receiver = refl
 want-back want.FileDate = refl
@@ -147,14 +147,14 @@ want-back want.BankReference = refl
 want-back want.CustomerReference = refl
 want-back want.Text = refl
 want-back want.FurtherText = refl
-want-back (want.SplitAmount a n) = rw (splits-passed n (wantedAfter a), after-back a, splits-counted a n)
+want-back (want.SplitAmount a n) = rw (splits-passed n (wanted_after a), after-back a, splits-counted a n)
 want-back (want.ValueDate FurtherItem) = refl
 want-back (want.ValueDate References) = refl
 want-back (want.ValueTime FurtherItem) = refl
 want-back (want.ValueTime References) = refl
 want-back (want.PairCount a) = rw (after-back a)
-want-back (want.Days a n) = rw (pairs-passed n (wantedAfter a), after-back a, pairs-counted a n)
-want-back (want.DayAmount a n) = rw (pairs-passed n (wantedAfter a), after-back a, pairs-counted a n)
+want-back (want.Days a n) = rw (pairs-passed n (wanted_after a), after-back a, pairs-counted a n)
+want-back (want.DayAmount a n) = rw (pairs-passed n (wanted_after a), after-back a, pairs-counted a n)
 want-back want.AccountTotal = refl
 want-back want.Total = refl
 want-back want.Count = refl
@@ -162,35 +162,35 @@ want-back want.Records = refl
 want-back want.End = refl
 
 -- Two wants that stand for the same kinds are the same want.
-pub want-fixed : (v w : Want) → wantedOf v ≡ wantedOf w → v ≡ w
-want-fixed v w e = sym (want-back v) ∙ ap wantOf e ∙ want-back w
+pub want-fixed : (v w : Want) → wanted_of v ≡ wanted_of w → v ≡ w
+want-fixed v w e = sym (want-back v) ∙ ap want_of e ∙ want-back w
 
 -- ---- every answer
 
 abbrev taken_of : Judged → Taken
 taken_of (kind.bad n) = Refused n
-taken_of (kind.good ks) = Next (wantOf ks)
+taken_of (kind.good ks) = Next (want_of ks)
 
-taken_back : (t : Taken) → taken_of (judgedOf t) ≡ t
-unfolding judgedOf
+taken_back : (t : Taken) → taken_of (judged_of t) ≡ t
+unfolding judged_of
 taken_back (Next w) = ap Next (want-back w)
 taken_back (Refused n) = refl
 
 -- Two answers that say the same of a field are the same answer.
-pub taken-fixed : (s t : Taken) → judgedOf s ≡ judgedOf t → s ≡ t
+pub taken-fixed : (s t : Taken) → judged_of s ≡ judged_of t → s ≡ t
 taken-fixed s t e = sym (taken_back s) ∙ ap taken_of e ∙ taken_back t
 
 -- ---- every `Keep`
 
-abbrev keepOf : Purpose → Keep
-keepOf forAmount = keeps.Amount
-keepOf forTotal = keeps.Total
-keepOf forCount = keeps.Count
-keepOf forRecords = keeps.Records
-keepOf forLength = keeps.Length
-keepOf forNothing = keeps.Nothing
+abbrev keep_of : Purpose → Keep
+keep_of for_amount = keeps.Amount
+keep_of for_total = keeps.Total
+keep_of for_count = keeps.Count
+keep_of for_records = keeps.Records
+keep_of for_length = keeps.Length
+keep_of for_nothing = keeps.Nothing
 
-keep-back : (k : Keep) → keepOf (keepMeant k) ≡ k
+keep-back : (k : Keep) → keep_of (keep_meant k) ≡ k
 keep-back keeps.Amount = refl
 keep-back keeps.Total = refl
 keep-back keeps.Count = refl
@@ -199,5 +199,5 @@ keep-back keeps.Length = refl
 keep-back keeps.Nothing = refl
 
 -- Two that stand for the same purpose are the same.
-pub keep-fixed : (j k : Keep) → keepMeant j ≡ keepMeant k → j ≡ k
-keep-fixed j k e = sym (keep-back j) ∙ ap keepOf e ∙ keep-back k
+pub keep-fixed : (j k : Keep) → keep_meant j ≡ keep_meant k → j ≡ k
+keep-fixed j k e = sym (keep-back j) ∙ ap keep_of e ∙ keep-back k

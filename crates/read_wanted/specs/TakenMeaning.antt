@@ -1,10 +1,10 @@
 -- What a `Taken` says of a field. Assumes nothing.
 use Rattle.rules.specs.Grammar.{Judged, bad, good}
-use Rattle.read_wanted.specs.Wants.{wantedOf}
+use Rattle.read_wanted.specs.Wants.{wanted_of}
 use Rattle.read_wanted.specs.declared.Taken.{Taken}
 use Rattle.read_wanted.specs.declared.Taken.TheVariants.{Next, Refused}
 
--- refused by a number, or good with these kinds wanted next: the answer of `takeNext` (rules/specs/Grammar.antt), which each contract equals
-unfoldable pub judgedOf : Taken → Judged
-judgedOf (Next w) = good (wantedOf w)
-judgedOf (Refused n) = bad n
+-- refused by a number, or good with these kinds wanted next: the answer of `take_next` (rules/specs/Grammar.antt), which each contract equals
+unfoldable pub judged_of : Taken → Judged
+judged_of (Next w) = good (wanted_of w)
+judged_of (Refused n) = bad n

@@ -1,10 +1,10 @@
 // What is wanted next, and the kinds of field that decide it.
 ghost use Rattle.std.specs.Prelude.{◌≡◌, ◌||◌, []};
 ghost use Rattle.rules.specs.Bytes.{is_empty};
-ghost use Rattle.rules.specs.Grammar.{judged, and_then, fits, item_of, detailOf, piece_of, firstType, version, funds, pairCount, text};
-ghost use Rattle.read_values.specs.ValueMeanings.{classMeant};
-ghost use Rattle.read_wanted.specs.Wants.{wantedOf, wantedAfter, references};
-ghost use Rattle.read_wanted.specs.TakenMeaning.{judgedOf};
+ghost use Rattle.rules.specs.Grammar.{judged, and_then, fits, item_of, detail_of, piece_of, first_type, version, funds, pair_count, text};
+ghost use Rattle.read_values.specs.ValueMeanings.{class_meant};
+ghost use Rattle.read_wanted.specs.Wants.{wanted_of, wanted_after, references};
+ghost use Rattle.read_wanted.specs.TakenMeaning.{judged_of};
 
 use base_refusals::{LINE_BADLY_ENDED, WRONG_FIELD, WRONG_VERSION};
 use read_values::Class;
@@ -21,7 +21,7 @@ pub enum Taken {
 
 // A field that must be as this test says, with this wanted after it.
 pub fn fitted(ok: bool, next: Want) -> Taken
-    ensures { judgedOf result ≡ and_then (fits ok) (wantedOf next) }
+    ensures { judged_of result ≡ and_then (fits ok) (wanted_of next) }
 {
     if ok {
         return Taken::Next(next);
@@ -31,7 +31,7 @@ pub fn fitted(ok: bool, next: Want) -> Taken
 
 // The same where it may also be empty.
 pub fn fitted_or_none(f: &[u8], ok: bool, next: Want) -> Taken
-    ensures { judgedOf result ≡ and_then (fits (is_empty f.now || ok)) (wantedOf next) }
+    ensures { judged_of result ≡ and_then (fits (is_empty f.now || ok)) (wanted_of next) }
 {
     if read_values::is_empty(f) {
         return Taken::Next(next);
@@ -41,7 +41,7 @@ pub fn fitted_or_none(f: &[u8], ok: bool, next: Want) -> Taken
 
 // Version "2"; any other is refused by 9.
 pub fn take_version(f: &[u8]) -> Taken
-    ensures { judgedOf result ≡ and_then (judged version f.now) [] }
+    ensures { judged_of result ≡ and_then (judged version f.now) [] }
 {
     if read_values::is_one_of(f, b'2', b'2') {
         return Taken::Next(Want::End);
@@ -51,7 +51,7 @@ pub fn take_version(f: &[u8]) -> Taken
 
 // A type of this class in 03.
 pub fn item(class: Class) -> Taken
-    ensures { judgedOf result ≡ and_then (item_of (classMeant class)) [] }
+    ensures { judged_of result ≡ and_then (item_of (class_meant class)) [] }
 {
     match class {
         Class::Status => Taken::Next(Want::StatusAmount),
@@ -64,7 +64,7 @@ pub fn item(class: Class) -> Taken
 
 // A type of this class in 16.
 pub fn detail(class: Class) -> Taken
-    ensures { judgedOf result ≡ and_then (detailOf (classMeant class)) references }
+    ensures { judged_of result ≡ and_then (detail_of (class_meant class)) references }
 {
     match class {
         Class::SummaryOrDetail => Taken::Next(Want::DetailAmount),
@@ -77,7 +77,7 @@ pub fn detail(class: Class) -> Taken
 
 // The first type of an 03: with an empty one its amount, count and funds are empty too.
 pub fn take_first_type(f: &[u8]) -> Taken
-    ensures { judgedOf result ≡ and_then (judged firstType f.now) [] }
+    ensures { judged_of result ≡ and_then (judged first_type f.now) [] }
 {
     if read_values::is_empty(f) {
         return Taken::Next(Want::EmptyAmount);
@@ -87,7 +87,7 @@ pub fn take_first_type(f: &[u8]) -> Taken
 
 // Empty, 0, 1, 2 or Z; S and three amounts; V, a date and a time; D, a number X and X pairs.
 pub fn take_funds(f: &[u8], after: After) -> Taken
-    ensures { judgedOf result ≡ and_then (judged funds f.now) (wantedAfter after) }
+    ensures { judged_of result ≡ and_then (judged funds f.now) (wanted_after after) }
 {
     if read_values::is_empty(f) {
         return Taken::Next(want::after_funds(after));
@@ -112,7 +112,7 @@ pub fn take_funds(f: &[u8], after: After) -> Taken
 
 // The number of pairs of D.
 pub fn take_pair_count(f: &[u8], after: After) -> Taken
-    ensures { judgedOf result ≡ and_then (judged pairCount f.now) (wantedAfter after) }
+    ensures { judged_of result ≡ and_then (judged pair_count f.now) (wanted_after after) }
 {
     if !base_digits::is_digits(f, 1, 3) {
         return Taken::Refused(WRONG_FIELD);
@@ -126,7 +126,7 @@ pub fn take_pair_count(f: &[u8], after: After) -> Taken
 
 // A text's piece isn't empty and doesn't begin with a slash.
 pub fn take_piece(f: &[u8]) -> Taken
-    ensures { judgedOf result ≡ and_then (piece_of f.now) [] }
+    ensures { judged_of result ≡ and_then (piece_of f.now) [] }
 {
     if f.len() == 0 {
         return Taken::Refused(LINE_BADLY_ENDED);
@@ -139,7 +139,7 @@ pub fn take_piece(f: &[u8]) -> Taken
 
 // A text's first piece, or "/" for no text.
 pub fn take_first_piece(f: &[u8]) -> Taken
-    ensures { judgedOf result ≡ and_then (judged text f.now) [] }
+    ensures { judged_of result ≡ and_then (judged text f.now) [] }
 {
     if read_values::is_one_of(f, b'/', b'/') {
         return Taken::Next(Want::End);

@@ -1,8 +1,8 @@
 // What the next fields of a record must be.
 ghost use Rattle.std.specs.Prelude.{◌≡◌, ◌++◌};
-ghost use Rattle.rules.specs.Grammar.{fields_of, mayLack, isText, nextKind, pairs};
-ghost use Rattle.base_codes.specs.CodeMeaning.{codeMeant};
-ghost use Rattle.read_wanted.specs.Wants.{wantedOf, wantedAfter, splits, keepMeant, purpose};
+ghost use Rattle.rules.specs.Grammar.{fields_of, may_lack, is_text, next_kind, pairs};
+ghost use Rattle.base_codes.specs.CodeMeaning.{code_meant};
+ghost use Rattle.read_wanted.specs.Wants.{wanted_of, wanted_after, splits, keep_meant, purpose};
 
 use base_codes::Code;
 
@@ -79,7 +79,7 @@ pub enum Keep {
 
 // The fields that a record begins with.
 pub fn first_want(code: Code) -> Want
-    ensures { wantedOf result ≡ fields_of (codeMeant code) }
+    ensures { wanted_of result ≡ fields_of (code_meant code) }
 {
     match code {
         Code::FileHeader => Want::Sender,
@@ -95,7 +95,7 @@ pub fn first_want(code: Code) -> Want
 
 // A record may end here.
 pub fn may_lack(want: Want) -> bool
-    ensures { result ≡ mayLack (wantedOf want) }
+    ensures { result ≡ may_lack (wanted_of want) }
 {
     match want {
         Want::End => true,
@@ -107,7 +107,7 @@ pub fn may_lack(want: Want) -> bool
 
 // The next field is a text: it takes the line from its place on.
 pub fn is_text(want: Want) -> bool
-    ensures { result ≡ isText (nextKind (wantedOf want)) }
+    ensures { result ≡ is_text (next_kind (wanted_of want)) }
 {
     match want {
         Want::Text => true,
@@ -118,7 +118,7 @@ pub fn is_text(want: Want) -> bool
 
 // What the next field is kept for.
 pub fn kept_for(want: Want) -> Keep
-    ensures { keepMeant result ≡ purpose (nextKind (wantedOf want)) }
+    ensures { keep_meant result ≡ purpose (next_kind (wanted_of want)) }
 {
     match want {
         Want::StatusAmount => Keep::Amount,
@@ -135,7 +135,7 @@ pub fn kept_for(want: Want) -> Keep
 
 // What comes after an item's or a detail's funds.
 pub fn after_funds(after: After) -> Want
-    ensures { wantedOf result ≡ wantedAfter after }
+    ensures { wanted_of result ≡ wanted_after after }
 {
     match after {
         After::FurtherItem => Want::FurtherType,
@@ -145,7 +145,7 @@ pub fn after_funds(after: After) -> Want
 
 // After an amount of S, with so many left.
 pub fn next_split(after: After, left: u64) -> Want
-    ensures { wantedOf result ≡ splits left ++ wantedAfter after }
+    ensures { wanted_of result ≡ splits left ++ wanted_after after }
 {
     if left == 0 {
         return after_funds(after);
@@ -155,7 +155,7 @@ pub fn next_split(after: After, left: u64) -> Want
 
 // After a pair of D or its count, with so many left.
 pub fn next_pair(after: After, left: u64) -> Want
-    ensures { wantedOf result ≡ pairs left ++ wantedAfter after }
+    ensures { wanted_of result ≡ pairs left ++ wanted_after after }
 {
     if left == 0 {
         return after_funds(after);

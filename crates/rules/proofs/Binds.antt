@@ -5,7 +5,7 @@ use mathlib.Core.Bool.{Bool, true, false}
 use mathlib.Core.Option.{Option, none, some}
 use native.Mathlib.Omega.{arith}
 use lib.Dec.{T}
-use Rattle.rules.specs.Outcome.{Refusal, Outcome, refused, fine, ◌>>=◌, ◌>>◌, check, orRefused, moved}
+use Rattle.rules.specs.Outcome.{Refusal, Outcome, refused, fine, ◌>>=◌, ◌>>◌, check, or_refused, moved}
 
 pub refused-fine : {A : Type 0} (why : Refusal) (a : A) → refused why ≡ fine a → ⊥
 refused-fine why a h = let z : ◌≡◌ {A = ℕ} 0 1 = cc in omega arith
@@ -44,6 +44,6 @@ unfolding moved
 moved-fine p (refused why) a h = absurd (refused-fine _ a h)
 moved-fine p (fine b) a h = h
 
-pub or-fine : {A : Type 0} (o : Option A) (n p : ℕ) (a : A) → orRefused o n p ≡ fine a → o ≡ some a
+pub or-fine : {A : Type 0} (o : Option A) (n p : ℕ) (a : A) → or_refused o n p ≡ fine a → o ≡ some a
 or-fine none n p a h = absurd (refused-fine _ a h)
 or-fine (some b) n p a h = cc

@@ -8,8 +8,8 @@ use lib.Dec.{eqb}
 use lib.ListN.{length, take, drop, length-take, length-drop, take-append-drop}
 use Rattle.rules.specs.Bytes.{Bytes}
 use Rattle.rules.specs.Outcome.{Refusal, refused, fine, check, ◌>>◌, place_of}
-use Rattle.rules.specs.Lines.{lineBytes}
-use Rattle.rules.specs.Blocks.{blocks, wholeBlocks}
+use Rattle.rules.specs.Lines.{line_bytes}
+use Rattle.rules.specs.Blocks.{blocks, whole_blocks}
 use Rattle.rules.proofs.Binds.{refused-fine}
 use Rattle.rules.proofs.Tests.{Known, holds, fails, known}
 
@@ -21,14 +21,14 @@ module _ (size : ℕ) where
   pub long-enough : (n : ℕ) (file : Bytes) → suc n * size ≡ length file → length (take size file) ≡ size
   long-enough n file h = let more = suc-mul n size in length-take size file ∙ omega arith
 
-  pub blocks-bytes : (n : ℕ) (file : Bytes) → n * size ≡ length file → lineBytes (blocks size n file) ≡ file
-  unfolding blocks lineBytes
+  pub blocks-bytes : (n : ℕ) (file : Bytes) → n * size ≡ length file → line_bytes (blocks size n file) ≡ file
+  unfolding blocks line_bytes
   blocks-bytes zero [] h = refl
   blocks-bytes zero (b ∷ file) h = absurd (omega arith)
   blocks-bytes (suc n) file h = rw (append-nil, blocks-bytes n (drop size file) (left_after n file h)) (take-append-drop size file)
 
-pub cut-short-place : (size n : ℕ) (file : Bytes) (why : Refusal) → wholeBlocks size n file ≡ refused why → n * size ≡ why.place
-unfolding wholeBlocks
+pub cut-short-place : (size n : ℕ) (file : Bytes) (why : Refusal) → whole_blocks size n file ≡ refused why → n * size ≡ why.place
+unfolding whole_blocks
 cut-short-place size n file why h = go (known (eqb (n * size) (length file)))
   where
     go : Known (eqb (n * size) (length file)) → n * size ≡ why.place

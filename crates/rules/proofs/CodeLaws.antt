@@ -9,23 +9,23 @@ use native.Mathlib.Nat.{eq-or-lt_of_le, le_of_suc-le-suc, not-suc-le-zero}
 use native.Mathlib.Omega.{arith}
 use lib.Dec.{T, leb, eqb, leb→le}
 use Rattle.rules.specs.TypeCodes.{class_of}
-use Rattle.rules.specs.CodeList.{Row, unlisted, uniformList, entryIn, entry_of}
+use Rattle.rules.specs.CodeList.{Row, unlisted, uniform_list, entry_in, entry_of}
 use Rattle.rules.specs.CodeRule.{departures, member, departs}
 use Rattle.rules.proofs.Tests.{Known, holds, fails, known, and_left, and_right, true-eq}
 
 -- ---- a test at each number below another holds at any of them
 
-unfoldable pub atEach : ℕ → (ℕ → Bool) → Bool
-atEach zero test = true
-atEach (suc n) test = test n && atEach n test
+unfoldable pub at_each : ℕ → (ℕ → Bool) → Bool
+at_each zero test = true
+at_each (suc n) test = test n && at_each n test
 
-pub at-any : (n : ℕ) (test : ℕ → Bool) → T (atEach n test) → (k : ℕ) → k < n → T (test k)
-unfolding atEach
+pub at-any : (n : ℕ) (test : ℕ → Bool) → T (at_each n test) → (k : ℕ) → k < n → T (test k)
+unfolding at_each
 at-any zero test h k below = absurd (not-suc-le-zero below)
 at-any (suc n) test h k below =
     ⊎_elim
-    (λ e. subst (λ (m : ℕ). T (test m)) (sym e) (and_left (test n) (atEach n test) h))
-    (λ less. at-any n test (and_right (test n) (atEach n test) h) k less)
+    (λ e. subst (λ (m : ℕ). T (test m)) (sym e) (and_left (test n) (at_each n test) h))
+    (λ less. at-any n test (and_right (test n) (at_each n test) h) k less)
     (eq-or-lt_of_le (le_of_suc-le-suc below))
 
 -- ---- the rule
@@ -44,8 +44,8 @@ alike-eq false false h = refl
 unfoldable pub ruled : ℕ → Bool
 ruled n = alike (departs n) (member n departures)
 
-pub all-ruled : T (atEach 1000 ruled)
-unfolding atEach ruled entryIn entry_of class_of member
+pub all-ruled : T (at_each 1000 ruled)
+unfolding at_each ruled entry_in entry_of class_of member
 all-ruled = tt
 
 -- a code of the table departs from the ranges exactly if the rule names it
@@ -60,21 +60,21 @@ unfoldable pub up_to : ℕ → List Row → Bool
 up_to last [] = true
 up_to last (r ∷ rs) = leb r.code last && up_to last rs
 
-pub list-to-890 : T (up_to 890 uniformList)
+pub list-to-890 : T (up_to 890 uniform_list)
 unfolding up_to
 list-to-890 = tt
 
 module _ (last n : ℕ) (over : last < n) where
-  not-this : (r : Row) (rs : List Row) → T (leb r.code last) → entryIn (r ∷ rs) n ≡ entryIn rs n
-  unfolding entryIn
+  not-this : (r : Row) (rs : List Row) → T (leb r.code last) → entry_in (r ∷ rs) n ≡ entry_in rs n
+  unfolding entry_in
   not-this r rs small = go (known (eqb r.code n))
     where
-      go : Known (eqb r.code n) → cond (eqb r.code n) r.entry (entryIn rs n) ≡ entryIn rs n
+      go : Known (eqb r.code n) → cond (eqb r.code n) r.entry (entry_in rs n) ≡ entry_in rs n
       go (holds e) = let same = true-eq r.code n e in let most = leb→le r.code last small in absurd (omega arith)
       go (fails e) = rw e refl
 
-  none_in : (rs : List Row) → T (up_to last rs) → entryIn rs n ≡ unlisted
-  unfolding entryIn up_to
+  none_in : (rs : List Row) → T (up_to last rs) → entry_in rs n ≡ unlisted
+  unfolding entry_in up_to
   none_in [] small = refl
   none_in (r ∷ rs) small =
       not-this r rs (and_left (leb r.code last) (up_to last rs) small)
@@ -83,7 +83,7 @@ module _ (last n : ℕ) (over : last < n) where
 -- no customised code is listed, nor any number after them
 pub customised-unlisted : (n : ℕ) → 900 ≤ n → entry_of n ≡ unlisted
 unfolding entry_of
-customised-unlisted n from = none_in 890 n (omega arith) uniformList list-to-890
+customised-unlisted n from = none_in 890 n (omega arith) uniform_list list-to-890
 
 -- no number over 999 is listed
 pub over-unlisted : (n : ℕ) → 999 < n → entry_of n ≡ unlisted

@@ -4,7 +4,7 @@ use mathlib.Core.Bool.{Bool, true, false, not, ◌&&◌}
 use mathlib.Core.List.{[], ◌∷◌}
 use Prim.Native.Nat.{ℕ}
 use lib.Dec.{T, eqb, eqb→eq}
-use Rattle.rules.specs.Bytes.{Bytes, sameBytes}
+use Rattle.rules.specs.Bytes.{Bytes, same_bytes}
 
 -- a test by cases, with what it says
 pub data Known (t : Bool) : Type 0 where
@@ -39,9 +39,9 @@ and_right false t h = absurd h
 pub true-eq : (m n : ℕ) → eqb m n ≡ true → m ≡ n
 true-eq m n e = eqb→eq m n (rw e tt)
 
-pub same-eq : (bs cs : Bytes) → T (sameBytes bs cs) → bs ≡ cs
-unfolding sameBytes
+pub same-eq : (bs cs : Bytes) → T (same_bytes bs cs) → bs ≡ cs
+unfolding same_bytes
 same-eq [] [] h = refl
 same-eq [] (c ∷ cs) h = absurd h
 same-eq (b ∷ bs) [] h = absurd h
-same-eq (b ∷ bs) (c ∷ cs) h = rw (eqb→eq b c (and_left (eqb b c) (sameBytes bs cs) h), same-eq bs cs (and_right (eqb b c) (sameBytes bs cs) h))
+same-eq (b ∷ bs) (c ∷ cs) h = rw (eqb→eq b c (and_left (eqb b c) (same_bytes bs cs) h), same-eq bs cs (and_right (eqb b c) (same_bytes bs cs) h))

@@ -53,18 +53,18 @@ all test [] = true
 all test (b ∷ bs) = test b && all test bs
 
 -- a byte that may stand in a field, and bytes that may: no comma, slash or byte not allowed
-abbrev pub inField : ℕ → Bool
-inField b = allowed b && (not (eqb b comma) && not (eqb b slash))
+abbrev pub in_field : ℕ → Bool
+in_field b = allowed b && (not (eqb b comma) && not (eqb b slash))
 
 abbrev pub clean : Bytes → Bool
-clean bs = all inField bs
+clean bs = all in_field bs
 
 -- equal byte for byte
-unfoldable pub sameBytes : Bytes → Bytes → Bool
-sameBytes [] [] = true
-sameBytes [] (c ∷ cs) = false
-sameBytes (b ∷ bs) [] = false
-sameBytes (b ∷ bs) (c ∷ cs) = eqb b c && sameBytes bs cs
+unfoldable pub same_bytes : Bytes → Bytes → Bool
+same_bytes [] [] = true
+same_bytes [] (c ∷ cs) = false
+same_bytes (b ∷ bs) [] = false
+same_bytes (b ∷ bs) (c ∷ cs) = eqb b c && same_bytes bs cs
 
 -- the first byte is b
 unfoldable pub starts_with : ℕ → Bytes → Bool
@@ -82,11 +82,11 @@ abbrev pub just : ℕ → Bytes → Bool
 just b bs = one_of b b bs
 
 -- a byte before bytes less trailing blanks
-unfoldable pub trimmedBefore : ℕ → Bytes → Bytes
-trimmedBefore b [] = cond (eqb b blank) [] (b ∷ [])
-trimmedBefore b (c ∷ cs) = b ∷ c ∷ cs
+unfoldable pub trimmed_before : ℕ → Bytes → Bytes
+trimmed_before b [] = cond (eqb b blank) [] (b ∷ [])
+trimmed_before b (c ∷ cs) = b ∷ c ∷ cs
 
 -- the bytes less trailing blanks
 unfoldable pub trimmed : Bytes → Bytes
 trimmed [] = []
-trimmed (b ∷ bs) = trimmedBefore b (trimmed bs)
+trimmed (b ∷ bs) = trimmed_before b (trimmed bs)

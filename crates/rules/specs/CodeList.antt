@@ -5,23 +5,23 @@ use Rattle.std.specs.Prelude.{ℕ, Bool, true, false, cond, List, [], ◌∷◌,
 pub data Level : Type 0 where
   Status Summary Detail SummaryAndDetail : Level
 
-abbrev pub isStatus : Level → Bool
-isStatus Status = true
-isStatus Summary = false
-isStatus Detail = false
-isStatus SummaryAndDetail = false
+abbrev pub is_status : Level → Bool
+is_status Status = true
+is_status Summary = false
+is_status Detail = false
+is_status SummaryAndDetail = false
 
-abbrev pub isSummary : Level → Bool
-isSummary Status = false
-isSummary Summary = true
-isSummary Detail = false
-isSummary SummaryAndDetail = true
+abbrev pub is_summary : Level → Bool
+is_summary Status = false
+is_summary Summary = true
+is_summary Detail = false
+is_summary SummaryAndDetail = true
 
-abbrev pub isDetail : Level → Bool
-isDetail Status = false
-isDetail Summary = false
-isDetail Detail = true
-isDetail SummaryAndDetail = true
+abbrev pub is_detail : Level → Bool
+is_detail Status = false
+is_detail Summary = false
+is_detail Detail = true
+is_detail SummaryAndDetail = true
 
 -- what the list says of a code: nothing; or its level and, by "Transaction", that it is neither a credit nor a debit (NA), a credit (CR) or a debit (DB)
 pub data Entry : Type 0 where
@@ -266,16 +266,16 @@ page23 =
 
 -- ---- the table
 
-abbrev pub uniformList : List Row
-uniformList =
+abbrev pub uniform_list : List Row
+uniform_list =
     page1 ++ page2 ++ page3 ++ page4 ++ page5 ++ page6 ++ page7 ++ page8 ++ page9 ++ page10 ++ page11 ++ page12
     ++ page13 ++ page14 ++ page15 ++ page16 ++ page17 ++ page18 ++ page19 ++ page20 ++ page21 ++ page22 ++ page23
 
 -- what these lines say of a code
-unfoldable pub entryIn : List Row → ℕ → Entry
-entryIn [] n = unlisted
-entryIn (r ∷ rs) n = cond (eqb r.code n) r.entry (entryIn rs n)
+unfoldable pub entry_in : List Row → ℕ → Entry
+entry_in [] n = unlisted
+entry_in (r ∷ rs) n = cond (eqb r.code n) r.entry (entry_in rs n)
 
 -- the table over 000 to 999: what the list says of a code; no other number is listed (`over-unlisted`)
 unfoldable pub entry_of : ℕ → Entry
-entry_of n = entryIn uniformList n
+entry_of n = entry_in uniform_list n

@@ -3,8 +3,8 @@
 -- Assumes nothing.
 use Rattle.std.specs.Prelude.{ℕ, Bool, true, false, not, ◌&&◌, ◌||◌, List, [], ◌∷◌, eqb}
 use Rattle.rules.specs.Bytes.{between}
-use Rattle.rules.specs.TypeCodes.{Class, status, summaryOnly, summaryOrDetail, nonMonetary, unknown, class_of}
-use Rattle.rules.specs.CodeList.{Level, isStatus, isSummary, isDetail, Entry, unlisted, NA, CR, DB, entry_of}
+use Rattle.rules.specs.TypeCodes.{Class, status, summary_only, summary_or_detail, non_monetary, unknown, class_of}
+use Rattle.rules.specs.CodeList.{Level, is_status, is_summary, is_detail, Entry, unlisted, NA, CR, DB, entry_of}
 
 -- the codes that depart: 700 to 799 are loan summaries and details, and 000 prints these five as status
 abbrev pub departures : List ℕ
@@ -16,26 +16,26 @@ member n [] = false
 member n (m ∷ ms) = eqb m n || member n ms
 
 -- the level is one that codes of this class may have
-abbrev pub levelFits : Class → Level → Bool
-levelFits status l = isStatus l
-levelFits summaryOnly l = isSummary l && not (isDetail l)
-levelFits summaryOrDetail l = isSummary l || isDetail l
-levelFits nonMonetary l = isDetail l && not (isSummary l)
-levelFits unknown l = false
+abbrev pub level_fits : Class → Level → Bool
+level_fits status l = is_status l
+level_fits summary_only l = is_summary l && not (is_detail l)
+level_fits summary_or_detail l = is_summary l || is_detail l
+level_fits non_monetary l = is_detail l && not (is_summary l)
+level_fits unknown l = false
 
 -- 000's ranges for the side: credits and debits; other codes may be either, or neither
-abbrev pub inCredits : ℕ → Bool
-inCredits n = between 100 399 n
+abbrev pub in_credits : ℕ → Bool
+in_credits n = between 100 399 n
 
-abbrev pub inDebits : ℕ → Bool
-inDebits n = between 400 699 n
+abbrev pub in_debits : ℕ → Bool
+in_debits n = between 400 699 n
 
 -- what the list says of a code agrees with the ranges; of a code that it doesn't list, it says nothing
 abbrev pub agrees : ℕ → Entry → Bool
 agrees n unlisted = true
-agrees n (NA l) = levelFits (class_of n) l && not (inCredits n || inDebits n)
-agrees n (CR l) = levelFits (class_of n) l && not (inDebits n)
-agrees n (DB l) = levelFits (class_of n) l && not (inCredits n)
+agrees n (NA l) = level_fits (class_of n) l && not (in_credits n || in_debits n)
+agrees n (CR l) = level_fits (class_of n) l && not (in_debits n)
+agrees n (DB l) = level_fits (class_of n) l && not (in_credits n)
 
 -- a code departs
 abbrev pub departs : ℕ → Bool

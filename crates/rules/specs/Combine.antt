@@ -2,36 +2,36 @@
 use Rattle.std.specs.Prelude.{ℕ, ◌+◌, Bool, true, ◌&&◌, List, [], ◌∷◌, ◌++◌, leb, length, drop}
 use Rattle.std.proofs.Math.Option.{Option, none, some}
 use Rattle.rules.specs.Bytes.{Bytes, LF, comma, slash}
-use Rattle.rules.specs.Numbers.{decimal, totalBytes, magnitudes}
-use Rattle.rules.specs.Limits.{most, longestFile, longestLine}
-use Rattle.rules.specs.Outcome.{Refusal, notRefused, Outcome, refused, fine, ◌>>=◌, ◌>>◌, check}
-use Rattle.rules.specs.Lines.{Line, Code, fileHeader, fileTrailer, codeBytes, code_of, Record, recordBytes}
-use Rattle.rules.specs.Totals.{Summary, noSummary, ◌⊞◌, ofRecord}
-use Rattle.rules.specs.Verdict.{limitGiven, judge}
-use Rattle.rules.specs.Parts.{headerIn, groupsIn, fieldsIn, firstFields}
+use Rattle.rules.specs.Numbers.{decimal, total_bytes, magnitudes}
+use Rattle.rules.specs.Limits.{most, longest_file, longest_line}
+use Rattle.rules.specs.Outcome.{Refusal, not_refused, Outcome, refused, fine, ◌>>=◌, ◌>>◌, check}
+use Rattle.rules.specs.Lines.{Line, Code, file_header, file_trailer, code_bytes, code_of, Record, record_bytes}
+use Rattle.rules.specs.Totals.{Summary, no_summary, ◌⊞◌, of_record}
+use Rattle.rules.specs.Verdict.{limit_given, judge}
+use Rattle.rules.specs.Parts.{header_in, groups_in, fields_in, first_fields}
 
 -- ---- a fresh 99
 
 -- what a record adds to a summary; in an accepted file each record has a line, and each line a code
-unfoldable pub ofCoded : Option Code → Record → Summary
-ofCoded none r = noSummary
-ofCoded (some c) r = ofRecord c r (fieldsIn c r)
+unfoldable pub of_coded : Option Code → Record → Summary
+of_coded none r = no_summary
+of_coded (some c) r = of_record c r (fields_in c r)
 
-unfoldable pub summaryOf : Record → Summary
-summaryOf [] = noSummary
-summaryOf (l ∷ ls) = ofCoded (code_of l) (l ∷ ls)
+unfoldable pub summary_of : Record → Summary
+summary_of [] = no_summary
+summary_of (l ∷ ls) = of_coded (code_of l) (l ∷ ls)
 
-unfoldable pub summaryOfAll : List Record → Summary
-summaryOfAll [] = noSummary
-summaryOfAll (r ∷ rs) = summaryOf r ⊞ summaryOfAll rs
+unfoldable pub summary_of_all : List Record → Summary
+summary_of_all [] = no_summary
+summary_of_all (r ∷ rs) = summary_of r ⊞ summary_of_all rs
 
 -- one line after records with this summary: total, groups, records with itself; ended by LF
-unfoldable pub freshTrailer : Summary → Bytes
-freshTrailer s =
-    codeBytes fileTrailer ++ totalBytes s.sum ++ (comma ∷ decimal s.groups) ++ (comma ∷ decimal (s.records + 1)) ++ (slash ∷ LF ∷ [])
+unfoldable pub fresh_trailer : Summary → Bytes
+fresh_trailer s =
+    code_bytes file_trailer ++ total_bytes s.sum ++ (comma ∷ decimal s.groups) ++ (comma ∷ decimal (s.records + 1)) ++ (slash ∷ LF ∷ [])
 
-unfoldable pub withTrailer : List Record → Bytes
-withTrailer rs = recordBytes rs ++ freshTrailer (summaryOfAll rs)
+unfoldable pub with_trailer : List Record → Bytes
+with_trailer rs = record_bytes rs ++ fresh_trailer (summary_of_all rs)
 
 -- ---- the result
 
@@ -40,21 +40,21 @@ concat [] = []
 concat (xs ∷ xss) = xs ++ concat xss
 
 -- L of an accepted file with this header, or 4,096
-unfoldable pub limitOf : List Record → ℕ
-limitOf header = limitGiven longestLine (firstFields fileHeader header)
+unfoldable pub limit_of : List Record → ℕ
+limit_of header = limit_given longest_line (first_fields file_header header)
 
 -- no line over the limit
-unfoldable pub linesWithin : ℕ → List Line → Bool
-linesWithin limit [] = true
-linesWithin limit (l ∷ ls) = leb (length l.body) limit && linesWithin limit ls
+unfoldable pub lines_within : ℕ → List Line → Bool
+lines_within limit [] = true
+lines_within limit (l ∷ ls) = leb (length l.body) limit && lines_within limit ls
 
 -- a result of n bytes: 18, then 15; room is the length of the output slice
-abbrev pub hasRoom : ℕ → ℕ → Outcome (Unit {0})
-hasRoom n room = check (leb n longestFile) 18 0 >> check (leb n room) 15 0
+abbrev pub has_room : ℕ → ℕ → Outcome (Unit {0})
+has_room n room = check (leb n longest_file) 18 0 >> check (leb n room) 15 0
 
 unfoldable pub fitting : Bytes → ℕ → Outcome Bytes
 fitting out room = do
-  hasRoom (length out) room
+  has_room (length out) room
   fine out
 
 -- order: A's refusal, B's, 10, 18, 15
@@ -63,8 +63,8 @@ combined a b room = do
   s ← judge a
   t ← judge b
   check (leb (magnitudes s.sum + magnitudes t.sum) most) 10 0
-  check (linesWithin (limitOf (headerIn a)) (concat (concat (groupsIn b)))) 18 0
-  fitting (withTrailer (headerIn a ++ (concat (groupsIn a) ++ concat (groupsIn b)))) room
+  check (lines_within (limit_of (header_in a)) (concat (concat (groups_in b)))) 18 0
+  fitting (with_trailer (header_in a ++ (concat (groups_in a) ++ concat (groups_in b)))) room
 
 -- ---- the call
 
@@ -78,13 +78,13 @@ pub record Answer : Type 0 where
 
 unfoldable pub answered : Outcome Bytes → ℕ → Bytes → Answer
 answered (refused why) which before = record { refusal = why; which = which; len = 0; output = before }
-answered (fine out) which before = record { refusal = notRefused; which = 0; len = length out; output = out ++ drop (length out) before }
+answered (fine out) which before = record { refusal = not_refused; which = 0; len = length out; output = out ++ drop (length out) before }
 
 -- which file was refused by the reader
-unfoldable pub whichFile : Outcome Summary → Outcome Summary → ℕ
-whichFile (refused why) t = 1
-whichFile (fine s) (refused why) = 2
-whichFile (fine s) (fine t) = 0
+unfoldable pub which_file : Outcome Summary → Outcome Summary → ℕ
+which_file (refused why) t = 1
+which_file (fine s) (refused why) = 2
+which_file (fine s) (fine t) = 0
 
 unfoldable pub combine : Bytes → Bytes → Bytes → Answer
-combine a b before = answered (combined a b (length before)) (whichFile (judge a) (judge b)) before
+combine a b before = answered (combined a b (length before)) (which_file (judge a) (judge b)) before

@@ -1,23 +1,23 @@
 -- Document 01, "Examples on both sides": K1 to K12, one computed list, and one proof over it. Assumes nothing.
 use Rattle.std.specs.Prelude.{ℕ, Bool, true, ◌&&◌, List, [], ◌∷◌, ◌++◌, T, replicate}
 use Prim.Native.String.{String}
-use Rattle.rules.specs.Bytes.{Bytes, bytes, letter, LF, is_empty, all, sameBytes, starts_with, one_of, trimmedBefore, trimmed}
+use Rattle.rules.specs.Bytes.{Bytes, bytes, letter, LF, is_empty, all, same_bytes, starts_with, one_of, trimmed_before, trimmed}
 use Rattle.rules.specs.Outcome.{moved}
-use Rattle.rules.specs.Lines.{longerLine, longerFirst, lines_of, begins, code_in, code_of, lineBefore, recordsOf, recordSize, lineBytes, recordBytes, fileRecords}
-use Rattle.rules.specs.Cells.{lengthened, cellsFrom, cells_of, leadingBlanks}
-use Rattle.rules.specs.Numbers.{digits, numberFrom, withoutSign, decimalWithin, decimal, totalBytes}
-use Rattle.rules.specs.Amounts.{amountIn}
-use Rattle.rules.specs.Dates.{daysOf, isDate, isTime}
-use Rattle.rules.specs.TypeCodes.{class_of, typeClass}
-use Rattle.rules.specs.Grammar.{fields_of, isCurrency, isUnsigned, is_signed, isLength, fundsOf, pairs, pairsOf, piece_of, judged, and_then, takeNext}
-use Rattle.rules.specs.Records.{walkAfter, taken, pastSlash, takenTo, walkCells, walkLines, walkRecord, the}
-use Rattle.rules.specs.Totals.{◌⊞◌, amountOf, sum_of, adding, ofRecord, boundedFrom, rightTotal, rightCount, rightRecords, sumWithin, balanced}
+use Rattle.rules.specs.Lines.{longer_line, longer_first, lines_of, begins, code_in, code_of, line_before, records_of, record_size, line_bytes, record_bytes, file_records}
+use Rattle.rules.specs.Cells.{lengthened, cells_from, cells_of, leading_blanks}
+use Rattle.rules.specs.Numbers.{digits, number_from, without_sign, decimal_within, decimal, total_bytes}
+use Rattle.rules.specs.Amounts.{amount_in}
+use Rattle.rules.specs.Dates.{days_of, is_date, is_time}
+use Rattle.rules.specs.TypeCodes.{class_of, type_class}
+use Rattle.rules.specs.Grammar.{fields_of, is_currency, is_unsigned, is_signed, is_length, funds_of, pairs, pairs_of, piece_of, judged, and_then, take_next}
+use Rattle.rules.specs.Records.{walk_after, taken, past_slash, taken_to, walk_cells, walk_lines, walk_record, the}
+use Rattle.rules.specs.Totals.{◌⊞◌, amount_of, sum_of, adding, of_record, bounded_from, right_total, right_count, right_records, sum_within, balanced}
 use Rattle.rules.specs.Order.{among}
-use Rattle.rules.specs.Verdict.{notLonger, allAllowed, coded, goodLine, goodLines, noneLonger, inOrder, readRecord, limitGiven, limitAfter, ownLines, stateAfter, settled, step, run, judgeLines, judge}
-use Rattle.rules.specs.Parts.{cut_at, in_groups, headerIn, groupsIn, fieldsIn, firstFields, receiverOf}
-use Rattle.rules.specs.Combine.{ofCoded, summaryOf, summaryOfAll, freshTrailer, withTrailer, concat, limitOf, linesWithin, fitting, combined, Answer, answered, whichFile, combine}
-use Rattle.rules.specs.Split.{isName, groupsFor, splitOut, split}
-use Rattle.rules.specs.Report.{words, asLine, verdictWords, report}
+use Rattle.rules.specs.Verdict.{not_longer, all_allowed, coded, good_line, good_lines, none_longer, in_order, read_record, limit_given, limit_after, own_lines, state_after, settled, step, run, judge_lines, judge}
+use Rattle.rules.specs.Parts.{cut_at, in_groups, header_in, groups_in, fields_in, first_fields, receiver_of}
+use Rattle.rules.specs.Combine.{of_coded, summary_of, summary_of_all, fresh_trailer, with_trailer, concat, limit_of, lines_within, fitting, combined, Answer, answered, which_file, combine}
+use Rattle.rules.specs.Split.{is_name, groups_for, split_out, split}
+use Rattle.rules.specs.Report.{words, as_line, verdict_words, report}
 
 -- lines of text, each with LF
 unfoldable pub lines : List String → Bytes
@@ -46,7 +46,7 @@ abbrev pub ◌⇒◌ : Bytes → Bytes → Example
 
 unfoldable pub agree : List Example → Bool
 agree [] = true
-agree (e ∷ es) = sameBytes e.gives e.expected && agree es
+agree (e ∷ es) = same_bytes e.gives e.expected && agree es
 
 -- K1's lines
 abbrev pub h1 : String
@@ -110,17 +110,17 @@ examples =
 pub examples-agree : T (agree examples)
 unfolding
     lines words verdict written dots agree k1 examples
-    is_empty all sameBytes starts_with one_of trimmedBefore trimmed moved
-    longerLine longerFirst lines_of begins code_in code_of lineBefore recordsOf recordSize lineBytes recordBytes fileRecords
-    lengthened cellsFrom cells_of leadingBlanks
-    digits numberFrom withoutSign amountIn decimalWithin decimal totalBytes
-    daysOf isDate isTime class_of typeClass
-    fields_of isCurrency isUnsigned is_signed isLength fundsOf pairs pairsOf piece_of judged and_then takeNext
-    walkAfter taken pastSlash takenTo walkCells walkLines walkRecord the
-    ◌⊞◌ amountOf sum_of adding ofRecord boundedFrom rightTotal rightCount rightRecords sumWithin balanced
-    among notLonger allAllowed coded goodLine goodLines noneLonger inOrder readRecord limitGiven limitAfter ownLines stateAfter settled step run judgeLines judge
-    cut_at in_groups headerIn groupsIn fieldsIn firstFields receiverOf
-    ofCoded summaryOf summaryOfAll freshTrailer withTrailer concat limitOf linesWithin fitting combined answered whichFile combine
-    isName groupsFor splitOut split
-    asLine verdictWords report
+    is_empty all same_bytes starts_with one_of trimmed_before trimmed moved
+    longer_line longer_first lines_of begins code_in code_of line_before records_of record_size line_bytes record_bytes file_records
+    lengthened cells_from cells_of leading_blanks
+    digits number_from without_sign amount_in decimal_within decimal total_bytes
+    days_of is_date is_time class_of type_class
+    fields_of is_currency is_unsigned is_signed is_length funds_of pairs pairs_of piece_of judged and_then take_next
+    walk_after taken past_slash taken_to walk_cells walk_lines walk_record the
+    ◌⊞◌ amount_of sum_of adding of_record bounded_from right_total right_count right_records sum_within balanced
+    among not_longer all_allowed coded good_line good_lines none_longer in_order read_record limit_given limit_after own_lines state_after settled step run judge_lines judge
+    cut_at in_groups header_in groups_in fields_in first_fields receiver_of
+    of_coded summary_of summary_of_all fresh_trailer with_trailer concat limit_of lines_within fitting combined answered which_file combine
+    is_name groups_for split_out split
+    as_line verdict_words report
 examples-agree = tt

@@ -1,23 +1,23 @@
 -- Document 01, "Fields": the fields of each record, and what each of them may be. Assumes nothing.
 use Rattle.std.specs.Prelude.{ℕ, zero, suc, Bool, true, false, cond, not, ◌&&◌, ◌||◌, List, [], ◌∷◌, ◌++◌, leb, eqb, length}
-use Rattle.rules.specs.Limits.{longestName, longestLine}
+use Rattle.rules.specs.Limits.{longest_name, longest_line}
 use Rattle.rules.specs.Bytes.{Bytes, letter, is_empty, between, all, starts_with, one_of, just, slash, minus}
-use Rattle.rules.specs.Numbers.{digits, number, withoutSign}
-use Rattle.rules.specs.Dates.{isDate, isTime}
-use Rattle.rules.specs.TypeCodes.{Class, status, summaryOnly, summaryOrDetail, nonMonetary, unknown, typeClass}
-use Rattle.rules.specs.Lines.{Code, fileHeader, groupHeader, accountHeader, detail, accountTrailer, groupTrailer, fileTrailer, continuation}
+use Rattle.rules.specs.Numbers.{digits, number, without_sign}
+use Rattle.rules.specs.Dates.{is_date, is_time}
+use Rattle.rules.specs.TypeCodes.{Class, status, summary_only, summary_or_detail, non_monetary, unknown, type_class}
+use Rattle.rules.specs.Lines.{Code, file_header, group_header, account_header, detail, account_trailer, group_trailer, file_trailer, continuation}
 
 -- ---- the kinds of field
 
 -- name: a sender, receiver, originator or account number; count: of accounts or groups, records: of records, in a trailer; nothing: a field that must be empty
 pub data Kind : Type 0 where
-  name reference ultimateReceiver : Kind
-  date time timeOrNone : Kind
-  fileNumber physicalLength blockSize version : Kind
-  groupStatus currency modifier : Kind
-  firstType furtherType statusAmount amount itemCount funds : Kind
-  detailType text furtherText : Kind
-  splitAmount pairCount days dayAmount : Kind
+  name reference ultimate_receiver : Kind
+  date time time_or_none : Kind
+  file_number physical_length block_size version : Kind
+  group_status currency modifier : Kind
+  first_type further_type status_amount amount item_count funds : Kind
+  detail_type text further_text : Kind
+  split_amount pair_count days day_amount : Kind
   total count records : Kind
   nothing : Kind
 
@@ -33,14 +33,14 @@ receiver = name
 abbrev pub originator : Kind
 originator = name
 
-abbrev pub accountNumber : Kind
-accountNumber = name
+abbrev pub account_number : Kind
+account_number = name
 
-abbrev pub bankReference : Kind
-bankReference = reference
+abbrev pub bank_reference : Kind
+bank_reference = reference
 
-abbrev pub customerReference : Kind
-customerReference = reference
+abbrev pub customer_reference : Kind
+customer_reference = reference
 
 -- the fields that are wanted at a record's start; `judged`, below, puts those of items, details and funds in between. A record of code 88 alone is out of order, and has none.
 -- 01: sender, receiver, date, time, file number, physical length L, block size, version.
@@ -49,32 +49,32 @@ customerReference = reference
 -- 16: type, amount, funds, bank reference, customer reference, text.
 -- 49 gives total, records; 98 total, accounts, records; 99 total, groups, records.
 unfoldable pub fields_of : Code → List Kind
-fields_of fileHeader = sender ∷ receiver ∷ date ∷ time ∷ fileNumber ∷ physicalLength ∷ blockSize ∷ version ∷ []
-fields_of groupHeader = ultimateReceiver ∷ originator ∷ groupStatus ∷ date ∷ timeOrNone ∷ currency ∷ modifier ∷ []
-fields_of accountHeader = accountNumber ∷ currency ∷ firstType ∷ []
-fields_of detail = detailType ∷ bankReference ∷ customerReference ∷ text ∷ []
-fields_of accountTrailer = total ∷ records ∷ []
-fields_of groupTrailer = total ∷ count ∷ records ∷ []
-fields_of fileTrailer = total ∷ count ∷ records ∷ []
+fields_of file_header = sender ∷ receiver ∷ date ∷ time ∷ file_number ∷ physical_length ∷ block_size ∷ version ∷ []
+fields_of group_header = ultimate_receiver ∷ originator ∷ group_status ∷ date ∷ time_or_none ∷ currency ∷ modifier ∷ []
+fields_of account_header = account_number ∷ currency ∷ first_type ∷ []
+fields_of detail = detail_type ∷ bank_reference ∷ customer_reference ∷ text ∷ []
+fields_of account_trailer = total ∷ records ∷ []
+fields_of group_trailer = total ∷ count ∷ records ∷ []
+fields_of file_trailer = total ∷ count ∷ records ∷ []
 fields_of continuation = []
 
 -- ---- what a field may be
 
 -- empty or three of A to Z
-unfoldable pub isCurrency : Bytes → Bool
-isCurrency bs = is_empty bs || (eqb (length bs) 3 && all (between (letter "A") (letter "Z")) bs)
+unfoldable pub is_currency : Bytes → Bool
+is_currency bs = is_empty bs || (eqb (length bs) 3 && all (between (letter "A") (letter "Z")) bs)
 
 -- 1 to 18 digits, with at most a plus
-unfoldable pub isUnsigned : Bytes → Bool
-isUnsigned bs = digits 1 18 (withoutSign bs) && not (starts_with minus bs)
+unfoldable pub is_unsigned : Bytes → Bool
+is_unsigned bs = digits 1 18 (without_sign bs) && not (starts_with minus bs)
 
 -- 1 to 18 digits, with at most a sign
 unfoldable pub is_signed : Bytes → Bool
-is_signed bs = digits 1 18 (withoutSign bs)
+is_signed bs = digits 1 18 (without_sign bs)
 
 -- 1 to 4 digits, 48 to 4096
-unfoldable pub isLength : Bytes → Bool
-isLength bs = digits 1 4 bs && between 48 longestLine (number bs)
+unfoldable pub is_length : Bytes → Bool
+is_length bs = digits 1 4 bs && between 48 longest_line (number bs)
 
 -- a field is refused by this number; or it is good, and these kinds are wanted next
 pub data Judged : Type 0 where
@@ -87,78 +87,78 @@ fits false = bad 8
 
 -- a type in 03 adds its amount, item count and funds; a status item has an empty count and funds; a further item may follow
 abbrev pub item_of : Class → Judged
-item_of status = good (statusAmount ∷ nothing ∷ nothing ∷ furtherType ∷ [])
-item_of summaryOnly = good (amount ∷ itemCount ∷ funds ∷ furtherType ∷ [])
-item_of summaryOrDetail = good (amount ∷ itemCount ∷ funds ∷ furtherType ∷ [])
-item_of nonMonetary = bad 8
+item_of status = good (status_amount ∷ nothing ∷ nothing ∷ further_type ∷ [])
+item_of summary_only = good (amount ∷ item_count ∷ funds ∷ further_type ∷ [])
+item_of summary_or_detail = good (amount ∷ item_count ∷ funds ∷ further_type ∷ [])
+item_of non_monetary = bad 8
 item_of unknown = bad 8
 
 -- a type in 16 adds its amount and funds; 890 with both empty
-abbrev pub detailOf : Class → Judged
-detailOf status = bad 8
-detailOf summaryOnly = bad 8
-detailOf summaryOrDetail = good (amount ∷ funds ∷ [])
-detailOf nonMonetary = good (nothing ∷ nothing ∷ [])
-detailOf unknown = bad 8
+abbrev pub detail_of : Class → Judged
+detail_of status = bad 8
+detail_of summary_only = bad 8
+detail_of summary_or_detail = good (amount ∷ funds ∷ [])
+detail_of non_monetary = good (nothing ∷ nothing ∷ [])
+detail_of unknown = bad 8
 
 -- empty, 0, 1, 2 or Z; S and three amounts; V, a date and a time; D, a number X and X pairs
-unfoldable pub fundsOf : Bytes → Judged
-fundsOf bs =
+unfoldable pub funds_of : Bytes → Judged
+funds_of bs =
     cond (is_empty bs || one_of (letter "0") (letter "2") bs || just (letter "Z") bs) (good [])
-    (cond (just (letter "S") bs) (good (splitAmount ∷ splitAmount ∷ splitAmount ∷ []))
-    (cond (just (letter "V") bs) (good (date ∷ timeOrNone ∷ []))
-    (cond (just (letter "D") bs) (good (pairCount ∷ []))
+    (cond (just (letter "S") bs) (good (split_amount ∷ split_amount ∷ split_amount ∷ []))
+    (cond (just (letter "V") bs) (good (date ∷ time_or_none ∷ []))
+    (cond (just (letter "D") bs) (good (pair_count ∷ []))
     (bad 8))))
 
 -- X pairs of days and amount
 unfoldable pub pairs : ℕ → List Kind
 pairs zero = []
-pairs (suc x) = days ∷ dayAmount ∷ pairs x
+pairs (suc x) = days ∷ day_amount ∷ pairs x
 
 -- X, 1 to 3 digits, 1 to 999 (no three digits are more)
-unfoldable pub pairsOf : Bytes → Judged
-pairsOf bs = cond (digits 1 3 bs && leb 1 (number bs)) (good (pairs (number bs))) (bad 8)
+unfoldable pub pairs_of : Bytes → Judged
+pairs_of bs = cond (digits 1 3 bs && leb 1 (number bs)) (good (pairs (number bs))) (bad 8)
 
 -- a text's piece isn't empty and doesn't begin with a slash
 unfoldable pub piece_of : Bytes → Judged
-piece_of bs = cond (not (is_empty bs) && not (starts_with slash bs)) (good (furtherText ∷ [])) (bad 7)
+piece_of bs = cond (not (is_empty bs) && not (starts_with slash bs)) (good (further_text ∷ [])) (bad 7)
 
 -- a field of this kind with these bytes; of a text, the line from its place on, less trailing blanks
 unfoldable pub judged : Kind → Bytes → Judged
 -- names: 1 to 76 bytes; the 02's ultimate receiver and both references of a 16: 0 to 76
-judged name bs = fits (between 1 longestName (length bs))
-judged reference bs = fits (leb (length bs) longestName)
-judged ultimateReceiver bs = fits (leb (length bs) longestName)
+judged name bs = fits (between 1 longest_name (length bs))
+judged reference bs = fits (leb (length bs) longest_name)
+judged ultimate_receiver bs = fits (leb (length bs) longest_name)
 -- only the 01 must give a time
-judged date bs = fits (isDate bs)
-judged time bs = fits (isTime bs)
-judged timeOrNone bs = fits (is_empty bs || isTime bs)
+judged date bs = fits (is_date bs)
+judged time bs = fits (is_time bs)
+judged time_or_none bs = fits (is_empty bs || is_time bs)
 -- 01: file number 1 to 9 digits; L empty, or 48 to 4096; block size empty or 1 to 9 digits; version "2", any other is 9
-judged fileNumber bs = fits (digits 1 9 bs)
-judged physicalLength bs = fits (is_empty bs || isLength bs)
-judged blockSize bs = fits (digits 0 9 bs)
+judged file_number bs = fits (digits 1 9 bs)
+judged physical_length bs = fits (is_empty bs || is_length bs)
+judged block_size bs = fits (digits 0 9 bs)
 judged version bs = cond (just (letter "2") bs) (good []) (bad 9)
 -- 02: status 1 to 4; modifier empty or 1 to 4
-judged groupStatus bs = fits (one_of (letter "1") (letter "4") bs)
-judged currency bs = fits (isCurrency bs)
+judged group_status bs = fits (one_of (letter "1") (letter "4") bs)
+judged currency bs = fits (is_currency bs)
 judged modifier bs = fits (is_empty bs || one_of (letter "1") (letter "4") bs)
 -- 03: an item with all four empty is allowed only as the sole one: any field after it is one too many; from the second item on, an empty type is itself wrong
-judged firstType bs = cond (is_empty bs) (good (nothing ∷ nothing ∷ nothing ∷ [])) (item_of (typeClass bs))
-judged furtherType bs = item_of (typeClass bs)
+judged first_type bs = cond (is_empty bs) (good (nothing ∷ nothing ∷ nothing ∷ [])) (item_of (type_class bs))
+judged further_type bs = item_of (type_class bs)
 -- a status amount may carry + or -, others only +; item count: empty or 1 to 9 digits
-judged statusAmount bs = fits (is_empty bs || is_signed bs)
-judged amount bs = fits (is_empty bs || isUnsigned bs)
-judged itemCount bs = fits (digits 0 9 bs)
-judged funds bs = fundsOf bs
+judged status_amount bs = fits (is_empty bs || is_signed bs)
+judged amount bs = fits (is_empty bs || is_unsigned bs)
+judged item_count bs = fits (digits 0 9 bs)
+judged funds bs = funds_of bs
 -- 16: "/" means no text, anything else is one piece; each later 88 is a further piece
-judged detailType bs = detailOf (typeClass bs)
+judged detail_type bs = detail_of (type_class bs)
 judged text bs = cond (just slash bs) (good []) (piece_of bs)
-judged furtherText bs = piece_of bs
+judged further_text bs = piece_of bs
 -- funds: S amounts may be empty, D amounts not; these amounts are 1 to 18 digits without sign; days 1 to 3 digits
-judged splitAmount bs = fits (digits 0 18 bs)
-judged pairCount bs = pairsOf bs
+judged split_amount bs = fits (digits 0 18 bs)
+judged pair_count bs = pairs_of bs
 judged days bs = fits (digits 1 3 bs)
-judged dayAmount bs = fits (digits 1 18 bs)
+judged day_amount bs = fits (digits 1 18 bs)
 -- trailer totals: optional sign, 1 to 18 digits; counts: 1 to 9 digits
 judged total bs = fits (is_signed bs)
 judged count bs = fits (digits 1 9 bs)
@@ -173,58 +173,58 @@ and_then (bad n) ks = bad n
 and_then (good new) ks = good (new ++ ks)
 
 -- one too many, or judged as the first of them
-unfoldable pub takeNext : List Kind → Bytes → Judged
-takeNext [] bs = bad 8
-takeNext (k ∷ ks) bs = and_then (judged k bs) ks
+unfoldable pub take_next : List Kind → Bytes → Judged
+take_next [] bs = bad 8
+take_next (k ∷ ks) bs = and_then (judged k bs) ks
 
 -- the kind of the next field; where none is wanted, it must not be there
-abbrev pub nextKind : List Kind → Kind
-nextKind [] = nothing
-nextKind (k ∷ ks) = k
+abbrev pub next_kind : List Kind → Kind
+next_kind [] = nothing
+next_kind (k ∷ ks) = k
 
 -- ---- comparing kinds
 
 -- a number for each kind, so that two can be compared
-abbrev pub kindNumber : Kind → ℕ
-kindNumber name = 1
-kindNumber reference = 2
-kindNumber ultimateReceiver = 3
-kindNumber date = 4
-kindNumber time = 5
-kindNumber timeOrNone = 6
-kindNumber fileNumber = 7
-kindNumber physicalLength = 8
-kindNumber blockSize = 9
-kindNumber version = 10
-kindNumber groupStatus = 11
-kindNumber currency = 12
-kindNumber modifier = 13
-kindNumber firstType = 14
-kindNumber furtherType = 15
-kindNumber statusAmount = 16
-kindNumber amount = 17
-kindNumber itemCount = 18
-kindNumber funds = 19
-kindNumber detailType = 20
-kindNumber text = 21
-kindNumber furtherText = 22
-kindNumber splitAmount = 23
-kindNumber pairCount = 24
-kindNumber days = 25
-kindNumber dayAmount = 26
-kindNumber total = 27
-kindNumber count = 28
-kindNumber records = 29
-kindNumber nothing = 30
+abbrev pub kind_number : Kind → ℕ
+kind_number name = 1
+kind_number reference = 2
+kind_number ultimate_receiver = 3
+kind_number date = 4
+kind_number time = 5
+kind_number time_or_none = 6
+kind_number file_number = 7
+kind_number physical_length = 8
+kind_number block_size = 9
+kind_number version = 10
+kind_number group_status = 11
+kind_number currency = 12
+kind_number modifier = 13
+kind_number first_type = 14
+kind_number further_type = 15
+kind_number status_amount = 16
+kind_number amount = 17
+kind_number item_count = 18
+kind_number funds = 19
+kind_number detail_type = 20
+kind_number text = 21
+kind_number further_text = 22
+kind_number split_amount = 23
+kind_number pair_count = 24
+kind_number days = 25
+kind_number day_amount = 26
+kind_number total = 27
+kind_number count = 28
+kind_number records = 29
+kind_number nothing = 30
 
-abbrev pub sameKind : Kind → Kind → Bool
-sameKind k j = eqb (kindNumber k) (kindNumber j)
+abbrev pub same_kind : Kind → Kind → Bool
+same_kind k j = eqb (kind_number k) (kind_number j)
 
 -- a text takes the line from its place on
-abbrev pub isText : Kind → Bool
-isText k = sameKind k text || sameKind k furtherText
+abbrev pub is_text : Kind → Bool
+is_text k = same_kind k text || same_kind k further_text
 
 -- what may be left out at a record's end: a further item, a further piece
-abbrev pub mayLack : List Kind → Bool
-mayLack [] = true
-mayLack (k ∷ ks) = sameKind k furtherType || sameKind k furtherText
+abbrev pub may_lack : List Kind → Bool
+may_lack [] = true
+may_lack (k ∷ ks) = same_kind k further_type || same_kind k further_text

@@ -31,9 +31,9 @@ check true n p = fine tt
 check false n p = refuse n p
 
 -- what is there; refused by this number at this place where nothing is
-abbrev pub orRefused : {A : Type 0} → Option A → ℕ → ℕ → Outcome A
-orRefused none n p = refuse n p
-orRefused (some a) n p = fine a
+abbrev pub or_refused : {A : Type 0} → Option A → ℕ → ℕ → Outcome A
+or_refused none n p = refuse n p
+or_refused (some a) n p = fine a
 
 -- the answer, or this where it is refused
 abbrev pub or_else : {A : Type 0} → Outcome A → A → A
@@ -46,15 +46,15 @@ moved p (refused why) = refuse why.number (p + why.place)
 moved p (fine a) = fine a
 
 -- the number and the place that a call answers: 0 and 0 where it is not refused
-abbrev pub notRefused : Refusal
-notRefused = record { number = 0; place = 0 }
+abbrev pub not_refused : Refusal
+not_refused = record { number = 0; place = 0 }
 
-abbrev pub refusalOf : {A : Type 0} → Outcome A → Refusal
-refusalOf (refused why) = why
-refusalOf (fine a) = notRefused
+abbrev pub refusal_of : {A : Type 0} → Outcome A → Refusal
+refusal_of (refused why) = why
+refusal_of (fine a) = not_refused
 
 abbrev pub number_of : {A : Type 0} → Outcome A → ℕ
-number_of o = (refusalOf o).number
+number_of o = (refusal_of o).number
 
 abbrev pub place_of : {A : Type 0} → Outcome A → ℕ
-place_of o = (refusalOf o).place
+place_of o = (refusal_of o).place

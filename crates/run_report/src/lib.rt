@@ -1,12 +1,12 @@
 // The line that the program `summary` writes: a file's summary, its refusal, or that there are too many bytes.
 ghost use Rattle.std.specs.Prelude.{◌≤◌, length};
 ghost use Rattle.rules.specs.Outcome.{refused, fine};
-ghost use Rattle.rules.specs.Report.{asLine, verdictWords, report};
+ghost use Rattle.rules.specs.Report.{as_line, verdict_words, report};
 ghost use Rattle.base_numerals.specs.PutBytes.{Put};
-ghost use Rattle.base_refusals.specs.RefusalMeaning.{refusalMeant};
-ghost use Rattle.base_totals.specs.SummaryMeaning.{summaryMeant};
-ghost use Rattle.read_file.specs.FileMeanings.{verdictMeant};
-ghost use Rattle.run_report.specs.PutLines.{counts, longestReport, PutLine};
+ghost use Rattle.base_refusals.specs.RefusalMeaning.{refusal_meant};
+ghost use Rattle.base_totals.specs.SummaryMeaning.{summary_meant};
+ghost use Rattle.read_file.specs.FileMeanings.{verdict_meant};
+ghost use Rattle.run_report.specs.PutLines.{counts, longest_report, PutLine};
 
 use base_limits::MOST_INPUT;
 use base_refusals::Refusal;
@@ -18,8 +18,8 @@ pub const LONGEST_REPORT: usize = 109;
 
 // A summary's four counts, each after a blank, at the front of out: how many bytes.
 fn put_counts(out: &mut [u8], summary: Summary) -> usize
-    requires { length (counts (summaryMeant summary)) ≤ length out.old }
-    ensures { Put (counts (summaryMeant summary)) out.old result out.new }
+    requires { length (counts (summary_meant summary)) ≤ length out.old }
+    ensures { Put (counts (summary_meant summary)) out.old result out.new }
 {
     let groups = summary.groups;
     let accounts = summary.accounts;
@@ -34,8 +34,8 @@ fn put_counts(out: &mut [u8], summary: Summary) -> usize
 
 // The line for a summary at the front of out: how many bytes.
 fn put_summary(out: &mut [u8], summary: Summary) -> usize
-    requires { longestReport ≤ length out.old }
-    ensures { PutLine (asLine (verdictWords (fine (summaryMeant summary)))) out.old result out.new }
+    requires { longest_report ≤ length out.old }
+    ensures { PutLine (as_line (verdict_words (fine (summary_meant summary)))) out.old result out.new }
 {
     let total = summary.total;
     let mut o = base_slices::put(out, b"ok ");
@@ -47,8 +47,8 @@ fn put_summary(out: &mut [u8], summary: Summary) -> usize
 
 // The line for a refusal at the front of out: how many bytes.
 fn put_refusal(out: &mut [u8], why: Refusal) -> usize
-    requires { longestReport ≤ length out.old }
-    ensures { PutLine (asLine (verdictWords (refused (refusalMeant why)))) out.old result out.new }
+    requires { longest_report ≤ length out.old }
+    ensures { PutLine (as_line (verdict_words (refused (refusal_meant why)))) out.old result out.new }
 {
     let place = why.place;
     let mut o = base_slices::put(out, b"refused");
@@ -60,8 +60,8 @@ fn put_refusal(out: &mut [u8], why: Refusal) -> usize
 
 // The line for a verdict at the front of out: how many bytes.
 fn put_verdict(out: &mut [u8], verdict: Verdict) -> usize
-    requires { longestReport ≤ length out.old }
-    ensures { PutLine (asLine (verdictWords (verdictMeant verdict))) out.old result out.new }
+    requires { longest_report ≤ length out.old }
+    ensures { PutLine (as_line (verdict_words (verdict_meant verdict))) out.old result out.new }
 {
     match verdict {
         Verdict::Accepted(summary) => put_summary(out, summary),
@@ -71,7 +71,7 @@ fn put_verdict(out: &mut [u8], verdict: Verdict) -> usize
 
 // The line for a verdict at the front of out: how many bytes; or 0, and nothing changed, where it doesn't fit.
 pub fn verdict_line(verdict: Verdict, out: &mut [u8]) -> usize
-    ensures { PutLine (asLine (verdictWords (verdictMeant verdict))) out.old result out.new }
+    ensures { PutLine (as_line (verdict_words (verdict_meant verdict))) out.old result out.new }
 {
     let mut line = [0u8; LONGEST_REPORT];
     let length = put_verdict(&mut line, verdict);

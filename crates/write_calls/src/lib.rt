@@ -1,10 +1,10 @@
 // The writer of document 01: each call takes the state by value and hands back its answer with the state after it. The line is drafted in a space
 // of its own, by `write_records`; `write_commit` decides whether it is written.
 ghost use Rattle.std.specs.Prelude.{◌≡◌, true};
-ghost use Rattle.write_line.specs.DraftMeaning.{amountGiven};
+ghost use Rattle.write_line.specs.DraftMeaning.{amount_given};
 ghost use Rattle.rules.specs.Writer as rules;
-ghost use Rattle.write_state.specs.WriterMeaning.{writerMeant, writtenMeant};
-ghost use Rattle.write_calls.specs.ItemMeaning.{itemMeant, itemGiven};
+ghost use Rattle.write_state.specs.WriterMeaning.{writer_meant, written_meant};
+ghost use Rattle.write_calls.specs.ItemMeaning.{item_meant, item_given};
 
 use base_codes::Code;
 use base_quantities::Units;
@@ -21,8 +21,8 @@ fn open_account(
     count: MaybeItems,
     out: &mut [u8],
 ) -> Written
-    ensures { writtenMeant result out.new ≡ rules.write (writerMeant w)
-        (rules.writeAccount number.now currency.now (itemGiven true type_code.now amount count))
+    ensures { written_meant result out.new ≡ rules.write (writer_meant w)
+        (rules.write_account number.now currency.now (item_given true type_code.now amount count))
         out.old }
 {
     let mut space = [0u8; LINE_SPACE];
@@ -42,8 +42,8 @@ pub fn header(
     file_number: &[u8],
     out: &mut [u8],
 ) -> Written
-    ensures { writtenMeant result out.new ≡ rules.write (writerMeant w)
-        (rules.writeHeader sender.now receiver.now date.now time.now file_number.now)
+    ensures { written_meant result out.new ≡ rules.write (writer_meant w)
+        (rules.write_header sender.now receiver.now date.now time.now file_number.now)
         out.old }
 {
     let mut space = [0u8; LINE_SPACE];
@@ -63,8 +63,8 @@ pub fn group(
     modifier: &[u8],
     out: &mut [u8],
 ) -> Written
-    ensures { writtenMeant result out.new ≡ rules.write (writerMeant w)
-        (rules.writeGroup receiver.now originator.now status.now date.now time.now currency.now modifier.now)
+    ensures { written_meant result out.new ≡ rules.write (writer_meant w)
+        (rules.write_group receiver.now originator.now status.now date.now time.now currency.now modifier.now)
         out.old }
 {
     let mut space = [0u8; LINE_SPACE];
@@ -85,8 +85,8 @@ pub fn account(
     count: MaybeItems,
     out: &mut [u8],
 ) -> Written
-    ensures { writtenMeant result out.new ≡ rules.write (writerMeant w)
-        (rules.writeAccount number.now currency.now (itemGiven item_given type_code.now amount count))
+    ensures { written_meant result out.new ≡ rules.write (writer_meant w)
+        (rules.write_account number.now currency.now (item_given item_given type_code.now amount count))
         out.old }
 {
     if item_given {
@@ -112,8 +112,8 @@ pub fn item(
     count: MaybeItems,
     out: &mut [u8],
 ) -> Written
-    ensures { writtenMeant result out.new ≡ rules.write (writerMeant w)
-        (rules.writeItem (itemMeant type_code.now amount count))
+    ensures { written_meant result out.new ≡ rules.write (writer_meant w)
+        (rules.write_item (item_meant type_code.now amount count))
         out.old }
 {
     let mut space = [0u8; LINE_SPACE];
@@ -132,8 +132,8 @@ pub fn detail(
     text: &[u8],
     out: &mut [u8],
 ) -> Written
-    ensures { writtenMeant result out.new ≡ rules.write (writerMeant w)
-        (rules.writeDetail type_code.now (amountGiven amount) bank_reference.now customer_reference.now text.now)
+    ensures { written_meant result out.new ≡ rules.write (writer_meant w)
+        (rules.write_detail type_code.now (amount_given amount) bank_reference.now customer_reference.now text.now)
         out.old }
 {
     let mut space = [0u8; LINE_SPACE];

@@ -6,10 +6,10 @@ use Rattle.write_state.specs.declared.Writer.{Writer}
 use Rattle.write_state.specs.declared.Written.{Written}
 
 -- a refusal with this number; stands for `written_by` of a refusal (rules/specs/Writer.antt): joined by `refuses` (proofs/CommitLaws.antt)
-abbrev pub refusedBy : Writer → ℕ → Written
-refusedBy w n = record { refusal = record { number = n; place = record { 0 = 0 } }; length = 0; writer = w }
+abbrev pub refused_by : Writer → ℕ → Written
+refused_by w n = record { refusal = record { number = n; place = record { 0 = 0 } }; length = 0; writer = w }
 
 -- a field was good
-abbrev pub isNext : Taken → Bool
-isNext (Next want) = true
-isNext (Refused n) = false
+abbrev pub is_next : Taken → Bool
+is_next (Next want) = true
+is_next (Refused n) = false

@@ -1,16 +1,16 @@
 // A line written: the room that it needs, the state after it, and the order of refusals.
 ghost use Rattle.std.specs.Prelude.{◌≡◌, true, ◌+◌, ◌≤◌, length};
 ghost use Rattle.rules.specs.Numbers.{magnitudes};
-ghost use Rattle.rules.specs.Limits.{most, longestFile};
+ghost use Rattle.rules.specs.Limits.{most, longest_file};
 ghost use Rattle.rules.specs.Outcome.{number_of};
-ghost use Rattle.rules.specs.Combine.{hasRoom};
+ghost use Rattle.rules.specs.Combine.{has_room};
 ghost use Rattle.rules.specs.Writer.{sound, written_by};
-ghost use Rattle.base_codes.specs.CodeMeaning.{codeMeant};
-ghost use Rattle.base_quantities.specs.QuantityMeanings.{sumMeant};
-ghost use Rattle.write_line.specs.DraftMeaning.{draftOf};
-ghost use Rattle.write_state.specs.WriterMeaning.{writerMeant, writtenMeant};
-ghost use Rattle.write_commit.specs.CommitAnswers.{refusedBy, isNext};
-ghost use Rattle.write_commit.specs.Commit.{stateAfter, room_for, committed};
+ghost use Rattle.base_codes.specs.CodeMeaning.{code_meant};
+ghost use Rattle.base_quantities.specs.QuantityMeanings.{sum_meant};
+ghost use Rattle.write_line.specs.DraftMeaning.{draft_of};
+ghost use Rattle.write_state.specs.WriterMeaning.{writer_meant, written_meant};
+ghost use Rattle.write_commit.specs.CommitAnswers.{refused_by, is_next};
+ghost use Rattle.write_commit.specs.Commit.{state_after, room_for, committed};
 
 use base_codes::Code;
 use base_limits::LONGEST_FILE;
@@ -24,7 +24,7 @@ use write_state::{Writer, Written};
 
 // 10, 18 or 15 where a line of n bytes that adds this sum has no room; 0 where it has.
 fn room_number(w: Writer, sum: Units, n: usize, room: usize) -> u64
-    ensures { result ≡ number_of (room_for (writerMeant w) (sumMeant sum) n room) }
+    ensures { result ≡ number_of (room_for (writer_meant w) (sum_meant sum) n room) }
 {
     let size = w.size;
     let f = w.file;
@@ -37,7 +37,7 @@ fn room_number(w: Writer, sum: Units, n: usize, room: usize) -> u64
 
 // 18 or 15 where n bytes more don't fit the file or the slice; 0 where they do.
 fn size_number(size: Place, n: usize, room: usize) -> u64
-    ensures { result ≡ number_of (hasRoom (size.0 + n) room) }
+    ensures { result ≡ number_of (has_room (size.0 + n) room) }
 {
     let end = size.0;
     if LONGEST_FILE < end {
@@ -54,8 +54,8 @@ fn size_number(size: Place, n: usize, room: usize) -> u64
 
 // The state after a line of n bytes that has room.
 fn after_line(w: Writer, code: Code, sum: Units, items: bool, n: usize) -> Writer
-    requires { (sound (writerMeant w) ≡ true) × (magnitudes (sumMeant sum) ≤ most) × (w.size.0 + n ≤ longestFile) }
-    ensures { writerMeant result ≡ stateAfter (writerMeant w) (codeMeant code) (sumMeant sum) items n }
+    requires { (sound (writer_meant w) ≡ true) × (magnitudes (sum_meant sum) ≤ most) × (w.size.0 + n ≤ longest_file) }
+    ensures { writer_meant result ≡ state_after (writer_meant w) (code_meant code) (sum_meant sum) items n }
 {
     let size = w.size;
     let phase = write_state::phase_after(code);
@@ -75,7 +75,7 @@ fn after_line(w: Writer, code: Code, sum: Units, items: bool, n: usize) -> Write
 
 // Refused by this number: the state stays, and there is no length.
 fn refused(w: Writer, number: u64) -> Written
-    ensures { result ≡ refusedBy w number }
+    ensures { result ≡ refused_by w number }
 {
     Written {
         refusal: Refusal {
@@ -89,7 +89,7 @@ fn refused(w: Writer, number: u64) -> Written
 
 // A field was good.
 fn is_next(taken: Taken) -> bool
-    ensures { result ≡ isNext taken }
+    ensures { result ≡ is_next taken }
 {
     match taken {
         Taken::Next(_) => true,
@@ -107,8 +107,8 @@ pub fn commit(
     items: bool,
     out: &mut [u8],
 ) -> Written
-    ensures { writtenMeant result out.new ≡ written_by (writerMeant w)
-        (committed (writerMeant w) (codeMeant code) (draftOf line.now d) (sumMeant sum) items (length out.old))
+    ensures { written_meant result out.new ≡ written_by (writer_meant w)
+        (committed (writer_meant w) (code_meant code) (draft_of line.now d) (sum_meant sum) items (length out.old))
         out.old }
 {
     let size = w.size;

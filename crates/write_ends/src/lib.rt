@@ -2,9 +2,9 @@
 // space of its own, by `write_records`; `write_commit` decides whether it is written.
 ghost use Rattle.std.specs.Prelude.{◌≡◌};
 ghost use Rattle.rules.specs.Writer as rules;
-ghost use Rattle.base_codes.specs.CodeMeaning.{codeMeant};
-ghost use Rattle.base_totals.specs.SummaryMeaning.{summaryMeant};
-ghost use Rattle.write_state.specs.WriterMeaning.{writerMeant, writtenMeant};
+ghost use Rattle.base_codes.specs.CodeMeaning.{code_meant};
+ghost use Rattle.base_totals.specs.SummaryMeaning.{summary_meant};
+ghost use Rattle.write_state.specs.WriterMeaning.{writer_meant, written_meant};
 ghost use Rattle.write_ends.specs.EndLines.{ended};
 
 use base_codes::Code;
@@ -15,7 +15,7 @@ use write_state::{Writer, Written};
 
 // The line 49.
 pub fn end_account(w: Writer, out: &mut [u8]) -> Written
-    ensures { writtenMeant result out.new ≡ rules.write (writerMeant w) rules.endAccount out.old }
+    ensures { written_meant result out.new ≡ rules.write (writer_meant w) rules.end_account out.old }
 {
     let account = w.account;
     let records = account.records.add(Records(1));
@@ -34,7 +34,7 @@ pub fn end_account(w: Writer, out: &mut [u8]) -> Written
 
 // The line 98 or 99: the total, this count, and the records with itself.
 fn end(w: Writer, code: Code, summary: Summary, count: Count, out: &mut [u8]) -> Written
-    ensures { writtenMeant result out.new ≡ ended (writerMeant w) (codeMeant code) (summaryMeant summary) count.0 out.old }
+    ensures { written_meant result out.new ≡ ended (writer_meant w) (code_meant code) (summary_meant summary) count.0 out.old }
 {
     let records = summary.records.add(Records(1));
     let mut space = [0u8; LINE_SPACE];
@@ -44,7 +44,7 @@ fn end(w: Writer, code: Code, summary: Summary, count: Count, out: &mut [u8]) ->
 
 // The line 98.
 pub fn end_group(w: Writer, out: &mut [u8]) -> Written
-    ensures { writtenMeant result out.new ≡ rules.write (writerMeant w) rules.endGroup out.old }
+    ensures { written_meant result out.new ≡ rules.write (writer_meant w) rules.end_group out.old }
 {
     let group = w.group;
     end(w, Code::GroupTrailer, group, group.accounts, out)
@@ -52,7 +52,7 @@ pub fn end_group(w: Writer, out: &mut [u8]) -> Written
 
 // The line 99.
 pub fn end_file(w: Writer, out: &mut [u8]) -> Written
-    ensures { writtenMeant result out.new ≡ rules.write (writerMeant w) rules.endFile out.old }
+    ensures { written_meant result out.new ≡ rules.write (writer_meant w) rules.end_file out.old }
 {
     let file = w.file;
     end(w, Code::FileTrailer, file, file.groups, out)

@@ -11,24 +11,24 @@ use lib.Seq.{length-take-le, take_all}
 use borrow.Author.Tests.{lt-leb, leb-true}
 use Rattle.rules.specs.Bytes.{Bytes, comma, slash, is_empty, clean}
 use Rattle.rules.specs.Outcome.{Outcome, fine, ◌>>=◌, check}
-use Rattle.rules.specs.Lines.{Code, codeBytes}
-use Rattle.rules.specs.Grammar.{Kind, Judged, bad, good, takeNext}
-use Rattle.rules.specs.Writer.{orTwenty, goodText}
+use Rattle.rules.specs.Lines.{Code, code_bytes}
+use Rattle.rules.specs.Grammar.{Kind, Judged, bad, good, take_next}
+use Rattle.rules.specs.Writer.{or_twenty, good_text}
 use Rattle.rules.proofs.Tests.{Known, holds, fails, known}
 use Rattle.base_digits.proofs.DigitTests.{below-or-from, and_right}
 use Rattle.laws_writer.proofs.LinesWritten.{code-bytes}
 use Rattle.laws_writer.proofs.Placing.{placed-front, placed-length}
-use Rattle.write_line.specs.DraftMeaning.{Sofar, draftOf, begun, withField, fieldAdded, addedAll, withText, textAdded}
-use Rattle.write_line.specs.DrawnLine.{Drawn, drawnOf, codeDrawn, bytesDrawn, fieldDrawn, allDrawn, textDrawn}
+use Rattle.write_line.specs.DraftMeaning.{Sofar, draft_of, begun, with_field, field_added, added_all, with_text, text_added}
+use Rattle.write_line.specs.DrawnLine.{Drawn, drawn_of, code_drawn, bytes_drawn, field_drawn, all_drawn, text_drawn}
 use Rattle.write_line.specs.declared.Draft.{Draft}
 
 -- ---- what a draft says
 
 unfoldable pub said : Drawn → Outcome Sofar
-said x = orTwenty x.judged >>= λ ks. fine (record { kinds = ks; bytes = take x.len x.space })
+said x = or_twenty x.judged >>= λ ks. fine (record { kinds = ks; bytes = take x.len x.space })
 
-pub said-is : (space : Bytes) (d : Draft) → draftOf space d ≡ said (drawnOf space d)
-unfolding draftOf drawnOf said
+pub said-is : (space : Bytes) (d : Draft) → draft_of space d ≡ said (drawn_of space d)
+unfolding draft_of drawn_of said
 said-is space d = refl
 
 module _ (len : ℕ) (space : Bytes) (size : length space ≡ 640) where
@@ -43,74 +43,74 @@ module _ (len : ℕ) (space : Bytes) (size : length space ≡ 640) where
 
   -- bytes put after the line
   put-said : (t : Bool) (bs : Bytes) (j x : Judged)
-      → said (bytesDrawn (leb (len + 77) 640 && t) bs j (drawn x))
-      ≡ (check (leb (length (take len space) + 77) 640) 20 0 >>= λ _. check t 20 0 >>= λ _. orTwenty j >>= λ ks. fine (record { kinds = ks; bytes = take len space ++ bs }))
+      → said (bytes_drawn (leb (len + 77) 640 && t) bs j (drawn x))
+      ≡ (check (leb (length (take len space) + 77) 640) 20 0 >>= λ _. check t 20 0 >>= λ _. or_twenty j >>= λ ks. fine (record { kinds = ks; bytes = take len space ++ bs }))
   unfolding said
   put-said t bs j x = by_cases (known (leb (len + 77) 640)) (known t)
     where
-      by_cases : Known (leb (len + 77) 640) → Known t → said (bytesDrawn (leb (len + 77) 640 && t) bs j (drawn x))
-          ≡ (check (leb (length (take len space) + 77) 640) 20 0 >>= λ _. check t 20 0 >>= λ _. orTwenty j >>= λ ks. fine (record { kinds = ks; bytes = take len space ++ bs }))
+      by_cases : Known (leb (len + 77) 640) → Known t → said (bytes_drawn (leb (len + 77) 640 && t) bs j (drawn x))
+          ≡ (check (leb (length (take len space) + 77) 640) 20 0 >>= λ _. check t 20 0 >>= λ _. or_twenty j >>= λ ks. fine (record { kinds = ks; bytes = take len space ++ bs }))
       by_cases (fails e) k = rw (same-room, e)
       by_cases (holds e) (fails g) = rw (same-room, e, g)
       by_cases (holds e) (holds g) = let l = leb-true (len + 77) 640 e in rw (same-room, e, g, placed-front len bs space (omega arith))
 
-  put-size : (t : Bool) (bs : Bytes) (j x : Judged) → (t ≡ true → length bs ≤ 77) → length (bytesDrawn (leb (len + 77) 640 && t) bs j (drawn x)).space ≡ 640
+  put-size : (t : Bool) (bs : Bytes) (j x : Judged) → (t ≡ true → length bs ≤ 77) → length (bytes_drawn (leb (len + 77) 640 && t) bs j (drawn x)).space ≡ 640
   put-size t bs j x short = by_cases (known (leb (len + 77) 640)) (known t)
     where
-      by_cases : Known (leb (len + 77) 640) → Known t → length (bytesDrawn (leb (len + 77) 640 && t) bs j (drawn x)).space ≡ 640
+      by_cases : Known (leb (len + 77) 640) → Known t → length (bytes_drawn (leb (len + 77) 640 && t) bs j (drawn x)).space ≡ 640
       by_cases (fails e) k = rw e size
       by_cases (holds e) (fails g) = rw (e, g) size
       by_cases (holds e) (holds g) = let l = leb-true (len + 77) 640 e in rw (e, g, placed-length len bs space (omega (arith, short g))) size
 
   module _ (f : Bytes) (mark : ℕ) where
-    field-drawn : (j : Judged) → said (fieldDrawn f mark (drawn j)) ≡ fieldAdded f mark (said (drawn j))
-    unfolding said fieldDrawn fieldAdded withField
+    field-drawn : (j : Judged) → said (field_drawn f mark (drawn j)) ≡ field_added f mark (said (drawn j))
+    unfolding said field_drawn field_added with_field
     field-drawn (bad n) = refl
-    field-drawn (good ks) = put-said (clean f && leb (length f) 76) (f ++ (mark ∷ [])) (takeNext ks f) (good ks)
+    field-drawn (good ks) = put-said (clean f && leb (length f) 76) (f ++ (mark ∷ [])) (take_next ks f) (good ks)
 
     field-short : (clean f && leb (length f) 76) ≡ true → length (f ++ (mark ∷ [])) ≤ 77
     field-short h = rw (length-append f (mark ∷ [])) (omega (arith, leb-true (length f) 76 (and_right (clean f) _ h)))
 
-    field-space : (j : Judged) → length (fieldDrawn f mark (drawn j)).space ≡ 640
-    unfolding fieldDrawn
+    field-space : (j : Judged) → length (field_drawn f mark (drawn j)).space ≡ 640
+    unfolding field_drawn
     field-space (bad n) = size
-    field-space (good ks) = put-size (clean f && leb (length f) 76) (f ++ (mark ∷ [])) (takeNext ks f) (good ks) field-short
+    field-space (good ks) = put-size (clean f && leb (length f) 76) (f ++ (mark ∷ [])) (take_next ks f) (good ks) field-short
 
-  text-drawn : (t : Bytes) (j : Judged) → said (textDrawn t (drawn j)) ≡ textAdded t (said (drawn j))
-  unfolding said textDrawn textAdded withText
+  text-drawn : (t : Bytes) (j : Judged) → said (text_drawn t (drawn j)) ≡ text_added t (said (drawn j))
+  unfolding said text_drawn text_added with_text
   text-drawn t (bad n) = refl
-  text-drawn t (good ks) = put-said (goodText t) (cond (is_empty t) (slash ∷ []) t) (good ks) (good ks)
+  text-drawn t (good ks) = put-said (good_text t) (cond (is_empty t) (slash ∷ []) t) (good ks) (good ks)
 
 -- ---- each step says what the rules' part says
 
 module _ (x : Drawn) (size : length x.space ≡ 640) where
-  pub field-said : (f : Bytes) (mark : ℕ) → said (fieldDrawn f mark x) ≡ fieldAdded f mark (said x)
+  pub field-said : (f : Bytes) (mark : ℕ) → said (field_drawn f mark x) ≡ field_added f mark (said x)
   field-said f mark = field-drawn x.len x.space size f mark x.judged
 
-  pub text-said : (t : Bytes) → said (textDrawn t x) ≡ textAdded t (said x)
+  pub text-said : (t : Bytes) → said (text_drawn t x) ≡ text_added t (said x)
   text-said t = text-drawn x.len x.space size t x.judged
 
-  pub field-size : (f : Bytes) (mark : ℕ) → length (fieldDrawn f mark x).space ≡ 640
+  pub field-size : (f : Bytes) (mark : ℕ) → length (field_drawn f mark x).space ≡ 640
   field-size f mark = field-space x.len x.space size f mark x.judged
 
 module _ (last : ℕ) where
-  pub all_said : (fs : List Bytes) (x : Drawn) → length x.space ≡ 640 → said (allDrawn fs last x) ≡ addedAll fs last (said x)
+  pub all_said : (fs : List Bytes) (x : Drawn) → length x.space ≡ 640 → said (all_drawn fs last x) ≡ added_all fs last (said x)
   all_said [] x size = refl
   all_said (f ∷ []) x size = field-said x size f last
-  all_said (f ∷ g ∷ fs) x size = all_said (g ∷ fs) (fieldDrawn f comma x) (field-size x size f comma) ∙ rw (field-said x size f comma)
+  all_said (f ∷ g ∷ fs) x size = all_said (g ∷ fs) (field_drawn f comma x) (field-size x size f comma) ∙ rw (field-said x size f comma)
 
-  pub all-size : (fs : List Bytes) (x : Drawn) → length x.space ≡ 640 → length (allDrawn fs last x).space ≡ 640
+  pub all-size : (fs : List Bytes) (x : Drawn) → length x.space ≡ 640 → length (all_drawn fs last x).space ≡ 640
   all-size [] x size = size
   all-size (f ∷ []) x size = field-size x size f last
-  all-size (f ∷ g ∷ fs) x size = all-size (g ∷ fs) (fieldDrawn f comma x) (field-size x size f comma)
+  all-size (f ∷ g ∷ fs) x size = all-size (g ∷ fs) (field_drawn f comma x) (field-size x size f comma)
 
 module _ (c : Code) (ks : List Kind) (space : Bytes) (size : length space ≡ 640) where
-  pub begun-said : said (codeDrawn c ks space) ≡ begun c ks
+  pub begun-said : said (code_drawn c ks space) ≡ begun c ks
   unfolding said
   begun-said =
       let n = (code-bytes c).size in
-      let z : 3 ≡ 0 + length (codeBytes c) = omega arith in
-      rw (z, placed-front 0 (codeBytes c) space (omega arith))
+      let z : 3 ≡ 0 + length (code_bytes c) = omega arith in
+      rw (z, placed-front 0 (code_bytes c) space (omega arith))
 
-  pub begun-size : length (codeDrawn c ks space).space ≡ 640
-  begun-size = let n = (code-bytes c).size in placed-length 0 (codeBytes c) space (omega arith) ∙ size
+  pub begun-size : length (code_drawn c ks space).space ≡ 640
+  begun-size = let n = (code-bytes c).size in placed-length 0 (code_bytes c) space (omega arith) ∙ size

@@ -12,10 +12,10 @@ use lib.Seq.{take_all, set_split, take-append_seam, drop-drop}
 use borrow.Author.Tests.{le-leb, lt-leb, leb-true, leb-false}
 use borrow.Rule.Slice.PartMut.{mid_of, put_mid}
 use Rattle.rules.specs.Bytes.{Bytes, slash, is_empty, clean}
-use Rattle.rules.specs.Lines.{Code, codeBytes}
-use Rattle.rules.specs.Grammar.{takeNext}
-use Rattle.rules.specs.Writer.{placed, goodText}
-use Rattle.rules.specs.Numbers.{Sum, decimal, totalBytes}
+use Rattle.rules.specs.Lines.{Code, code_bytes}
+use Rattle.rules.specs.Grammar.{take_next}
+use Rattle.rules.specs.Writer.{placed, good_text}
+use Rattle.rules.specs.Numbers.{Sum, decimal, total_bytes}
 use Rattle.rules.proofs.Tests.{Known, holds, fails, known}
 use Rattle.base_numerals.specs.PutBytes.{Put}
 use Rattle.base_digits.proofs.DigitTests.{below-or-from, and_left}
@@ -25,13 +25,13 @@ use Rattle.base_numerals.proofs.PutLaws.{put_count, put-bytes, rest-is, rest_bac
 use Rattle.laws_writer.proofs.NumberFields.{not-empty}
 use Rattle.laws_writer.proofs.LinesWritten.{code-bytes}
 use Rattle.laws_writer.proofs.Placing.{placed-more}
-use Rattle.read_wanted.specs.Wants.{wantedOf}
-use Rattle.read_wanted.specs.TakenMeaning.{judgedOf}
+use Rattle.read_wanted.specs.Wants.{wanted_of}
+use Rattle.read_wanted.specs.TakenMeaning.{judged_of}
 use Rattle.read_wanted.specs.declared.Taken.{Taken}
 use Rattle.read_wanted.specs.declared.Taken.TheVariants.{Next, Refused}
 use Rattle.read_wanted.specs.declared.want.Want.{Want}
 use Rattle.write_line.specs.DraftMeaning.{wanting}
-use Rattle.write_line.specs.DrawnLine.{drawnOf, codeDrawn, fieldDrawn, textDrawn}
+use Rattle.write_line.specs.DrawnLine.{drawn_of, code_drawn, field_drawn, text_drawn}
 use Rattle.write_line.specs.declared.Draft.{Draft}
 
 -- ---- bytes put at a place
@@ -59,33 +59,33 @@ unfolding is_empty
 none-empty [] h = refl
 none-empty (b ∷ bs) h = absurd (omega arith)
 
-text-short : (t : Bytes) → goodText t ≡ true → length t ≤ 76
-unfolding goodText
+text-short : (t : Bytes) → good_text t ≡ true → length t ≤ 76
+unfolding good_text
 text-short t h = leb-true (length t) 76 (and_left (leb (length t) 76) _ h)
 
-abbrev pub refusedDraft : Draft
-refusedDraft = record { taken = Refused 20; len = 0 }
+abbrev pub refused_draft : Draft
+refused_draft = record { taken = Refused 20; len = 0 }
 
 module _ (line : Bytes) (len : ℕ) where
   module _ (want : Want) (f : Bytes) (mark : ℕ) where
     -- a field is refused where no room is left, or it is too long or not clean
-    pub field-no-room : 640 < len + 77 → drawnOf line refusedDraft ≡ fieldDrawn f mark (drawnOf line (wanting want len))
-    unfolding drawnOf judgedOf fieldDrawn
+    pub field-no-room : 640 < len + 77 → drawn_of line refused_draft ≡ field_drawn f mark (drawn_of line (wanting want len))
+    unfolding drawn_of judged_of field_drawn
     field-no-room h = rw (lt-leb (len + 77) 640 h)
 
-    pub field-long : 76 < length f → drawnOf line refusedDraft ≡ fieldDrawn f mark (drawnOf line (wanting want len))
-    unfolding drawnOf judgedOf fieldDrawn
+    pub field-long : 76 < length f → drawn_of line refused_draft ≡ field_drawn f mark (drawn_of line (wanting want len))
+    unfolding drawn_of judged_of field_drawn
     field-long g = rw (lt-leb (length f) 76 g, and-false (clean f), and-false (leb (len + 77) 640))
 
-    pub field-unclean : clean f ≡ false → drawnOf line refusedDraft ≡ fieldDrawn f mark (drawnOf line (wanting want len))
-    unfolding drawnOf judgedOf fieldDrawn
+    pub field-unclean : clean f ≡ false → drawn_of line refused_draft ≡ field_drawn f mark (drawn_of line (wanting want len))
+    unfolding drawn_of judged_of field_drawn
     field-unclean e = rw (e, and-false (leb (len + 77) 640))
 
     -- else it is put with its mark, and judged
-    pub field_put : (t : Taken) (put now : Bytes) → length line ≡ 640 → len + 77 ≤ 640 → length f ≤ 76 → clean f ≡ true → judgedOf t ≡ takeNext (wantedOf want) f
+    pub field_put : (t : Taken) (put now : Bytes) → length line ≡ 640 → len + 77 ≤ 640 → length f ≤ 76 → clean f ≡ true → judged_of t ≡ take_next (wanted_of want) f
         → put ≡ cond (leb (len + length f) (length line)) (placed len f line) line → now ≡ set put (len + length f) mark
-        → drawnOf now (record { taken = t; len = len + length f + 1 }) ≡ fieldDrawn f mark (drawnOf line (wanting want len))
-    unfolding drawnOf judgedOf fieldDrawn
+        → drawn_of now (record { taken = t; len = len + length f + 1 }) ≡ field_drawn f mark (drawn_of line (wanting want len))
+    unfolding drawn_of judged_of field_drawn
     field_put t put now space h s c j p q =
         let size : len + length f + 1 ≡ len + length (f ++ (mark ∷ [])) = rw (length-append f (mark ∷ [])) (omega arith) in
         let p' : put ≡ placed len f line = rw (le-leb (len + length f) (length line) (omega arith)) at p in
@@ -94,53 +94,53 @@ module _ (line : Bytes) (len : ℕ) where
 
   module _ (want : Want) (t : Bytes) where
     -- a text likewise
-    pub text-no-room : 640 < len + 77 → drawnOf line refusedDraft ≡ textDrawn t (drawnOf line (wanting want len))
-    unfolding drawnOf judgedOf textDrawn
+    pub text-no-room : 640 < len + 77 → drawn_of line refused_draft ≡ text_drawn t (drawn_of line (wanting want len))
+    unfolding drawn_of judged_of text_drawn
     text-no-room h = rw (lt-leb (len + 77) 640 h)
 
-    pub text-bad : goodText t ≡ false → drawnOf line refusedDraft ≡ textDrawn t (drawnOf line (wanting want len))
-    unfolding drawnOf judgedOf textDrawn
+    pub text-bad : good_text t ≡ false → drawn_of line refused_draft ≡ text_drawn t (drawn_of line (wanting want len))
+    unfolding drawn_of judged_of text_drawn
     text-bad e = rw (e, and-false (leb (len + 77) 640))
 
-    pub text-put : (now : Bytes) → length line ≡ 640 → len + 77 ≤ 640 → goodText t ≡ true → (length t ≡ 0 → ⊥)
+    pub text-put : (now : Bytes) → length line ≡ 640 → len + 77 ≤ 640 → good_text t ≡ true → (length t ≡ 0 → ⊥)
         → now ≡ cond (leb (len + length t) (length line)) (placed len t line) line
-        → drawnOf now (wanting want (len + length t)) ≡ textDrawn t (drawnOf line (wanting want len))
-    unfolding drawnOf judgedOf textDrawn
+        → drawn_of now (wanting want (len + length t)) ≡ text_drawn t (drawn_of line (wanting want len))
+    unfolding drawn_of judged_of text_drawn
     text-put now space h g n p =
         let s = text-short t g in
         rw (le-leb (len + 77) 640 h, g, not-empty t (omega arith), p, le-leb (len + length t) (length line) (omega arith))
 
-    pub text-slash : (now : Bytes) → length line ≡ 640 → len + 77 ≤ 640 → goodText t ≡ true → length t ≡ 0 → now ≡ set line len slash
-        → drawnOf now (wanting want (len + 1)) ≡ textDrawn t (drawnOf line (wanting want len))
-    unfolding drawnOf judgedOf textDrawn
+    pub text-slash : (now : Bytes) → length line ≡ 640 → len + 77 ≤ 640 → good_text t ≡ true → length t ≡ 0 → now ≡ set line len slash
+        → drawn_of now (wanting want (len + 1)) ≡ text_drawn t (drawn_of line (wanting want len))
+    unfolding drawn_of judged_of text_drawn
     text-slash now space h g e p =
         let q : now ≡ placed len (slash ∷ []) line = p ∙ set_split line len slash (omega arith) ∙ rw add-one in
         rw (le-leb (len + 77) 640 h, g, none-empty t e, q)
 
 -- a refused draft stays
 module _ (line : Bytes) (d : Draft) (n : ℕ) (e : d.taken ≡ Refused n) where
-  pub refused-stays : (f : Bytes) (mark : ℕ) → drawnOf line d ≡ fieldDrawn f mark (drawnOf line d)
-  unfolding drawnOf judgedOf fieldDrawn
+  pub refused-stays : (f : Bytes) (mark : ℕ) → drawn_of line d ≡ field_drawn f mark (drawn_of line d)
+  unfolding drawn_of judged_of field_drawn
   refused-stays f mark = rw e
 
-  pub refused-text : (t : Bytes) → drawnOf line d ≡ textDrawn t (drawnOf line d)
-  unfolding drawnOf judgedOf textDrawn
+  pub refused-text : (t : Bytes) → drawn_of line d ≡ text_drawn t (drawn_of line d)
+  unfolding drawn_of judged_of text_drawn
   refused-text t = rw e
 
 -- what is wanted says what a draft says
-pub wanted-is : (line : Bytes) (d : Draft) (want : Want) → d.taken ≡ Next want → drawnOf line d ≡ drawnOf line (wanting want d.len)
-unfolding drawnOf
+pub wanted-is : (line : Bytes) (d : Draft) (want : Want) → d.taken ≡ Next want → drawn_of line d ≡ drawn_of line (wanting want d.len)
+unfolding drawn_of
 wanted-is line d want e = rw e
 
 -- a code in front
 module _ (line : Bytes) (c : Code) (want : Want) where
-  pub begin-put : (bytes now : Bytes) → length line ≡ 640 → bytes ≡ codeBytes c
-      → now ≡ cond (leb (0 + length (take 3 bytes)) (length line)) (placed 0 (take 3 bytes) line) line → drawnOf now (wanting want 3) ≡ codeDrawn c (wantedOf want) line
-  unfolding drawnOf judgedOf
+  pub begin-put : (bytes now : Bytes) → length line ≡ 640 → bytes ≡ code_bytes c
+      → now ≡ cond (leb (0 + length (take 3 bytes)) (length line)) (placed 0 (take 3 bytes) line) line → drawn_of now (wanting want 3) ≡ code_drawn c (wanted_of want) line
+  unfolding drawn_of judged_of
   begin-put bytes now h b p =
       let n = (code-bytes c).size in
-      let all : take 3 bytes ≡ codeBytes c = rw b (take_all 3 (codeBytes c) (omega arith)) in
-      rw (p, all, le-leb (0 + length (codeBytes c)) (length line) (omega arith))
+      let all : take 3 bytes ≡ code_bytes c = rw b (take_all 3 (code_bytes c) (omega arith)) in
+      rw (p, all, le-leb (0 + length (code_bytes c)) (length line) (omega arith))
 
 -- ---- numbers put in a space of their own
 
@@ -151,7 +151,7 @@ module _ {bs before : Bytes} {r : ℕ} {after : Bytes} (p : Put bs before r afte
 pub decimal-short : (n : ℕ) → n < 18_446_744_073_709_551_616 → length (decimal n) ≤ 20
 decimal-short n h = decimal-at-most 20 n (omega arith) (omega arith)
 
-pub total-short : (a : Sum) → a.pluses < 18_446_744_073_709_551_616 → a.minuses < 18_446_744_073_709_551_616 → length (totalBytes a) ≤ 21
+pub total-short : (a : Sum) → a.pluses < 18_446_744_073_709_551_616 → a.minuses < 18_446_744_073_709_551_616 → length (total_bytes a) ≤ 21
 total-short a h g =
     ⊎_elim (λ l. rw (total-below-zero a l) (omega (arith, decimal-short (a.minuses - a.pluses) (omega arith))))
     (λ l. rw (total-from-zero a l) (omega (arith, decimal-short (a.pluses - a.minuses) (omega arith)))) (below-or-from a.pluses a.minuses)

@@ -1,12 +1,12 @@
 // A line in the making: it stands in a space of its own until the call that writes it is accepted.
 ghost use Rattle.std.specs.Prelude.{◌≡◌, cond, [], ◌∷◌, ◌+◌, leb, length, replicate};
-ghost use Rattle.rules.specs.Numbers.{decimal, totalBytes};
-ghost use Rattle.rules.specs.Writer.{placed, goodText, sumGiven, amountBytes, itemCountBytes};
-ghost use Rattle.base_codes.specs.CodeMeaning.{codeMeant};
-ghost use Rattle.base_quantities.specs.QuantityMeanings.{sumMeant};
-ghost use Rattle.read_wanted.specs.Wants.{wantedOf};
-ghost use Rattle.write_line.specs.DraftMeaning.{lineSpace, wanting, amountGiven, itemsGiven};
-ghost use Rattle.write_line.specs.DrawnLine.{drawnOf, codeDrawn, fieldDrawn, textDrawn};
+ghost use Rattle.rules.specs.Numbers.{decimal, total_bytes};
+ghost use Rattle.rules.specs.Writer.{placed, good_text, sum_given, amount_bytes, item_count_bytes};
+ghost use Rattle.base_codes.specs.CodeMeaning.{code_meant};
+ghost use Rattle.base_quantities.specs.QuantityMeanings.{sum_meant};
+ghost use Rattle.read_wanted.specs.Wants.{wanted_of};
+ghost use Rattle.write_line.specs.DraftMeaning.{line_space, wanting, amount_given, items_given};
+ghost use Rattle.write_line.specs.DrawnLine.{drawn_of, code_drawn, field_drawn, text_drawn};
 
 use base_codes::Code;
 use base_limits::LONGEST_NAME;
@@ -67,7 +67,7 @@ pub fn put_at(out: &mut [u8], place: Place, src: &[u8])
 
 // 0 to 76 bytes, none not allowed, no slash first, no trailing blank.
 fn is_good_text(t: &[u8]) -> bool
-    ensures { result ≡ goodText t.now }
+    ensures { result ≡ good_text t.now }
 {
     if LONGEST_NAME < t.len() {
         return false;
@@ -86,7 +86,7 @@ fn is_good_text(t: &[u8]) -> bool
 
 // A line with its code, and this wanted after it.
 pub fn begin(line: &mut [u8; LINE_SPACE], code: Code, want: Want) -> Draft
-    ensures { drawnOf line.new result ≡ codeDrawn (codeMeant code) (wantedOf want) line.old }
+    ensures { drawn_of line.new result ≡ code_drawn (code_meant code) (wanted_of want) line.old }
 {
     let digits = base_codes::digits_of(code);
     let bytes = [digits.0, digits.1, b','];
@@ -99,8 +99,8 @@ pub fn begin(line: &mut [u8; LINE_SPACE], code: Code, want: Want) -> Draft
 
 // A field as the first of what is wanted, and the mark after it.
 fn add_wanted(line: &mut [u8], len: usize, want: Want, f: &[u8], mark: u8) -> Draft
-    requires { length line.old ≡ lineSpace }
-    ensures { drawnOf line.new result ≡ fieldDrawn f.now mark (drawnOf line.old (wanting want len)) }
+    requires { length line.old ≡ line_space }
+    ensures { drawn_of line.new result ≡ field_drawn f.now mark (drawn_of line.old (wanting want len)) }
 {
     let refused = Draft {
         taken: Taken::Refused(WRONG_FIELD_GIVEN),
@@ -125,7 +125,7 @@ fn add_wanted(line: &mut [u8], len: usize, want: Want, f: &[u8], mark: u8) -> Dr
 
 // The line with a field more and the mark after it.
 pub fn add(line: &mut [u8; LINE_SPACE], d: Draft, f: &[u8], mark: u8) -> Draft
-    ensures { drawnOf line.new result ≡ fieldDrawn f.now mark (drawnOf line.old d) }
+    ensures { drawn_of line.new result ≡ field_drawn f.now mark (drawn_of line.old d) }
 {
     let taken = d.taken;
     match taken {
@@ -136,7 +136,7 @@ pub fn add(line: &mut [u8; LINE_SPACE], d: Draft, f: &[u8], mark: u8) -> Draft
 
 // The line with an empty field more.
 pub fn add_empty(line: &mut [u8; LINE_SPACE], d: Draft, mark: u8) -> Draft
-    ensures { drawnOf line.new result ≡ fieldDrawn [] mark (drawnOf line.old d) }
+    ensures { drawn_of line.new result ≡ field_drawn [] mark (drawn_of line.old d) }
 {
     let none = [0u8];
     add(line, d, &none[0..0], mark)
@@ -144,7 +144,7 @@ pub fn add_empty(line: &mut [u8; LINE_SPACE], d: Draft, mark: u8) -> Draft
 
 // The line with version 2, its last field.
 pub fn add_version(line: &mut [u8; LINE_SPACE], d: Draft) -> Draft
-    ensures { drawnOf line.new result ≡ fieldDrawn (50 ∷ []) 47 (drawnOf line.old d) }
+    ensures { drawn_of line.new result ≡ field_drawn (50 ∷ []) 47 (drawn_of line.old d) }
 {
     let two = [b'2'];
     add(line, d, &two[0..1], b'/')
@@ -152,7 +152,7 @@ pub fn add_version(line: &mut [u8; LINE_SPACE], d: Draft) -> Draft
 
 // The line with a sum's number more.
 pub fn add_total(line: &mut [u8; LINE_SPACE], d: Draft, total: Units, mark: u8) -> Draft
-    ensures { drawnOf line.new result ≡ fieldDrawn (totalBytes (sumMeant total)) mark (drawnOf line.old d) }
+    ensures { drawn_of line.new result ≡ field_drawn (total_bytes (sum_meant total)) mark (drawn_of line.old d) }
 {
     let mut space = number_space();
     let k = base_numerals::put_total(&mut space, total);
@@ -161,7 +161,7 @@ pub fn add_total(line: &mut [u8; LINE_SPACE], d: Draft, total: Units, mark: u8) 
 
 // The line with a number more.
 fn add_number(line: &mut [u8; LINE_SPACE], d: Draft, n: u64, mark: u8) -> Draft
-    ensures { drawnOf line.new result ≡ fieldDrawn (decimal n) mark (drawnOf line.old d) }
+    ensures { drawn_of line.new result ≡ field_drawn (decimal n) mark (drawn_of line.old d) }
 {
     let mut space = number_space();
     let k = base_numerals::put_digits(&mut space, n);
@@ -170,21 +170,21 @@ fn add_number(line: &mut [u8; LINE_SPACE], d: Draft, n: u64, mark: u8) -> Draft
 
 // The line with a count of groups or accounts more.
 pub fn add_count(line: &mut [u8; LINE_SPACE], d: Draft, n: Count, mark: u8) -> Draft
-    ensures { drawnOf line.new result ≡ fieldDrawn (decimal n.0) mark (drawnOf line.old d) }
+    ensures { drawn_of line.new result ≡ field_drawn (decimal n.0) mark (drawn_of line.old d) }
 {
     add_number(line, d, n.0, mark)
 }
 
 // The line with a record count more.
 pub fn add_records(line: &mut [u8; LINE_SPACE], d: Draft, n: Records, mark: u8) -> Draft
-    ensures { drawnOf line.new result ≡ fieldDrawn (decimal n.0) mark (drawnOf line.old d) }
+    ensures { drawn_of line.new result ≡ field_drawn (decimal n.0) mark (drawn_of line.old d) }
 {
     add_number(line, d, n.0, mark)
 }
 
 // What an amount or none adds.
 pub fn sum_given(amount: MaybeAmount) -> Units
-    ensures { sumMeant result ≡ sumGiven (amountGiven amount) }
+    ensures { sum_meant result ≡ sum_given (amount_given amount) }
 {
     match amount {
         MaybeAmount::Given(a) => Units::of(a),
@@ -194,7 +194,7 @@ pub fn sum_given(amount: MaybeAmount) -> Units
 
 // The line with an amount more, or with an empty field where there is none.
 pub fn add_amount(line: &mut [u8; LINE_SPACE], d: Draft, amount: MaybeAmount, mark: u8) -> Draft
-    ensures { drawnOf line.new result ≡ fieldDrawn (amountBytes (amountGiven amount)) mark (drawnOf line.old d) }
+    ensures { drawn_of line.new result ≡ field_drawn (amount_bytes (amount_given amount)) mark (drawn_of line.old d) }
 {
     match amount {
         MaybeAmount::Given(a) => add_total(line, d, Units::of(a), mark),
@@ -204,7 +204,7 @@ pub fn add_amount(line: &mut [u8; LINE_SPACE], d: Draft, amount: MaybeAmount, ma
 
 // The line with a number of items more, or with an empty field where there is none.
 pub fn add_items(line: &mut [u8; LINE_SPACE], d: Draft, count: MaybeItems, mark: u8) -> Draft
-    ensures { drawnOf line.new result ≡ fieldDrawn (itemCountBytes (itemsGiven count)) mark (drawnOf line.old d) }
+    ensures { drawn_of line.new result ≡ field_drawn (item_count_bytes (items_given count)) mark (drawn_of line.old d) }
 {
     match count {
         MaybeItems::Given(n) => add_number(line, d, n.0, mark),
@@ -214,8 +214,8 @@ pub fn add_items(line: &mut [u8; LINE_SPACE], d: Draft, count: MaybeItems, mark:
 
 // The text's bytes after the last mark; "/" for an empty one.
 fn put_text(line: &mut [u8], len: usize, want: Want, t: &[u8]) -> Draft
-    requires { length line.old ≡ lineSpace }
-    ensures { drawnOf line.new result ≡ textDrawn t.now (drawnOf line.old (wanting want len)) }
+    requires { length line.old ≡ line_space }
+    ensures { drawn_of line.new result ≡ text_drawn t.now (drawn_of line.old (wanting want len)) }
 {
     let refused = Draft {
         taken: Taken::Refused(WRONG_FIELD_GIVEN),
@@ -243,7 +243,7 @@ fn put_text(line: &mut [u8], len: usize, want: Want, t: &[u8]) -> Draft
 
 // The line with its text.
 pub fn add_text(line: &mut [u8; LINE_SPACE], d: Draft, t: &[u8]) -> Draft
-    ensures { drawnOf line.new result ≡ textDrawn t.now (drawnOf line.old d) }
+    ensures { drawn_of line.new result ≡ text_drawn t.now (drawn_of line.old d) }
 {
     let taken = d.taken;
     match taken {

@@ -6,22 +6,22 @@ use lib.ListN.{length}
 use Rattle.rules.specs.Bytes.{Bytes}
 use Rattle.rules.specs.Lines.{Code}
 use Rattle.rules.specs.Grammar.{Kind}
-use Rattle.write_line.specs.DraftMeaning.{draftOf, addedAll, textAdded}
-use Rattle.write_line.specs.DrawnLine.{drawnOf, codeDrawn, textDrawn}
+use Rattle.write_line.specs.DraftMeaning.{draft_of, added_all, text_added}
+use Rattle.write_line.specs.DrawnLine.{drawn_of, code_drawn, text_drawn}
 use Rattle.write_line.specs.declared.Draft.{Draft}
 use Rattle.write_line.proofs.DrawnLaws.{said, said-is, begun-said, begun-size, all_said, all-size, text-said}
-use Rattle.write_records.specs.RecordLines.{lineIn, lineDrawn}
+use Rattle.write_records.specs.RecordLines.{line_in, line_drawn}
 
 module _ (c : Code) (ks : List Kind) (fs : List Bytes) (last : ℕ) (space : Bytes) (size : length space ≡ 640) where
-  fields-said : said (lineDrawn c ks fs last space) ≡ lineIn c ks fs last
-  fields-said = all_said last fs (codeDrawn c ks space) (begun-size c ks space size) ∙ ap (addedAll fs last) (begun-said c ks space size)
+  fields-said : said (line_drawn c ks fs last space) ≡ line_in c ks fs last
+  fields-said = all_said last fs (code_drawn c ks space) (begun-size c ks space size) ∙ ap (added_all fs last) (begun-said c ks space size)
 
   module _ (now : Bytes) (d : Draft) where
-    pub line-said : drawnOf now d ≡ lineDrawn c ks fs last space → draftOf now d ≡ lineIn c ks fs last
+    pub line-said : drawn_of now d ≡ line_drawn c ks fs last space → draft_of now d ≡ line_in c ks fs last
     line-said e = said-is now d ∙ ap said e ∙ fields-said
 
     -- with a text
-    pub line-text-said : (t : Bytes) → drawnOf now d ≡ textDrawn t (lineDrawn c ks fs last space) → draftOf now d ≡ textAdded t (lineIn c ks fs last)
+    pub line-text-said : (t : Bytes) → drawn_of now d ≡ text_drawn t (line_drawn c ks fs last space) → draft_of now d ≡ text_added t (line_in c ks fs last)
     line-text-said t e =
-        said-is now d ∙ ap said e ∙ text-said (lineDrawn c ks fs last space) (all-size last fs (codeDrawn c ks space) (begun-size c ks space size)) t
-        ∙ ap (textAdded t) fields-said
+        said-is now d ∙ ap said e ∙ text-said (line_drawn c ks fs last space) (all-size last fs (code_drawn c ks space) (begun-size c ks space size)) t
+        ∙ ap (text_added t) fields-said

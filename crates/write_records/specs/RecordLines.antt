@@ -4,14 +4,14 @@ use Rattle.rules.specs.Bytes.{Bytes}
 use Rattle.rules.specs.Outcome.{Outcome}
 use Rattle.rules.specs.Lines.{Code}
 use Rattle.rules.specs.Grammar.{Kind}
-use Rattle.write_line.specs.DraftMeaning.{Sofar, begun, addedAll}
-use Rattle.write_line.specs.DrawnLine.{Drawn, codeDrawn, allDrawn}
+use Rattle.write_line.specs.DraftMeaning.{Sofar, begun, added_all}
+use Rattle.write_line.specs.DrawnLine.{Drawn, code_drawn, all_drawn}
 
--- a code with these kinds wanted, and fields with a comma after each but the last, which has this mark; stands for `kindsAfter` and `body_of` of a line
+-- a code with these kinds wanted, and fields with a comma after each but the last, which has this mark; stands for `kinds_after` and `body_of` of a line
 -- that a slash ends (rules/specs/Writer.antt): joined by `slash-drafts` (write_commit/proofs/LinesCommitted.antt)
-abbrev pub lineIn : Code → List Kind → List Bytes → ℕ → Outcome Sofar
-lineIn c ks fs last = addedAll fs last (begun c ks)
+abbrev pub line_in : Code → List Kind → List Bytes → ℕ → Outcome Sofar
+line_in c ks fs last = added_all fs last (begun c ks)
 
 -- the same with all bytes of its space, which held these before: joined by `line-said` (proofs/LinesSaid.antt)
-abbrev pub lineDrawn : Code → List Kind → List Bytes → ℕ → Bytes → Drawn
-lineDrawn c ks fs last space = allDrawn fs last (codeDrawn c ks space)
+abbrev pub line_drawn : Code → List Kind → List Bytes → ℕ → Bytes → Drawn
+line_drawn c ks fs last space = all_drawn fs last (code_drawn c ks space)

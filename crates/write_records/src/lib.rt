@@ -1,14 +1,14 @@
 // The lines of the writer's calls, drafted: the fields in the order of their record.
 ghost use Rattle.std.specs.Prelude.{◌≡◌, [], ◌∷◌};
-ghost use Rattle.rules.specs.Numbers.{decimal, totalBytes};
+ghost use Rattle.rules.specs.Numbers.{decimal, total_bytes};
 ghost use Rattle.rules.specs.Lines as lines;
-ghost use Rattle.rules.specs.Grammar.{fields_of, furtherType};
-ghost use Rattle.rules.specs.Writer.{amountBytes, itemCountBytes};
-ghost use Rattle.base_codes.specs.CodeMeaning.{codeMeant};
-ghost use Rattle.base_quantities.specs.QuantityMeanings.{sumMeant};
-ghost use Rattle.write_line.specs.DraftMeaning.{amountGiven, itemsGiven};
-ghost use Rattle.write_line.specs.DrawnLine.{drawnOf, textDrawn};
-ghost use Rattle.write_records.specs.RecordLines.{lineDrawn};
+ghost use Rattle.rules.specs.Grammar.{fields_of, further_type};
+ghost use Rattle.rules.specs.Writer.{amount_bytes, item_count_bytes};
+ghost use Rattle.base_codes.specs.CodeMeaning.{code_meant};
+ghost use Rattle.base_quantities.specs.QuantityMeanings.{sum_meant};
+ghost use Rattle.write_line.specs.DraftMeaning.{amount_given, items_given};
+ghost use Rattle.write_line.specs.DrawnLine.{drawn_of, text_drawn};
+ghost use Rattle.write_records.specs.RecordLines.{line_drawn};
 
 use base_codes::Code;
 use base_quantities::{Count, Records, Units};
@@ -25,7 +25,7 @@ pub fn header(
     time: &[u8],
     file_number: &[u8],
 ) -> Draft
-    ensures { drawnOf line.new result ≡ lineDrawn lines.fileHeader (fields_of lines.fileHeader)
+    ensures { drawn_of line.new result ≡ line_drawn lines.file_header (fields_of lines.file_header)
         (sender.now ∷ receiver.now ∷ date.now ∷ time.now ∷ file_number.now ∷ [] ∷ [] ∷ (50 ∷ []) ∷ []) 47 line.old }
 {
     let d = write_line::begin(line, Code::FileHeader, want::first_want(Code::FileHeader));
@@ -50,7 +50,7 @@ pub fn group(
     currency: &[u8],
     modifier: &[u8],
 ) -> Draft
-    ensures { drawnOf line.new result ≡ lineDrawn lines.groupHeader (fields_of lines.groupHeader)
+    ensures { drawn_of line.new result ≡ line_drawn lines.group_header (fields_of lines.group_header)
         (receiver.now ∷ originator.now ∷ status.now ∷ date.now ∷ time.now ∷ currency.now ∷ modifier.now ∷ []) 47 line.old }
 {
     let d = write_line::begin(line, Code::GroupHeader, want::first_want(Code::GroupHeader));
@@ -72,8 +72,8 @@ pub fn account(
     amount: MaybeAmount,
     count: MaybeItems,
 ) -> Draft
-    ensures { drawnOf line.new result ≡ lineDrawn lines.accountHeader (fields_of lines.accountHeader)
-        (number.now ∷ currency.now ∷ type_code.now ∷ amountBytes (amountGiven amount) ∷ itemCountBytes (itemsGiven count) ∷ [] ∷ []) 47 line.old }
+    ensures { drawn_of line.new result ≡ line_drawn lines.account_header (fields_of lines.account_header)
+        (number.now ∷ currency.now ∷ type_code.now ∷ amount_bytes (amount_given amount) ∷ item_count_bytes (items_given count) ∷ [] ∷ []) 47 line.old }
 {
     let d = write_line::begin(
         line,
@@ -95,8 +95,8 @@ pub fn item(
     amount: MaybeAmount,
     count: MaybeItems,
 ) -> Draft
-    ensures { drawnOf line.new result ≡ lineDrawn lines.continuation (furtherType ∷ [])
-        (type_code.now ∷ amountBytes (amountGiven amount) ∷ itemCountBytes (itemsGiven count) ∷ [] ∷ []) 47 line.old }
+    ensures { drawn_of line.new result ≡ line_drawn lines.continuation (further_type ∷ [])
+        (type_code.now ∷ amount_bytes (amount_given amount) ∷ item_count_bytes (items_given count) ∷ [] ∷ []) 47 line.old }
 {
     let d = write_line::begin(line, Code::Continuation, Want::FurtherType);
     let d = write_line::add(line, d, type_code, b',');
@@ -114,8 +114,8 @@ pub fn detail(
     customer_reference: &[u8],
     text: &[u8],
 ) -> Draft
-    ensures { drawnOf line.new result ≡ textDrawn text.now (lineDrawn lines.detail (fields_of lines.detail)
-        (type_code.now ∷ amountBytes (amountGiven amount) ∷ [] ∷ bank_reference.now ∷ customer_reference.now ∷ []) 44 line.old) }
+    ensures { drawn_of line.new result ≡ text_drawn text.now (line_drawn lines.detail (fields_of lines.detail)
+        (type_code.now ∷ amount_bytes (amount_given amount) ∷ [] ∷ bank_reference.now ∷ customer_reference.now ∷ []) 44 line.old) }
 {
     let d = write_line::begin(line, Code::Detail, want::first_want(Code::Detail));
     let d = write_line::add(line, d, type_code, b',');
@@ -128,7 +128,7 @@ pub fn detail(
 
 // The line 49: total and records.
 pub fn account_end(line: &mut [u8; LINE_SPACE], total: Units, records: Records) -> Draft
-    ensures { drawnOf line.new result ≡ lineDrawn lines.accountTrailer (fields_of lines.accountTrailer) (totalBytes (sumMeant total) ∷ decimal records.0 ∷ []) 47 line.old }
+    ensures { drawn_of line.new result ≡ line_drawn lines.account_trailer (fields_of lines.account_trailer) (total_bytes (sum_meant total) ∷ decimal records.0 ∷ []) 47 line.old }
 {
     let d = write_line::begin(
         line,
@@ -147,7 +147,7 @@ pub fn trailer(
     count: Count,
     records: Records,
 ) -> Draft
-    ensures { drawnOf line.new result ≡ lineDrawn (codeMeant code) (fields_of (codeMeant code)) (totalBytes (sumMeant total) ∷ decimal count.0 ∷ decimal records.0 ∷ []) 47 line.old }
+    ensures { drawn_of line.new result ≡ line_drawn (code_meant code) (fields_of (code_meant code)) (total_bytes (sum_meant total) ∷ decimal count.0 ∷ decimal records.0 ∷ []) 47 line.old }
 {
     let d = write_line::begin(line, code, want::first_want(code));
     let d = write_line::add_total(line, d, total, b',');

@@ -5,12 +5,12 @@ use Prim.Native.Nat.{ℕ, ◌+◌, ◌-◌, ◌≤◌, ◌<◌}
 use native.Mathlib.Omega.{arith}
 use lib.Dec.{leb}
 use borrow.Author.Tests.{le-leb, lt-leb, leb-true, leb-false}
-use Rattle.rules.specs.Bytes.{sameBytes}
-use Rattle.rules.specs.Lines.{Code, fileHeader, groupHeader, accountHeader, detail, accountTrailer, groupTrailer, fileTrailer, continuation, sameCode}
+use Rattle.rules.specs.Bytes.{same_bytes}
+use Rattle.rules.specs.Lines.{Code, file_header, group_header, account_header, detail, account_trailer, group_trailer, file_trailer, continuation, same_code}
 use Rattle.rules.specs.Limits.{most}
 use Rattle.rules.specs.Numbers.{magnitudes}
 use Rattle.rules.specs.Order.{among}
-use Rattle.rules.specs.Writer.{Writer, Phase, counted, expectedIn, in_turn}
+use Rattle.rules.specs.Writer.{Writer, Phase, counted, expected_in, in_turn}
 use Rattle.rules.proofs.Tests.{Known, holds, fails, known}
 
 -- ---- a chain of tests
@@ -26,20 +26,20 @@ module _ (a r : Bool) where
 
 -- what is left to test of a sound state, from each test on
 module _ (w : Writer) where
-  abbrev pub groupCounts : Bool
-  groupCounts = counted w.size w.group && counted w.size w.account
+  abbrev pub group_counts : Bool
+  group_counts = counted w.size w.group && counted w.size w.account
 
-  abbrev pub fileCounts : Bool
-  fileCounts = counted w.size w.file && groupCounts
+  abbrev pub file_counts : Bool
+  file_counts = counted w.size w.file && group_counts
 
-  abbrev pub accountSum : Bool
-  accountSum = leb (magnitudes w.account.sum) (magnitudes w.file.sum) && fileCounts
+  abbrev pub account_sum : Bool
+  account_sum = leb (magnitudes w.account.sum) (magnitudes w.file.sum) && file_counts
 
-  abbrev pub groupSum : Bool
-  groupSum = leb (magnitudes w.group.sum) (magnitudes w.file.sum) && accountSum
+  abbrev pub group_sum : Bool
+  group_sum = leb (magnitudes w.group.sum) (magnitudes w.file.sum) && account_sum
 
-  abbrev pub fileSum : Bool
-  fileSum = leb (magnitudes w.file.sum) most && groupSum
+  abbrev pub file_sum : Bool
+  file_sum = leb (magnitudes w.file.sum) most && group_sum
 
 -- magnitudes against a bound, by subtraction
 module _ (a b n : ℕ) where
@@ -56,33 +56,33 @@ module _ (a b n : ℕ) where
 -- ---- turns
 
 -- a line of any code but 88 is in turn where its code is expected
-pub line-turn : (c : Code) (p : Phase) (items : Bool) → sameCode c continuation ≡ false → among c (expectedIn p) ≡ in_turn c p items
-unfolding sameBytes
-line-turn fileHeader p items h = refl
-line-turn groupHeader p items h = refl
-line-turn accountHeader p items h = refl
+pub line-turn : (c : Code) (p : Phase) (items : Bool) → same_code c continuation ≡ false → among c (expected_in p) ≡ in_turn c p items
+unfolding same_bytes
+line-turn file_header p items h = refl
+line-turn group_header p items h = refl
+line-turn account_header p items h = refl
 line-turn detail p items h = refl
-line-turn accountTrailer p items h = refl
-line-turn groupTrailer p items h = refl
-line-turn fileTrailer p items h = refl
+line-turn account_trailer p items h = refl
+line-turn group_trailer p items h = refl
+line-turn file_trailer p items h = refl
 line-turn continuation p items h = absurd (false≢true (sym h))
 
 -- a further item is where a detail is expected and items may come
-item-turn : (c : Code) (p : Phase) (items : Bool) → sameCode c continuation ≡ true → (among detail (expectedIn p) && items) ≡ in_turn c p items
-unfolding sameBytes
-item-turn fileHeader p items h = absurd (false≢true h)
-item-turn groupHeader p items h = absurd (false≢true h)
-item-turn accountHeader p items h = absurd (false≢true h)
+item-turn : (c : Code) (p : Phase) (items : Bool) → same_code c continuation ≡ true → (among detail (expected_in p) && items) ≡ in_turn c p items
+unfolding same_bytes
+item-turn file_header p items h = absurd (false≢true h)
+item-turn group_header p items h = absurd (false≢true h)
+item-turn account_header p items h = absurd (false≢true h)
 item-turn detail p items h = absurd (false≢true h)
-item-turn accountTrailer p items h = absurd (false≢true h)
-item-turn groupTrailer p items h = absurd (false≢true h)
-item-turn fileTrailer p items h = absurd (false≢true h)
+item-turn account_trailer p items h = absurd (false≢true h)
+item-turn group_trailer p items h = absurd (false≢true h)
+item-turn file_trailer p items h = absurd (false≢true h)
 item-turn continuation p items h = refl
 
-pub no-item-turn : (c : Code) (p : Phase) (items : Bool) → sameCode c continuation ≡ true → items ≡ false → false ≡ in_turn c p items
+pub no-item-turn : (c : Code) (p : Phase) (items : Bool) → same_code c continuation ≡ true → items ≡ false → false ≡ in_turn c p items
 no-item-turn c p true h e = absurd (false≢true (sym e))
-no-item-turn c p false h e = sym (and-false (among detail (expectedIn p))) ∙ item-turn c p false h
+no-item-turn c p false h e = sym (and-false (among detail (expected_in p))) ∙ item-turn c p false h
 
-pub further-turn : (c : Code) (p : Phase) (items : Bool) → sameCode c continuation ≡ true → items ≡ true → among detail (expectedIn p) ≡ in_turn c p items
-further-turn c p true h e = sym (and-true (among detail (expectedIn p))) ∙ item-turn c p true h
+pub further-turn : (c : Code) (p : Phase) (items : Bool) → same_code c continuation ≡ true → items ≡ true → among detail (expected_in p) ≡ in_turn c p items
+further-turn c p true h e = sym (and-true (among detail (expected_in p))) ∙ item-turn c p true h
 further-turn c p false h e = absurd (false≢true e)

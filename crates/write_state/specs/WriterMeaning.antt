@@ -1,32 +1,32 @@
 -- The states and answers of the code as those of the rules. Assumes nothing.
 use Rattle.rules.specs.Bytes.{Bytes}
 use Rattle.rules.specs.Writer as rules
-use Rattle.base_refusals.specs.RefusalMeaning.{refusalMeant}
-use Rattle.base_totals.specs.SummaryMeaning.{summaryMeant}
+use Rattle.base_refusals.specs.RefusalMeaning.{refusal_meant}
+use Rattle.base_totals.specs.SummaryMeaning.{summary_meant}
 use Rattle.write_state.specs.declared.Phase.{Phase}
 use Rattle.write_state.specs.declared.Phase.TheVariants as phases
 use Rattle.write_state.specs.declared.Writer.{Writer}
 use Rattle.write_state.specs.declared.Written.{Written}
 
-abbrev pub phaseMeant : Phase → rules.Phase
-phaseMeant phases.Fresh = rules.fresh
-phaseMeant phases.BetweenGroups = rules.betweenGroups
-phaseMeant phases.InGroup = rules.inGroup
-phaseMeant phases.InAccount = rules.inAccount
-phaseMeant phases.BetweenAccounts = rules.betweenAccounts
-phaseMeant phases.Finished = rules.finished
+abbrev pub phase_meant : Phase → rules.Phase
+phase_meant phases.Fresh = rules.fresh
+phase_meant phases.BetweenGroups = rules.between_groups
+phase_meant phases.InGroup = rules.in_group
+phase_meant phases.InAccount = rules.in_account
+phase_meant phases.BetweenAccounts = rules.between_accounts
+phase_meant phases.Finished = rules.finished
 
-abbrev pub writerMeant : Writer → rules.Writer
-writerMeant w =
+abbrev pub writer_meant : Writer → rules.Writer
+writer_meant w =
     record {
-      phase = phaseMeant w.phase;
+      phase = phase_meant w.phase;
       items = w.items;
       size = w.size.0;
-      file = summaryMeant w.file;
-      group = summaryMeant w.group;
-      account = summaryMeant w.account;
+      file = summary_meant w.file;
+      group = summary_meant w.group;
+      account = summary_meant w.account;
     }
 
 -- an answer with the output slice as it is then
-abbrev pub writtenMeant : Written → Bytes → rules.Written
-writtenMeant r out = record { refusal = refusalMeant r.refusal; len = r.length; writer = writerMeant r.writer; output = out }
+abbrev pub written_meant : Written → Bytes → rules.Written
+written_meant r out = record { refusal = refusal_meant r.refusal; len = r.length; writer = writer_meant r.writer; output = out }

@@ -2,12 +2,12 @@
 // which line is in turn.
 ghost use Rattle.std.specs.Prelude.{◌≡◌, leb};
 ghost use Rattle.rules.specs.Numbers.{magnitudes};
-ghost use Rattle.rules.specs.Writer.{freshWriter, counted, sound, expectedIn, in_turn, phaseAfter};
-ghost use Rattle.base_codes.specs.CodeMeaning.{codeMeant};
-ghost use Rattle.base_quantities.specs.QuantityMeanings.{sumMeant};
-ghost use Rattle.base_totals.specs.SummaryMeaning.{summaryMeant};
-ghost use Rattle.read_order.specs.ExpectedCodes.{expectedMeant};
-ghost use Rattle.write_state.specs.WriterMeaning.{phaseMeant, writerMeant};
+ghost use Rattle.rules.specs.Writer.{fresh_writer, counted, sound, expected_in, in_turn, phase_after};
+ghost use Rattle.base_codes.specs.CodeMeaning.{code_meant};
+ghost use Rattle.base_quantities.specs.QuantityMeanings.{sum_meant};
+ghost use Rattle.base_totals.specs.SummaryMeaning.{summary_meant};
+ghost use Rattle.read_order.specs.ExpectedCodes.{expected_meant};
+ghost use Rattle.write_state.specs.WriterMeaning.{phase_meant, writer_meant};
 
 use base_codes::Code;
 use base_limits::{LONGEST_FILE, MOST};
@@ -49,7 +49,7 @@ pub struct Written {
 impl Writer {
     // A writer that has written nothing.
     pub fn new() -> Writer
-        ensures { writerMeant result ≡ freshWriter }
+        ensures { writer_meant result ≡ fresh_writer }
     {
         let none = base_totals::no_summary();
         Writer {
@@ -67,7 +67,7 @@ impl Writer {
 
 // No count is larger than the bytes so far are many.
 fn counts_within(s: Summary, size: Place) -> bool
-    ensures { result ≡ counted size.0 (summaryMeant s) }
+    ensures { result ≡ counted size.0 (summary_meant s) }
 {
     let n = size.0 as u64;
     let groups = s.groups;
@@ -88,7 +88,7 @@ fn counts_within(s: Summary, size: Place) -> bool
 
 // The magnitudes of a sum add up to at most this one.
 fn sum_within(u: Units, most: Magnitude) -> bool
-    ensures { result ≡ leb (magnitudes (sumMeant u)) most.0 }
+    ensures { result ≡ leb (magnitudes (sum_meant u)) most.0 }
 {
     let n = most.0;
     if n < u.0 {
@@ -99,7 +99,7 @@ fn sum_within(u: Units, most: Magnitude) -> bool
 
 // The state's numbers are ones that calls can have made.
 pub fn is_sound(w: Writer) -> bool
-    ensures { result ≡ sound (writerMeant w) }
+    ensures { result ≡ sound (writer_meant w) }
 {
     let size = w.size;
     let f = w.file;
@@ -132,7 +132,7 @@ pub fn is_sound(w: Writer) -> bool
 
 // The codes that may come in this phase: what the reader lets follow the line written last.
 fn expected_in(phase: Phase) -> Expected
-    ensures { expectedMeant result ≡ expectedIn (phaseMeant phase) }
+    ensures { expected_meant result ≡ expected_in (phase_meant phase) }
 {
     match phase {
         Phase::Fresh => Expected::One(Code::FileHeader),
@@ -146,7 +146,7 @@ fn expected_in(phase: Phase) -> Expected
 
 // A line of this code may come in this phase; a further item where a detail may, and only if items is true.
 pub fn in_turn(code: Code, phase: Phase, items: bool) -> bool
-    ensures { result ≡ in_turn (codeMeant code) (phaseMeant phase) items }
+    ensures { result ≡ in_turn (code_meant code) (phase_meant phase) items }
 {
     let expected = expected_in(phase);
     if !base_codes::same_code(code, Code::Continuation) {
@@ -160,7 +160,7 @@ pub fn in_turn(code: Code, phase: Phase, items: bool) -> bool
 
 // The phase after a line of this code.
 pub fn phase_after(code: Code) -> Phase
-    ensures { phaseMeant result ≡ phaseAfter (codeMeant code) }
+    ensures { phase_meant result ≡ phase_after (code_meant code) }
 {
     match code {
         Code::FileHeader => Phase::BetweenGroups,

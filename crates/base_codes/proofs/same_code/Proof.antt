@@ -1,6 +1,6 @@
 -- `base_codes::same_code` meets its contract. Assumes nothing.
 use borrow.Author.Rules.{rules}
-use Rattle.base_codes.specs.CodeMeaning.{codeMeant}
+use Rattle.base_codes.specs.CodeMeaning.{code_meant}
 use Rattle.base_codes.proofs.CodeLaws.{same_number}
 use Rattle.base_codes.proofs.same_code.Statement.{statement}
 use Rattle.base_codes.proofs.same_code.Tie as tie
@@ -8,7 +8,7 @@ use Rattle.base_codes.proofs.same_code.Tie as tie
 returns : tie.Need-returns
 returns c =
     let a = c.before.before.args in
-    rw (c.before.number_of.ensures, c.number-of2.ensures) (same_number (codeMeant a.a) (codeMeant a.b))
+    rw (c.before.number_of.ensures, c.number-of2.ensures) (same_number (code_meant a.a) (code_meant a.b))
 
 pub same-code-spec : {M : Type 1} → statement M
 same-code-spec = tie.close (tie.spec (λ c κs. search rules) (λ c κs. search rules) returns)

@@ -2,7 +2,7 @@
 use Rattle.std.proofs.Common.{◌≡◌, ℕ, zero, suc, ◌+◌, ◌-◌, ◌%◌, ◌<◌, ◌≤◌, true, false, [], ◌∷◌, ◌++◌, length, take, drop, replicate, sym, refl, ap, ◌∙◌, ⊎_elim, zero-le, arith, take-append-drop, rules}
 use native.Mathlib.Nat.{one-le-pow}
 use Rattle.rules.specs.Bytes.{Bytes, all, between}
-use Rattle.rules.specs.Numbers.{isDigit, number}
+use Rattle.rules.specs.Numbers.{is_digit, number}
 use Rattle.base_digits.proofs.DigitTests.{below-or-from, and_left, and_right, below, above, at_least, at_most}
 use Rattle.base_digits.proofs.DigitStrings.{number-zeros, all_append}
 use Rattle.base_digits.proofs.ReadingLaws.{Reading, start, turn, bounded, value-long, value-bad, value_read}
@@ -22,7 +22,7 @@ zeros-are (suc k) (x ∷ xs) h e =
     rw (x-is, zeros-are k xs (omega arith) (and_right (between 48 48 x) (all (between 48 48) (take k xs)) e))
 
 -- zeros are digits
-zeros-digits : (k : ℕ) → all isDigit (replicate k 48) ≡ true
+zeros-digits : (k : ℕ) → all is_digit (replicate k 48) ≡ true
 unfolding all
 zeros-digits zero = refl
 zeros-digits (suc k) = zeros-digits k
@@ -35,13 +35,13 @@ passed k s h e =
       inside = h;
       small = one-le-pow k 10 (omega arith);
       value = sym (number-zeros k (drop k s)) ∙ ap number cut;
-      digits = sym (rw (zeros-digits k) at (all_append isDigit (replicate k 48) (drop k s))) ∙ ap (all isDigit) cut;
+      digits = sym (rw (zeros-digits k) at (all_append is_digit (replicate k 48) (drop k s))) ∙ ap (all is_digit) cut;
     }
 
 -- ---- one byte, less 48 and wrapped
 
 -- over 9: it is no digit
-no_digit : (b d : ℕ) → (d + 48) % 256 ≡ b → d < 256 → 9 < d → isDigit b ≡ false
+no_digit : (b d : ℕ) → (d + 48) % 256 ≡ b → d < 256 → 9 < d → is_digit b ≡ false
 no_digit b d e h g = ⊎_elim (below 48 57 b) (λ from. above 48 57 b (omega arith)) (below-or-from b 48)
 
 -- else it is that digit

@@ -1,6 +1,6 @@
 -- `put_total` meets its contract. Assumes nothing.
 use borrow.Author.Rules.{rules}
-use Rattle.base_quantities.specs.QuantityMeanings.{sumMeant}
+use Rattle.base_quantities.specs.QuantityMeanings.{sum_meant}
 use Rattle.base_digits.proofs.TotalStrings.{total-below-zero, total-from-zero}
 use Rattle.base_numerals.proofs.put_total.Statement.{statement}
 use Rattle.base_numerals.proofs.put_total.Tie as tie
@@ -8,12 +8,12 @@ use Rattle.base_numerals.proofs.put_total.Tie as tie
 returns : tie.Need-returns
 returns c =
     let t = c.before.before.before.before in
-    rw (total-below-zero (sumMeant t.before.before.args.total) t.if1.true) c.before.before.put-digits-after.ensures
+    rw (total-below-zero (sum_meant t.before.before.args.total) t.if1.true) c.before.before.put-digits-after.ensures
 
 returns-2 : tie.Need-returns-2
 returns-2 c =
     let t = c.before.before.before.before in
-    rw (total-from-zero (sumMeant t.before.before.args.total) t.if1.false) c.before.before.put-digits.ensures
+    rw (total-from-zero (sum_meant t.before.before.args.total) t.if1.false) c.before.before.put-digits.ensures
 
 pub put-total-spec : {M : Type 1} → statement M
 put-total-spec =

@@ -3,14 +3,14 @@ use Prim.Native.Nat.{◌-◌, ◌≤◌}
 use native.Mathlib.Omega.{arith}
 use mathlib.Core.Path.{◌≡◌, sym, ◌∙◌}
 use lib.ListN.{length, drop}
-use Rattle.rules.specs.Bytes.{sameBytes}
+use Rattle.rules.specs.Bytes.{same_bytes}
 use Rattle.base_slices.proofs.CompareLaws.{other-lengths, same_end, same-go, same-no}
 use borrow.Author.Rules.{rules}
 use Rattle.base_slices.proofs.same_bytes.Statement.{statement}
 use Rattle.base_slices.proofs.same_bytes.Tie as tie
 
 abbrev invariant-loop : tie.invariant-loop
-invariant-loop a b i₀ i = (i ≤ length a) × (length a ≡ length b) × (sameBytes a b ≡ sameBytes (drop i a) (drop i b))
+invariant-loop a b i₀ i = (i ≤ length a) × (length a ≡ length b) × (same_bytes a b ≡ same_bytes (drop i a) (drop i b))
 
 abbrev decreases-loop : tie.decreases-loop
 decreases-loop a b i₀ i = length a - i

@@ -2,14 +2,14 @@
 use mathlib.Core.Path.{ap, ◌∙◌}
 use borrow.Author.Rules.{rules}
 use Rattle.c_figures.specs.declared.Bai2Answer.{Bai2Answer}
-use Rattle.c_figures.specs.CFigures.{answerFigures}
+use Rattle.c_figures.specs.CFigures.{answer_figures}
 use Rattle.c_blocks.proofs.bai2_blocks_to_lines.Statement.{statement}
 use Rattle.c_blocks.proofs.bai2_blocks_to_lines.Tie as tie
 
 returns : tie.Need-returns
 returns c =
     let call = c.before.before.before.blocks-to-lines in
-    ap (λ (a : Bai2Answer). answerFigures a call.new.1.0) c.answer-of.ensures ∙ call.ensures
+    ap (λ (a : Bai2Answer). answer_figures a call.new.1.0) c.answer-of.ensures ∙ call.ensures
 
 pub bai2-blocks-to-lines-spec : {M : Type 1} → statement M
 bai2-blocks-to-lines-spec = tie.close (tie.spec (λ c κs. search rules) (λ c κs. search rules) (λ c. search rules) returns)

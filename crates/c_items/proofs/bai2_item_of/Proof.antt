@@ -1,14 +1,14 @@
 -- `c_items::bai2_item_of` meets its contract: what `part_items` answers, in figures. Assumes nothing.
 use borrow.Author.Rules.{rules}
 use mathlib.Core.Path.{ap}
-use Rattle.c_items.specs.ItemFigures.{itemFigures}
+use Rattle.c_items.specs.ItemFigures.{item_figures}
 use Rattle.c_items.proofs.bai2_item_of.Statement.{statement}
 use Rattle.c_items.proofs.bai2_item_of.Tie as tie
 
 returns : tie.Need-returns
 returns c =
     let f = c.before.before in
-    rw (f.form_of.ensures, f.before.magnitude-of.ensures, c.before.is-given.ensures, c.count-or-zero.ensures) (ap itemFigures f.before.before.before.before.item.ensures)
+    rw (f.form_of.ensures, f.before.magnitude-of.ensures, c.before.is-given.ensures, c.count-or-zero.ensures) (ap item_figures f.before.before.before.before.item.ensures)
 
 pub bai2-item-of-spec : {M : Type 1} → statement M
 bai2-item-of-spec = tie.close (tie.spec (λ c κs. search rules) (λ c κs. search rules) (λ c κs. search rules) (λ c κs. search rules) (λ c κs. search rules) returns)

@@ -1,16 +1,16 @@
 -- `numbers_after` meets its contract: by whether the call was refused. Assumes nothing.
 use borrow.Author.Rules.{rules}
 use borrow.Author.Tests.{ne_eqb}
-use Rattle.c_writer.specs.WriterFigures.{numbersAfter}
+use Rattle.c_writer.specs.WriterFigures.{numbers_after}
 use Rattle.c_writer.proofs.numbers_after.Statement.{statement}
 use Rattle.c_writer.proofs.numbers_after.Tie as tie
 
 returns : tie.Need-returns
-unfolding numbersAfter
+unfolding numbers_after
 returns c = rw (ne_eqb c.before.before.before.args.r.refusal.number 0 c.if1.true)
 
 returns-2 : tie.Need-returns-2
-unfolding numbersAfter
+unfolding numbers_after
 returns-2 c = rw (c.before.if1.false, c.Numbers-of.ensures)
 
 pub numbers-after-spec : {M : Type 1} → statement M

@@ -1,31 +1,31 @@
 -- `phase_of` meets its contract: a phase for each number. Assumes nothing.
 use borrow.Author.Tests.{ne_eqb}
-use Rattle.c_writer.specs.WriterFigures.{phaseOf}
+use Rattle.c_writer.specs.WriterFigures.{phase_of}
 use Rattle.c_writer.proofs.phase_of.Statement.{statement}
 use Rattle.c_writer.proofs.phase_of.Tie as tie
 
 returns : tie.Need-returns
-unfolding phaseOf
+unfolding phase_of
 returns c = rw c.match.keys1
 
 returns-2 : tie.Need-returns-2
-unfolding phaseOf
+unfolding phase_of
 returns-2 c = rw c.match.keys2
 
 returns-3 : tie.Need-returns-3
-unfolding phaseOf
+unfolding phase_of
 returns-3 c = rw c.match.keys3
 
 returns-4 : tie.Need-returns-4
-unfolding phaseOf
+unfolding phase_of
 returns-4 c = rw c.match.keys4
 
 returns-5 : tie.Need-returns-5
-unfolding phaseOf
+unfolding phase_of
 returns-5 c = rw c.match.keys5
 
 returns-6 : tie.Need-returns-6
-unfolding phaseOf
+unfolding phase_of
 returns-6 c =
     let n = c.before.args.n in
     let none = c.match.rest in

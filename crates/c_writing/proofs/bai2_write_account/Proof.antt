@@ -5,9 +5,9 @@ use mathlib.Core.Option.{Option}
 use borrow.Author.Rules.{rules}
 use lib.Dec.{eqb}
 use Rattle.rules.specs.Writer as rules
-use Rattle.write_state.specs.WriterMeaning.{writerMeant, writtenMeant}
-use Rattle.write_calls.specs.ItemMeaning.{itemGiven}
-use Rattle.c_writer.specs.WriterFigures.{item_of, itemAsked}
+use Rattle.write_state.specs.WriterMeaning.{writer_meant, written_meant}
+use Rattle.write_calls.specs.ItemMeaning.{item_given}
+use Rattle.c_writer.specs.WriterFigures.{item_of, item_asked}
 use Rattle.c_writing.proofs.WriterReplies.{replies, written_as, amount-is, item-or-none}
 use Rattle.c_writing.proofs.bai2_write_account.Statement.{statement}
 use Rattle.c_writing.proofs.bai2_write_account.Tie as tie
@@ -19,10 +19,10 @@ returns c =
     let r = c.before.before.before.account in
     let n = c.before.before.before.before.before.items-asked in
     let a = c.before.before.before.before.before.before.amount-asked in
-    replies s.args.writer w.result r.result c.answered.result (rules.writeAccount s.args.account.now s.args.currency.now (itemAsked s.args.item-given (item_of s.args.type-code.now s.args.amount-given s.args.amount s.args.count-given s.args.count))) s.args.out.now r.new.1.1.1.1.1.1.1.0 w.ensures
-    (written_as (writerMeant w.result) s.args.out.now (rules.writeAccount s.args.account.now s.args.currency.now (itemGiven (not (eqb s.args.item-given 0)) s.args.type-code.now a.result n.result))
-    (rules.writeAccount s.args.account.now s.args.currency.now (itemAsked s.args.item-given (item_of s.args.type-code.now s.args.amount-given s.args.amount s.args.count-given s.args.count))) (writtenMeant r.result r.new.1.1.1.1.1.1.1.0) r.ensures
-    (ap (λ (i : Option rules.Item). rules.writeAccount s.args.account.now s.args.currency.now i) (item-or-none s.args.type-code.now s.args.amount-given s.args.count-given s.args.count s.args.amount a.result n.result (amount-is s.args.amount-given s.args.amount a.result s.ranges.amount a.ensures) n.ensures s.args.item-given)))
+    replies s.args.writer w.result r.result c.answered.result (rules.write_account s.args.account.now s.args.currency.now (item_asked s.args.item-given (item_of s.args.type-code.now s.args.amount-given s.args.amount s.args.count-given s.args.count))) s.args.out.now r.new.1.1.1.1.1.1.1.0 w.ensures
+    (written_as (writer_meant w.result) s.args.out.now (rules.write_account s.args.account.now s.args.currency.now (item_given (not (eqb s.args.item-given 0)) s.args.type-code.now a.result n.result))
+    (rules.write_account s.args.account.now s.args.currency.now (item_asked s.args.item-given (item_of s.args.type-code.now s.args.amount-given s.args.amount s.args.count-given s.args.count))) (written_meant r.result r.new.1.1.1.1.1.1.1.0) r.ensures
+    (ap (λ (i : Option rules.Item). rules.write_account s.args.account.now s.args.currency.now i) (item-or-none s.args.type-code.now s.args.amount-given s.args.count-given s.args.count s.args.amount a.result n.result (amount-is s.args.amount-given s.args.amount a.result s.ranges.amount a.ensures) n.ensures s.args.item-given)))
     c.answered.ensures
 
 pub bai2-write-account-spec : {M : Type 1} → statement M

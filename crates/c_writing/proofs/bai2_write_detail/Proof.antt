@@ -4,9 +4,9 @@ use mathlib.Core.Option.{Option}
 use borrow.Author.Rules.{rules}
 use Rattle.rules.specs.Numbers.{Signed}
 use Rattle.rules.specs.Writer as rules
-use Rattle.write_line.specs.DraftMeaning.{amountGiven}
-use Rattle.write_state.specs.WriterMeaning.{writerMeant, writtenMeant}
-use Rattle.c_writer.specs.WriterFigures.{amountAsked}
+use Rattle.write_line.specs.DraftMeaning.{amount_given}
+use Rattle.write_state.specs.WriterMeaning.{writer_meant, written_meant}
+use Rattle.c_writer.specs.WriterFigures.{amount_asked}
 use Rattle.c_writing.proofs.WriterReplies.{replies, written_as, amount-is}
 use Rattle.c_writing.proofs.bai2_write_detail.Statement.{statement}
 use Rattle.c_writing.proofs.bai2_write_detail.Tie as tie
@@ -17,10 +17,10 @@ returns c =
     let w = c.before.before.before.before.before.before.state-of in
     let r = c.before.before.before.detail in
     let a = c.before.before.before.before.before.amount-asked in
-    replies s.args.writer w.result r.result c.answered.result (rules.writeDetail s.args.type-code.now (amountAsked s.args.amount-given s.args.amount) s.args.bank-reference.now s.args.customer-reference.now s.args.text.now) s.args.out.now r.new.1.1.1.1.1.1.0 w.ensures
-    (written_as (writerMeant w.result) s.args.out.now (rules.writeDetail s.args.type-code.now (amountGiven a.result) s.args.bank-reference.now s.args.customer-reference.now s.args.text.now)
-    (rules.writeDetail s.args.type-code.now (amountAsked s.args.amount-given s.args.amount) s.args.bank-reference.now s.args.customer-reference.now s.args.text.now) (writtenMeant r.result r.new.1.1.1.1.1.1.0) r.ensures
-    (ap (λ (x : Option Signed). rules.writeDetail s.args.type-code.now x s.args.bank-reference.now s.args.customer-reference.now s.args.text.now) (amount-is s.args.amount-given s.args.amount a.result s.ranges.amount a.ensures)))
+    replies s.args.writer w.result r.result c.answered.result (rules.write_detail s.args.type-code.now (amount_asked s.args.amount-given s.args.amount) s.args.bank-reference.now s.args.customer-reference.now s.args.text.now) s.args.out.now r.new.1.1.1.1.1.1.0 w.ensures
+    (written_as (writer_meant w.result) s.args.out.now (rules.write_detail s.args.type-code.now (amount_given a.result) s.args.bank-reference.now s.args.customer-reference.now s.args.text.now)
+    (rules.write_detail s.args.type-code.now (amount_asked s.args.amount-given s.args.amount) s.args.bank-reference.now s.args.customer-reference.now s.args.text.now) (written_meant r.result r.new.1.1.1.1.1.1.0) r.ensures
+    (ap (λ (x : Option Signed). rules.write_detail s.args.type-code.now x s.args.bank-reference.now s.args.customer-reference.now s.args.text.now) (amount-is s.args.amount-given s.args.amount a.result s.ranges.amount a.ensures)))
     c.answered.ensures
 
 pub bai2-write-detail-spec : {M : Type 1} → statement M

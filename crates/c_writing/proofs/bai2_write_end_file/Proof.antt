@@ -10,7 +10,7 @@ returns c =
     let s = c.before.before.before.before.before.before.before in
     let w = c.before.before.before.before.before.state-of in
     let r = c.before.before.before.end-file in
-    replies s.args.writer w.result r.result c.answered.result rules.endFile s.args.out.now r.new.1.0 w.ensures r.ensures c.answered.ensures
+    replies s.args.writer w.result r.result c.answered.result rules.end_file s.args.out.now r.new.1.0 w.ensures r.ensures c.answered.ensures
 
 pub bai2-write-end-file-spec : {M : Type 1} → statement M
 bai2-write-end-file-spec =

@@ -2,8 +2,8 @@
 use mathlib.Core.Path.{ap}
 use borrow.Author.Rules.{rules}
 use Rattle.rules.specs.Writer as rules
-use Rattle.write_state.specs.WriterMeaning.{writerMeant, writtenMeant}
-use Rattle.write_calls.specs.ItemMeaning.{itemMeant}
+use Rattle.write_state.specs.WriterMeaning.{writer_meant, written_meant}
+use Rattle.write_calls.specs.ItemMeaning.{item_meant}
 use Rattle.c_writer.specs.WriterFigures.{item_of}
 use Rattle.c_writing.proofs.WriterReplies.{replies, written_as, amount-is, item-is}
 use Rattle.c_writing.proofs.bai2_write_item.Statement.{statement}
@@ -16,10 +16,10 @@ returns c =
     let r = c.before.before.before.item in
     let n = c.before.before.before.before.before.items-asked in
     let a = c.before.before.before.before.before.before.amount-asked in
-    replies s.args.writer w.result r.result c.answered.result (rules.writeItem (item_of s.args.type-code.now s.args.amount-given s.args.amount s.args.count-given s.args.count)) s.args.out.now r.new.1.1.1.1.0 w.ensures
-    (written_as (writerMeant w.result) s.args.out.now (rules.writeItem (itemMeant s.args.type-code.now a.result n.result))
-    (rules.writeItem (item_of s.args.type-code.now s.args.amount-given s.args.amount s.args.count-given s.args.count)) (writtenMeant r.result r.new.1.1.1.1.0) r.ensures
-    (ap (λ (i : rules.Item). rules.writeItem i) (item-is s.args.type-code.now s.args.amount-given s.args.count-given s.args.count s.args.amount a.result n.result (amount-is s.args.amount-given s.args.amount a.result s.ranges.amount a.ensures) n.ensures)))
+    replies s.args.writer w.result r.result c.answered.result (rules.write_item (item_of s.args.type-code.now s.args.amount-given s.args.amount s.args.count-given s.args.count)) s.args.out.now r.new.1.1.1.1.0 w.ensures
+    (written_as (writer_meant w.result) s.args.out.now (rules.write_item (item_meant s.args.type-code.now a.result n.result))
+    (rules.write_item (item_of s.args.type-code.now s.args.amount-given s.args.amount s.args.count-given s.args.count)) (written_meant r.result r.new.1.1.1.1.0) r.ensures
+    (ap (λ (i : rules.Item). rules.write_item i) (item-is s.args.type-code.now s.args.amount-given s.args.count-given s.args.count s.args.amount a.result n.result (amount-is s.args.amount-given s.args.amount a.result s.ranges.amount a.ensures) n.ensures)))
     c.answered.ensures
 
 pub bai2-write-item-spec : {M : Type 1} → statement M

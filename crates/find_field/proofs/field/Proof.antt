@@ -1,5 +1,5 @@
 -- `find_field::field` meets its contract. Assumes nothing.
-use Rattle.find_field.specs.SoughtKinds.{kindMeant}
+use Rattle.find_field.specs.SoughtKinds.{kind_meant}
 use Rattle.find_field.proofs.DetailFields.{lent_is}
 use borrow.Author.Rules.{rules}
 use Rattle.find_field.proofs.field.Statement.{statement}
@@ -9,7 +9,7 @@ returns : tie.Need-returns
 returns c =
     let found = c.before.before.before in
     let a = found.before.before.args in
-    lent_is (kindMeant a.sought) a.rec.now _ _ _ found.seek.ensures.answer
+    lent_is (kind_meant a.sought) a.rec.now _ _ _ found.seek.ensures.answer
 
 pub field-spec : {M : Type 1} → statement M
 field-spec =

@@ -6,12 +6,12 @@ use lib.ListN.{length}
 use Rattle.rules.specs.Bytes.{Bytes}
 use Rattle.rules.specs.Lines.{lines_of}
 use Rattle.rules.specs.Grammar.{fields_of}
-use Rattle.base_codes.specs.CodeMeaning.{codeMeant}
+use Rattle.base_codes.specs.CodeMeaning.{code_meant}
 use Rattle.find_walk.specs.declared.Reached.{Reached}
-use Rattle.find_walk.specs.WalkEnds.{walkEnd, traceOfRecord, reachedMeant, StandsIn}
+use Rattle.find_walk.specs.WalkEnds.{walk_end, trace_of_record, reached_meant, StandsIn}
 use Rattle.find_field.specs.declared.Spot.{Spot}
-use Rattle.find_field.specs.FieldSearch.{seekLines, nothingFound}
-use Rattle.find_field.specs.SoughtKinds.{kindMeant, Spots}
+use Rattle.find_field.specs.FieldSearch.{seek_lines, nothing_found}
+use Rattle.find_field.specs.SoughtKinds.{kind_meant, Spots}
 use Rattle.find_field.proofs.WalkFound.{found_at, walk-found}
 use borrow.Author.Rules.{rules}
 use Rattle.find_field.proofs.seek.Statement.{statement}
@@ -30,20 +30,20 @@ rec-of c = (entry c).args.rec.now
 
 -- what is found there
 found : (c : Walked) (r : Reached) → c.walk-to.result ≡ r
-    → found_at (reachedMeant (rec-of c) r) ≡ seekLines (kindMeant (entry c).args.sought) (fields_of (codeMeant (entry c).args.code)) (lines_of (rec-of c))
+    → found_at (reached_meant (rec-of c) r) ≡ seek_lines (kind_meant (entry c).args.sought) (fields_of (code_meant (entry c).args.code)) (lines_of (rec-of c))
 found c r e =
-    let code = codeMeant (entry c).args.code in
-    ap (λ (x : Reached). found_at (reachedMeant (rec-of c) x)) (sym e)
+    let code = code_meant (entry c).args.code in
+    ap (λ (x : Reached). found_at (reached_meant (rec-of c) x)) (sym e)
     ∙ ap found_at c.walk-to.ensures.answer
-    ∙ ap (λ (k : ℕ). found_at (walkEnd k 0 (traceOfRecord (rec-of c) (length (rec-of c)) code))) c.before.before.kind-sought.ensures
-    ∙ walk-found (kindMeant (entry c).args.sought) code (rec-of c)
+    ∙ ap (λ (k : ℕ). found_at (walk_end k 0 (trace_of_record (rec-of c) (length (rec-of c)) code))) c.before.before.kind-sought.ensures
+    ∙ walk-found (kind_meant (entry c).args.sought) code (rec-of c)
 
 -- nothing is
 none : (c : Walked) (r : Spot) → r ≡ record { start = record { 0 = 0 }; length = 0 }
-    → nothingFound ≡ seekLines (kindMeant (entry c).args.sought) (fields_of (codeMeant (entry c).args.code)) (lines_of (rec-of c))
-    → Spots (rec-of c) (codeMeant (entry c).args.code) (entry c).args.sought r
+    → nothing_found ≡ seek_lines (kind_meant (entry c).args.sought) (fields_of (code_meant (entry c).args.code)) (lines_of (rec-of c))
+    → Spots (rec-of c) (code_meant (entry c).args.code) (entry c).args.sought r
 none c r is e =
-    subst (Spots (rec-of c) (codeMeant (entry c).args.code) (entry c).args.sought) (sym is) (record { answer = e; within = omega arith })
+    subst (Spots (rec-of c) (code_meant (entry c).args.code) (entry c).args.sought) (sym is) (record { answer = e; within = omega arith })
 
 returns : tie.Need-returns
 returns c = let w = c.before.before.before.before in none w _ c.nowhere.ensures (found w _ c.before.enum_told.given.1)

@@ -4,9 +4,9 @@ use Rattle.rules.specs.Bytes.{Bytes}
 use Rattle.rules.specs.Outcome.{fine}
 use Rattle.rules.specs.Items.{AccountItem}
 use Rattle.base_digits.specs.NumbersRead.{value_of}
-use Rattle.base_amounts.specs.AmountsRead.{amountRead}
+use Rattle.base_amounts.specs.AmountsRead.{amount_read}
 use Rattle.find_item.specs.declared.TypeFound.TheVariants as types
-use Rattle.find_item.specs.ItemSearch.{countRead, Seeks}
+use Rattle.find_item.specs.ItemSearch.{count_read, Seeks}
 use Rattle.find_item.proofs.ItemLaws.{item-is}
 use borrow.Author.Rules.{rules}
 use Rattle.find_item.proofs.item_in.Statement.{statement}
@@ -48,8 +48,8 @@ returns-2 c =
     ap (λ (i : AccountItem). fine i)
     (item-is (rec-of f) _ f.before.found.given.0.0 count.before.take_next.result count.take-next2.result count.before.take_next.ensures count.take-next2.ensures _ _ _
     (b.before.value.ensures.0 ∙ ap value_of b.before.before.bytes_of.ensures)
-    (c.before.before.amount-in.ensures ∙ ap amountRead b.bytes-of2.ensures)
-    (c.count-in.ensures ∙ ap countRead c.before.bytes-of3.ensures))
+    (c.before.before.amount-in.ensures ∙ ap amount_read b.bytes-of2.ensures)
+    (c.count-in.ensures ∙ ap count_read c.before.bytes-of3.ensures))
     ∙ sym (sought f).0
 
 pub item-in-spec : {M : Type 1} → statement M

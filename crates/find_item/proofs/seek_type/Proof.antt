@@ -4,10 +4,10 @@ use mathlib.Core.List.{List}
 use Rattle.rules.specs.Bytes.{Bytes}
 use Rattle.rules.specs.Grammar.{Kind}
 use Rattle.rules.specs.Lines.{lines_of}
-use Rattle.rules.specs.Items.{itemFrom}
-use Rattle.find_next.specs.FieldTrace.{Trace, traceLines}
-use Rattle.find_next.specs.CursorMeaning.{ownLines, left_of}
-use Rattle.find_item.specs.ItemSearch.{yielded, itemsRead}
+use Rattle.rules.specs.Items.{item_from}
+use Rattle.find_next.specs.FieldTrace.{Trace, trace_lines}
+use Rattle.find_next.specs.CursorMeaning.{own_lines, left_of}
+use Rattle.find_item.specs.ItemSearch.{yielded, items_read}
 use Rattle.find_item.proofs.ItemLaws.{refused-ahead, over-ahead, Going, going-none, going_less, going-met, going_on}
 use borrow.Author.Rules.{rules}
 use Rattle.find_item.proofs.seek_type.Statement.{statement}
@@ -37,8 +37,8 @@ loop-holds : tie.Need-loop-init invariant-loop decreases-loop
 loop-holds c =
     let rec = c.before.before.before.args.rec.now in
     let start = c.before-record.ensures.1 rec 1 in
-    let all = start.0 ∙ ap (λ (ks : List Kind). traceLines 0 ks 0 (ownLines 1 0 (lines_of rec))) c.before.first-want.ensures in
-    record { inside = start.1; same = ap (λ (t : Trace). itemFrom (itemsRead (yielded t)) c.before.before.before.args.n) (sym all) }
+    let all = start.0 ∙ ap (λ (ks : List Kind). trace_lines 0 ks 0 (own_lines 1 0 (lines_of rec))) c.before.first-want.ensures in
+    record { inside = start.1; same = ap (λ (t : Trace). item_from (items_read (yielded t)) c.before.before.before.args.n) (sym all) }
 
 returns : tie.Need-returns invariant-loop decreases-loop
 returns c =

@@ -2,7 +2,7 @@
 use Prim.Native.Nat.{◌+◌, ◌-◌, ◌≤◌}
 use native.Mathlib.Omega.{arith}
 use mathlib.Core.Path.{◌≡◌}
-use Rattle.base_codes.specs.CodeMeaning.{bytesMeant}
+use Rattle.base_codes.specs.CodeMeaning.{bytes_meant}
 use Rattle.find_lines.specs.LinesOfCode.{Quiet}
 use Rattle.find_lines.proofs.LineSearch.{none_found, quiet-byte}
 use borrow.Author.Count.{below_more}
@@ -11,7 +11,7 @@ use Rattle.find_lines.proofs.block_meets.Statement.{statement}
 use Rattle.find_lines.proofs.block_meets.Tie as tie
 
 abbrev invariant-loop : tie.invariant-loop
-invariant-loop s x y at found₀ i₀ found i = (i ≤ 128) × (found ≡ 0 → Quiet (bytesMeant x) (bytesMeant y) s at i)
+invariant-loop s x y at found₀ i₀ found i = (i ≤ 128) × (found ≡ 0 → Quiet (bytes_meant x) (bytes_meant y) s at i)
 
 abbrev decreases-loop : tie.decreases-loop
 decreases-loop s x y at found₀ i₀ found i = 128 - i

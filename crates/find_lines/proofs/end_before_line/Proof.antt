@@ -3,15 +3,15 @@ use Prim.Native.Nat.{◌+◌, ◌-◌, ◌≤◌}
 use native.Mathlib.Omega.{arith}
 use mathlib.Core.Path.{◌≡◌, sym, ◌∙◌}
 use lib.ListN.{drop}
-use Rattle.base_codes.specs.CodeMeaning.{bytesMeant}
-use Rattle.find_lines.specs.LinesOfCode.{aheadLen}
+use Rattle.base_codes.specs.CodeMeaning.{bytes_meant}
+use Rattle.find_lines.specs.LinesOfCode.{ahead_len}
 use Rattle.find_lines.proofs.LineSearch.{ahead_step}
 use borrow.Author.Rules.{rules}
 use Rattle.find_lines.proofs.end_before_line.Statement.{statement}
 use Rattle.find_lines.proofs.end_before_line.Tie as tie
 
 abbrev invariant-loop : tie.invariant-loop
-invariant-loop s x y e i₀ i = (i₀ ≤ i) × (i ≤ e) × (i₀ + aheadLen (bytesMeant x) (bytesMeant y) (drop i₀ s) ≡ i + aheadLen (bytesMeant x) (bytesMeant y) (drop i s))
+invariant-loop s x y e i₀ i = (i₀ ≤ i) × (i ≤ e) × (i₀ + ahead_len (bytes_meant x) (bytes_meant y) (drop i₀ s) ≡ i + ahead_len (bytes_meant x) (bytes_meant y) (drop i s))
 
 abbrev decreases-loop : tie.decreases-loop
 decreases-loop s x y e i₀ i = e - i
@@ -25,7 +25,7 @@ loop-again : tie.Need-loop-preserved invariant-loop decreases-loop
 loop-again c =
     let a = c.before.before.before.before.before.args in
     let l = c.before.before.before.loop in
-    (omega arith, omega arith, l.invariant.2 ∙ ahead_step (bytesMeant a.x) (bytesMeant a.y) a.s.now l.i (omega arith) (sym c.before.ends-before-line.ensures ∙ c.if1.false))
+    (omega arith, omega arith, l.invariant.2 ∙ ahead_step (bytes_meant a.x) (bytes_meant a.y) a.s.now l.i (omega arith) (sym c.before.ends-before-line.ensures ∙ c.if1.false))
 
 returns-2 : tie.Need-returns-2 invariant-loop decreases-loop
 returns-2 c =

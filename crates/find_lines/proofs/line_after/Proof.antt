@@ -4,15 +4,15 @@ use native.Mathlib.Omega.{arith}
 use mathlib.Core.Path.{◌≡◌, sym, ◌∙◌}
 use lib.ListN.{length, drop}
 use Rattle.rules.specs.Bytes.{Bytes}
-use Rattle.base_codes.specs.CodeMeaning.{bytesMeant}
-use Rattle.find_lines.specs.LinesOfCode.{aheadLen}
+use Rattle.base_codes.specs.CodeMeaning.{bytes_meant}
+use Rattle.find_lines.specs.LinesOfCode.{ahead_len}
 use Rattle.find_lines.proofs.LineSearch.{ahead_none, ahead-quiet, end-found, end_none}
 use borrow.Author.Rules.{rules}
 use Rattle.find_lines.proofs.line_after.Statement.{statement}
 use Rattle.find_lines.proofs.line_after.Tie as tie
 
 abbrev invariant-loop : tie.invariant-loop
-invariant-loop s x y i₀ i = (i ≤ length s) × (i₀ + aheadLen (bytesMeant x) (bytesMeant y) (drop i₀ s) ≡ i + aheadLen (bytesMeant x) (bytesMeant y) (drop i s))
+invariant-loop s x y i₀ i = (i ≤ length s) × (i₀ + ahead_len (bytes_meant x) (bytes_meant y) (drop i₀ s) ≡ i + ahead_len (bytes_meant x) (bytes_meant y) (drop i s))
 
 abbrev decreases-loop : tie.decreases-loop
 decreases-loop s x y i₀ i = length s - i
@@ -29,10 +29,10 @@ abbrev s-of : Block → Bytes
 s-of c = (head c).before.before.args.s.now
 
 abbrev x-of : Block → Bytes
-x-of c = bytesMeant (head c).before.before.args.x
+x-of c = bytes_meant (head c).before.before.args.x
 
 abbrev y_of : Block → Bytes
-y_of c = bytesMeant (head c).before.before.args.y
+y_of c = bytes_meant (head c).before.before.args.y
 
 abbrev at_of : Block → ℕ
 at_of c = (head c).loop.i
@@ -71,13 +71,13 @@ returns-2 : tie.Need-returns-2 invariant-loop decreases-loop
 returns-2 c =
     let a = (last-args c.before).args in
     let l = (last-head c.before).loop in
-    (end-found (bytesMeant a.x) (bytesMeant a.y) a.s.now l.i (length a.s.now) _ c.before.end-before-line2.ensures (omega arith) c.if3.true ∙ sym l.inv.1, omega arith)
+    (end-found (bytes_meant a.x) (bytes_meant a.y) a.s.now l.i (length a.s.now) _ c.before.end-before-line2.ensures (omega arith) c.if3.true ∙ sym l.inv.1, omega arith)
 
 returns-3 : tie.Need-returns-3 invariant-loop decreases-loop
 returns-3 c =
     let a = (last-args c.before).args in
     let e = c.before.end-before-line2 in
-    let none = ahead_none (bytesMeant a.x) (bytesMeant a.y) a.s.now e.result.0 (omega arith) in
+    let none = ahead_none (bytes_meant a.x) (bytes_meant a.y) a.s.now e.result.0 (omega arith) in
     (omega (arith, (last-head c.before).loop.inv.1, e.ensures.passed), e.ensures.within.1)
 
 pub line-after-spec : {M : Type 1} → statement M

@@ -4,9 +4,9 @@ use mathlib.Core.Path.{◌≡◌, sym, ap₂, ◌∙◌}
 use lib.ListN.{drop}
 use Rattle.rules.specs.Bytes.{Bytes}
 use Rattle.rules.specs.Lines as rules
-use Rattle.rules.specs.Lines.{codeBytes}
-use Rattle.base_codes.specs.CodeMeaning.{codeMeant, bytesMeant}
-use Rattle.find_lines.specs.LinesOfCode.{beginsEither, aheadLen}
+use Rattle.rules.specs.Lines.{code_bytes}
+use Rattle.base_codes.specs.CodeMeaning.{code_meant, bytes_meant}
+use Rattle.find_lines.specs.LinesOfCode.{begins_either, ahead_len}
 use Rattle.find_lines.proofs.LineSearch.{before_here, before-ahead, before-none}
 use borrow.Author.Rules.{rules}
 use Rattle.find_lines.proofs.next_line_of.Statement.{statement}
@@ -21,16 +21,16 @@ abbrev begun : Codes → tie.Start
 begun c = c.before.before.before
 
 abbrev one_of : Codes → rules.Code
-one_of c = codeMeant (begun c).args.one
+one_of c = code_meant (begun c).args.one
 
 abbrev other-of : Codes → rules.Code
-other-of c = codeMeant (begun c).args.other
+other-of c = code_meant (begun c).args.other
 
 abbrev left-of : Codes → Bytes
 left-of c = drop (begun c).args.start.0 (begun c).args.s.now
 
 -- what is said of their digits is said of the codes
-of-codes : {A : Type 0} (f : Bytes → Bytes → A) (c : Codes) → f (bytesMeant c.before.digits_of.result) (bytesMeant c.digits-of2.result) ≡ f (codeBytes (one_of c)) (codeBytes (other-of c))
+of-codes : {A : Type 0} (f : Bytes → Bytes → A) (c : Codes) → f (bytes_meant c.before.digits_of.result) (bytes_meant c.digits-of2.result) ≡ f (code_bytes (one_of c)) (code_bytes (other-of c))
 of-codes f c = ap₂ f c.before.digits_of.ensures c.digits-of2.ensures
 
 -- past the end
@@ -48,10 +48,10 @@ Asked = tie.After-begins-either
 abbrev codes-of : Asked → Codes
 codes-of c = c.before.before.before
 
-told : (c : Asked) → let s = codes-of c in beginsEither (codeBytes (one_of s)) (codeBytes (other-of s)) (left-of s) ≡ c.begins-either.result
+told : (c : Asked) → let s = codes-of c in begins_either (code_bytes (one_of s)) (code_bytes (other-of s)) (left-of s) ≡ c.begins-either.result
 told c =
     let s = codes-of c in
-    sym (of-codes (λ (x y : Bytes). beginsEither x y (left-of s)) s) ∙ sym c.begins-either.ensures
+    sym (of-codes (λ (x y : Bytes). begins_either x y (left-of s)) s) ∙ sym c.begins-either.ensures
 
 returns-2 : tie.Need-returns-2
 returns-2 c =
@@ -63,7 +63,7 @@ returns-3 : tie.Need-returns-3
 returns-3 c =
     let s = codes-of c.before.before in
     let e = before-ahead (one_of s) (other-of s) (left-of s) (told c.before.before ∙ c.before.if2.false) in
-    let same = of-codes (λ (x y : Bytes). aheadLen x y (left-of s)) s in
+    let same = of-codes (λ (x y : Bytes). ahead_len x y (left-of s)) s in
     (omega (arith, c.line_after.ensures.0), omega (arith, c.line_after.ensures.1))
 
 pub next-line-of-spec : {M : Type 1} → statement M

@@ -2,7 +2,7 @@
 use native.Mathlib.Omega.{arith}
 use mathlib.Core.Path.{sym, ap, subst, ◌∙◌}
 use Rattle.find_next.specs.declared.Cursor.{Cursor}
-use Rattle.find_next.specs.CursorMeaning.{traceOf, Inside}
+use Rattle.find_next.specs.CursorMeaning.{trace_of, Inside}
 use Rattle.find_next.proofs.CursorLaws.{trace-over}
 use borrow.Author.Rules.{rules}
 use Rattle.find_next.proofs.before_record.Statement.{statement}
@@ -14,7 +14,7 @@ returns c =
     let is = c.before-line.ensures in (
       ap (λ (d : Cursor). d.want) is,
       λ rec least. (
-        ap (λ (d : Cursor). traceOf rec least d) is ∙ trace-over rec least first (record { 0 = 0 }) (record { 0 = 0 }),
+        ap (λ (d : Cursor). trace_of rec least d) is ∙ trace-over rec least first (record { 0 = 0 }) (record { 0 = 0 }),
         subst (Inside rec) (sym is) (record { in-line = omega arith; in-record = omega arith; slashed = omega arith }),
       ),
     )

@@ -7,13 +7,13 @@ use mathlib.Core.List.{List}
 use lib.ListN.{length, take, drop, length-drop}
 use lib.Seq.{slice, take_all}
 use Rattle.rules.specs.Bytes.{Bytes}
-use Rattle.rules.specs.Cells.{leadingBlanks}
-use Rattle.rules.specs.Grammar.{Kind, good, takeNext, nextKind, isText}
+use Rattle.rules.specs.Cells.{leading_blanks}
+use Rattle.rules.specs.Grammar.{Kind, good, take_next, next_kind, is_text}
 use Rattle.read_wanted.specs.declared.want.Want.{Want}
-use Rattle.read_wanted.specs.Wants.{wantedOf}
-use Rattle.read_wanted.specs.TakenMeaning.{judgedOf}
+use Rattle.read_wanted.specs.Wants.{wanted_of}
+use Rattle.read_wanted.specs.TakenMeaning.{judged_of}
 use Rattle.read_field_ends.specs.declared.Extent.TheVariants as extent
-use Rattle.read_field_ends.specs.FieldLengths.{extentOf}
+use Rattle.read_field_ends.specs.FieldLengths.{extent_of}
 use Rattle.find_next.specs.declared.Cursor.{Cursor}
 use Rattle.find_next.proofs.CursorLaws.{size-left, open-takes, in_left, in-short, wrong-takes, comma-takes, text-takes, stray-takes, slash-takes}
 use borrow.Author.Rules.{rules}
@@ -41,7 +41,7 @@ abbrev left_is : (c : Part) → left c ≡ slice (walk_of c).at.0 (walk_of c).en
 left_is c = c.part.ensures
 
 abbrev wanted : Part → List Kind
-wanted c = wantedOf (walk_of c).want
+wanted c = wanted_of (walk_of c).want
 
 -- what is left stands in the record
 within : (c : Part) → length (left c) ≤ length (rec-of c) - (walk_of c).at.0
@@ -55,8 +55,8 @@ Cutting = tie.After-field-extent
 abbrev cut-part : Cutting → Part
 cut-part c = c.before.before
 
-extent-is : (c : Cutting) → c.field-extent.result ≡ extentOf (isText (nextKind (wanted (cut-part c)))) (left (cut-part c))
-extent-is c = c.field-extent.ensures ∙ ap (λ (t : Bool). extentOf t (left (cut-part c))) c.before.is-text.ensures
+extent-is : (c : Cutting) → c.field-extent.result ≡ extent_of (is_text (next_kind (wanted (cut-part c)))) (left (cut-part c))
+extent-is c = c.field-extent.ensures ∙ ap (λ (t : Bool). extent_of t (left (cut-part c))) c.before.is-text.ensures
 
 abbrev Field : Type 0
 Field = tie.After-known-told
@@ -67,7 +67,7 @@ part_of c = cut-part c.before.before.before
 abbrev size : Field → ℕ
 size c = c.before.n.given.0.0
 
-size_is : (c : Field) → extent.Field (size c) ≡ extentOf (isText (nextKind (wanted (part_of c)))) (left (part_of c))
+size_is : (c : Field) → extent.Field (size c) ≡ extent_of (is_text (next_kind (wanted (part_of c)))) (left (part_of c))
 size_is c = sym c.before.n.given.1 ∙ extent-is c.before.before.before
 
 inside : (c : Field) → size c ≤ length (left (part_of c))
@@ -81,11 +81,11 @@ Judged = tie.After-take-yielded
 abbrev field : Judged → Field
 field c = c.before.before
 
-judged-is : (c : Judged) → judgedOf c.take-yielded.result ≡ takeNext (wanted (part_of (field c))) (take (size (field c)) (left (part_of (field c))))
+judged-is : (c : Judged) → judged_of c.take-yielded.result ≡ take_next (wanted (part_of (field c))) (take (size (field c)) (left (part_of (field c))))
 judged-is c =
     let g = field c in
     let lent : size g - 0 ≡ size g = omega arith in
-    c.take-yielded.ensures ∙ ap (λ (n : ℕ). takeNext (wanted (part_of g)) (take n (left (part_of g)))) lent
+    c.take-yielded.ensures ∙ ap (λ (n : ℕ). take_next (wanted (part_of g)) (take n (left (part_of g)))) lent
 
 abbrev Good : Type 0
 Good = tie.After-known-told3
@@ -99,16 +99,16 @@ good-part c = part_of (good-field c)
 abbrev then : Good → Want
 then c = c.before.after.given.0.0
 
-took : (c : Good) → takeNext (wanted (good-part c)) (take (size (good-field c)) (left (good-part c))) ≡ good (wantedOf (then c))
-unfolding judgedOf
-took c = sym (judged-is c.before.before.before) ∙ ap judgedOf c.before.after.given.1
+took : (c : Good) → take_next (wanted (good-part c)) (take (size (good-field c)) (left (good-part c))) ≡ good (wanted_of (then c))
+unfolding judged_of
+took c = sym (judged-is c.before.before.before) ∙ ap judged_of c.before.after.given.1
 
 -- ---- it is no text
 
 abbrev Plain : Type 0
 Plain = tie.Else1
 
-no_text : (c : Plain) → isText (nextKind (wanted (good-part c.before))) ≡ false
+no_text : (c : Plain) → is_text (next_kind (wanted (good-part c.before))) ≡ false
 no_text c = sym (good-field c.before).before.before.before.before.is-text.ensures ∙ c.if1.false
 
 shorter : (c : Plain) → size (good-field c.before) < length (left (good-part c.before))
@@ -136,8 +136,8 @@ after_is c =
     let n = size (good-field (plain_of c).before) + 1 in
     take_all (length l - n) (drop n l) (omega (arith, length-drop n l))
 
-blanks-are : (c : Slashed) → blanks-end c ≡ size (good-field (plain_of c).before) + 1 + leadingBlanks (after c)
-blanks-are c = ap (λ (n : ℕ). size (good-field (plain_of c).before) + 1 + n) (c.blanks-len.ensures.0 ∙ ap leadingBlanks (after_is c))
+blanks-are : (c : Slashed) → blanks-end c ≡ size (good-field (plain_of c).before) + 1 + leading_blanks (after c)
+blanks-are c = ap (λ (n : ℕ). size (good-field (plain_of c).before) + 1 + n) (c.blanks-len.ensures.0 ∙ ap leading_blanks (after_is c))
 
 blanks-within : (c : Slashed) → blanks-end c ≤ length (left (good-part (plain_of c).before))
 blanks-within c =
@@ -160,12 +160,12 @@ part-take-yielded-end c = inside c
 
 -- it is wrong
 returns-2 : tie.Need-returns-2
-unfolding judgedOf
+unfolding judged_of
 returns-2 c =
     let j = c.before.before.before.before in
     let g = field j in
     let p = part_of g in
-    λ least. wrong-takes (rec-of p) least (walk_of p) (left p) (left_is p) (size g) (size_is g) _ _ c.stop2.ensures (sym (judged-is j) ∙ ap judgedOf c.before.before.number.given.1)
+    λ least. wrong-takes (rec-of p) least (walk_of p) (left p) (left_is p) (size g) (size_is g) _ _ c.stop2.ensures (sym (judged-is j) ∙ ap judged_of c.before.before.number.given.1)
 
 -- a text ends the line
 returns-3 : tie.Need-returns-3

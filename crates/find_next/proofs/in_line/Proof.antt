@@ -5,10 +5,10 @@ use mathlib.Core.Path.{◌≡◌, refl, sym, ap, ◌∙◌}
 use mathlib.Core.Bool.{Bool, true, false, not}
 use lib.ListN.{length, drop}
 use Rattle.rules.specs.Bytes.{Bytes}
-use Rattle.read_lines.specs.LineLengths.{bodyLen, endLen, lineLen}
+use Rattle.read_lines.specs.LineLengths.{body_len, end_len, line_len}
 use Rattle.read_lines.proofs.LineLaws.{next-is, next-within}
 use Rattle.find_next.specs.declared.Cursor.{Cursor}
-use Rattle.find_next.specs.CursorMeaning.{ownLine}
+use Rattle.find_next.specs.CursorMeaning.{own_line}
 use Rattle.find_next.proofs.OwnLines.{flip, own-some}
 use Rattle.find_next.proofs.CursorLaws.{end-enters, short-enters, line-enters}
 use borrow.Author.Rules.{rules}
@@ -32,7 +32,7 @@ walk_of c = (entry c).args.walk
 past : (c : Asked) → (walk_of c).end.0 < (walk_of c).at.0
 past c = c.before.if1.false
 
-own_is : (c : Asked) (b : Bool) → not c.is-own.result ≡ b → ownLine (entry c).args.least (walk_of c).line.0 (drop (walk_of c).line.0 (rec-of c)) ≡ not b
+own_is : (c : Asked) (b : Bool) → not c.is-own.result ≡ b → own_line (entry c).args.least (walk_of c).line.0 (drop (walk_of c).line.0 (rec-of c)) ≡ not b
 own_is c b e = sym c.is-own.ensures ∙ flip _ _ e
 
 -- ---- its next line
@@ -49,10 +49,10 @@ start_of c = (walk_of (asked c)).line.0
 abbrev end_of : Line → ℕ
 end_of c = c.body-end.result.0
 
-own : (c : Line) → ownLine (entry (asked c)).args.least (start_of c) (drop (start_of c) (rec-of (asked c))) ≡ true
+own : (c : Line) → own_line (entry (asked c)).args.least (start_of c) (drop (start_of c) (rec-of (asked c))) ≡ true
 own c = own_is (asked c) false c.before.if2.false
 
-end_is : (c : Line) → end_of c ≡ start_of c + bodyLen (drop (start_of c) (rec-of (asked c)))
+end_is : (c : Line) → end_of c ≡ start_of c + body_len (drop (start_of c) (rec-of (asked c)))
 end_is c = c.body-end.ensures.0
 
 some_byte : (c : Line) → start_of c < length (rec-of (asked c))
@@ -69,10 +69,10 @@ line_of c = c.before.before.before.before.before.before
 abbrev next_of : Ended → ℕ
 next_of c = end_of (line_of c) + c.before.end-len.result
 
-next-sum : (c : Ended) → next_of c ≡ end_of (line_of c) + endLen (drop (end_of (line_of c)) (rec-of (asked (line_of c))))
+next-sum : (c : Ended) → next_of c ≡ end_of (line_of c) + end_len (drop (end_of (line_of c)) (rec-of (asked (line_of c))))
 next-sum c = ap (λ (n : ℕ). end_of (line_of c) + n) c.before.end-len.ensures
 
-next-at : (c : Ended) → next_of c ≡ start_of (line_of c) + lineLen (drop (start_of (line_of c)) (rec-of (asked (line_of c))))
+next-at : (c : Ended) → next_of c ≡ start_of (line_of c) + line_len (drop (start_of (line_of c)) (rec-of (asked (line_of c))))
 next-at c = next-is (rec-of (asked (line_of c))) (start_of (line_of c)) (end_of (line_of c)) (next_of c) (end_is (line_of c)) (next-sum c)
 
 inside : (c : Ended) → next_of c ≤ length (rec-of (asked (line_of c)))

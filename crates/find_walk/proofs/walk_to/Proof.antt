@@ -8,19 +8,19 @@ use lib.Seq.{take_all}
 use Rattle.rules.specs.Bytes.{Bytes}
 use Rattle.rules.specs.Lines.{lines_of}
 use Rattle.rules.specs.Grammar.{Kind}
-use Rattle.base_codes.specs.CodeMeaning.{codeMeant}
+use Rattle.base_codes.specs.CodeMeaning.{code_meant}
 use Rattle.find_next.specs.declared.Cursor.{Cursor}
-use Rattle.find_next.specs.FieldTrace.{Trace, traceLines}
-use Rattle.find_next.specs.CursorMeaning.{ownLines, traceOf, left_of, Steps}
+use Rattle.find_next.specs.FieldTrace.{Trace, trace_lines}
+use Rattle.find_next.specs.CursorMeaning.{own_lines, trace_of, left_of, Steps}
 use Rattle.find_walk.specs.declared.Reached.{Reached}
-use Rattle.find_walk.specs.WalkEnds.{traceOfRecord, WalksTo}
+use Rattle.find_walk.specs.WalkEnds.{trace_of_record, WalksTo}
 use Rattle.find_walk.proofs.WalkLaws.{Going, going_start, stop-within, onward, stop-ends, over-ends, met-ends, going_next}
 use borrow.Author.Rules.{rules}
 use Rattle.find_walk.proofs.walk_to.Statement.{statement}
 use Rattle.find_walk.proofs.walk_to.Tie as tie
 
 abbrev invariant-loop : tie.invariant-loop
-invariant-loop file start least sought out₀ rec walk₀ n₀ at₀ out walk n at = Going rec start.0 least sought (traceOf rec least walk₀) out₀ walk n at out
+invariant-loop file start least sought out₀ rec walk₀ n₀ at₀ out walk n at = Going rec start.0 least sought (trace_of rec least walk₀) out₀ walk n at out
 
 abbrev decreases-loop : tie.decreases-loop
 decreases-loop file start least sought out₀ rec walk₀ n₀ at₀ out walk n at = left_of rec walk
@@ -46,7 +46,7 @@ abbrev walk_of : Asked → Cursor
 walk_of c = c.before.loop.walk
 
 abbrev all : Asked → Trace
-all c = traceOf (rec-of c) (entry c).args.least (began c).before-record.result
+all c = trace_of (rec-of c) (entry c).args.least (began c).before-record.result
 
 -- the record's bytes as the contract names them
 rec-is : (c : Asked) → rec-of c ≡ drop (start_of c) (entry c).args.file.now
@@ -60,10 +60,10 @@ short c = omega (arith, ap length (rec-is c), length-drop (start_of c) (entry c)
 steps : (c : Asked) → Steps (rec-of c) (entry c).args.least (walk_of c) c.next_field.result
 steps c = c.next_field.ensures
 
-all-is : (c : Asked) → all c ≡ traceOfRecord (rec-of c) (entry c).args.least (codeMeant (entry c).args.code)
+all-is : (c : Asked) → all c ≡ trace_of_record (rec-of c) (entry c).args.least (code_meant (entry c).args.code)
 all-is c =
     ((began c).before-record.ensures.1 (rec-of c) (entry c).args.least).0
-    ∙ ap (λ (ks : List Kind). traceLines 0 ks 0 (ownLines (entry c).args.least 0 (lines_of (rec-of c)))) (began c).before.first-want.ensures
+    ∙ ap (λ (ks : List Kind). trace_lines 0 ks 0 (own_lines (entry c).args.least 0 (lines_of (rec-of c)))) (began c).before.first-want.ensures
 
 -- what holds there
 going : (c : Asked) → Going (rec-of c) (start_of c) (entry c).args.least (entry c).args.sought (all c) (entry c).args.out.now (walk_of c) c.before.loop.n c.before.loop.at c.before.loop.out
@@ -71,10 +71,10 @@ going c = c.before.loop.invariant
 
 -- what is promised there, of the bytes as the contract names them
 promised : (c : Asked) (x : Reached)
-    → WalksTo (rec-of c) (start_of c) (entry c).args.least (codeMeant (entry c).args.code) (entry c).args.sought (entry c).args.out.now c.before.loop.out x
-    → WalksTo (drop (start_of c) (entry c).args.file.now) (start_of c) (entry c).args.least (codeMeant (entry c).args.code) (entry c).args.sought (entry c).args.out.now c.before.loop.out x
+    → WalksTo (rec-of c) (start_of c) (entry c).args.least (code_meant (entry c).args.code) (entry c).args.sought (entry c).args.out.now c.before.loop.out x
+    → WalksTo (drop (start_of c) (entry c).args.file.now) (start_of c) (entry c).args.least (code_meant (entry c).args.code) (entry c).args.sought (entry c).args.out.now c.before.loop.out x
 promised c x h =
-    subst (λ (bs : Bytes). WalksTo bs (start_of c) (entry c).args.least (codeMeant (entry c).args.code) (entry c).args.sought (entry c).args.out.now c.before.loop.out x) (rec-is c) h
+    subst (λ (bs : Bytes). WalksTo bs (start_of c) (entry c).args.least (code_meant (entry c).args.code) (entry c).args.sought (entry c).args.out.now c.before.loop.out x) (rec-is c) h
 
 -- ---- at a field
 
@@ -109,7 +109,7 @@ returns : tie.Need-returns invariant-loop decreases-loop
 returns c =
     let a = c.before.before.before.before in
     promised a _
-    (stop-ends (rec-of a) _ _ _ (all a) _ (walk_of a) _ _ _ (going a) _ (steps a) (codeMeant (entry a).args.code) (all-is a) _ _ c.before.before.why.given.1 c.refused-there.ensures)
+    (stop-ends (rec-of a) _ _ _ (all a) _ (walk_of a) _ _ _ (going a) _ (steps a) (code_meant (entry a).args.code) (all-is a) _ _ c.before.before.why.given.1 c.refused-there.ensures)
 
 same-length-2 : tie.Need-same-length-2 invariant-loop decreases-loop
 same-length-2 c = (going c.before.before).long
@@ -117,7 +117,7 @@ same-length-2 c = (going c.before.before).long
 returns-2 : tie.Need-returns-2 invariant-loop decreases-loop
 returns-2 c =
     let a = c.before.before in
-    promised a _ (over-ends (rec-of a) _ _ _ (all a) _ (walk_of a) _ _ _ (going a) _ (steps a) (codeMeant (entry a).args.code) (all-is a) c.enum_told.given.1)
+    promised a _ (over-ends (rec-of a) _ _ _ (all a) _ (walk_of a) _ _ _ (going a) _ (steps a) (code_meant (entry a).args.code) (all-is a) c.enum_told.given.1)
 
 same-length-3 : tie.Need-same-length-3 invariant-loop decreases-loop
 same-length-3 c = (going (asked c.before)).long
@@ -127,7 +127,7 @@ returns-3 c =
     let f = c.before in
     let a = asked f in
     promised a _
-    (met-ends (rec-of a) _ _ _ (all a) _ (walk_of a) _ _ _ (going a) _ (steps a) (codeMeant (entry a).args.code) (all-is a) _ _ _ f.before.before.place.given.1 _ f.kind-number.ensures c.if1.true)
+    (met-ends (rec-of a) _ _ _ (all a) _ (walk_of a) _ _ _ (going a) _ (steps a) (code_meant (entry a).args.code) (all-is a) _ _ _ f.before.before.place.given.1 _ f.kind-number.ensures c.if1.true)
 
 put-next-requires : tie.Need-put-next-requires invariant-loop decreases-loop
 put-next-requires c κs =
@@ -150,7 +150,7 @@ loop-again c =
     let p = c.before.before in
     let f = field p in
     let a = asked f in
-    going_next (rec-of a) _ _ _ (all a) _ (walk_of a) _ _ _ (going a) _ (steps a) (codeMeant (entry a).args.code) (all-is a) _ _ _ f.before.before.place.given.1 _ f.kind-number.ensures
+    going_next (rec-of a) _ _ _ (all a) _ (walk_of a) _ _ _ (going a) _ (steps a) (code_meant (entry a).args.code) (all-is a) _ _ _ f.before.before.place.given.1 _ f.kind-number.ensures
     _ _ p.before.before.if1.false p.put_next.ensures
 
 pub walk-to-spec : {M : Type 1} → statement M

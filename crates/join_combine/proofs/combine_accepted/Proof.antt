@@ -6,16 +6,16 @@ use mathlib.Core.Path.{◌≡◌, sym, ap, ◌∙◌}
 use borrow.Author.Tests.{not-true, not-false}
 use Rattle.rules.specs.Bytes.{Bytes}
 use Rattle.rules.specs.Numbers.{Sum, ◌⊕◌}
-use Rattle.rules.specs.Lines.{lines_of, recordSize}
-use Rattle.rules.specs.Parts.{headerIn, groupsIn}
-use Rattle.rules.specs.Combine.{limitOf, linesWithin, concat}
+use Rattle.rules.specs.Lines.{lines_of, record_size}
+use Rattle.rules.specs.Parts.{header_in, groups_in}
+use Rattle.rules.specs.Combine.{limit_of, lines_within, concat}
 use Rattle.base_quantities.specs.declared.UnitsSum.{UnitsSum}
 use Rattle.base_quantities.specs.declared.UnitsSum.TheVariants.{Within}
-use Rattle.base_quantities.specs.QuantityMeanings.{sumMeant, unitsWithin}
+use Rattle.base_quantities.specs.QuantityMeanings.{sum_meant, units_within}
 use Rattle.base_quantities.proofs.UnitsLaws.{within-is, within-most, beyond-most}
-use Rattle.read_lines.specs.LineLengths.{firstRecord}
+use Rattle.read_lines.specs.LineLengths.{first_record}
 use Rattle.read_file.specs.declared.GoodFile.{GoodFile}
-use Rattle.base_totals.specs.SummaryMeaning.{summaryMeant}
+use Rattle.base_totals.specs.SummaryMeaning.{summary_meant}
 use Rattle.join_combine.proofs.CombineLaws.{too_large, too_wide, to-fit, last-inside, header-first, groups-within, same_lines}
 use borrow.Author.Rules.{rules}
 use Rattle.join_combine.proofs.combine_accepted.Statement.{statement}
@@ -45,17 +45,17 @@ abbrev out_of : Joined → Bytes
 out_of c = (begun c).args.out.now
 
 abbrev sums : Joined → Sum
-sums c = sumMeant (first_of c).summary.total ⊕ sumMeant (second-of c).summary.total
+sums c = sum_meant (first_of c).summary.total ⊕ sum_meant (second-of c).summary.total
 
 -- what a branch knows of the answer
-told : (c : Joined) (v : UnitsSum) → c.join.result ≡ v → v ≡ unitsWithin (sums c)
+told : (c : Joined) (v : UnitsSum) → c.join.result ≡ v → v ≡ units_within (sums c)
 told c v e = sym e ∙ c.join.ensures
 
 returns-2 : tie.Need-returns-2
 returns-2 c =
     let s = c.before.before.before in
     c.refused-by.ensures (out_of s)
-    ∙ too_large (a-of s) (b-of s) (out_of s) (summaryMeant (first_of s).summary) (summaryMeant (second-of s).summary)
+    ∙ too_large (a-of s) (b-of s) (out_of s) (summary_meant (first_of s).summary) (summary_meant (second-of s).summary)
     (beyond-most (sums s) (told s _ c.before.enum_told.given.1))
 
 -- ---- B's header ends
@@ -69,11 +69,11 @@ sum_of c = c.before.before.before.before
 abbrev header_of : At → ℕ
 header_of c = c.record-end.result.0
 
-header_is : (c : At) → header_of c ≡ recordSize (firstRecord (lines_of (b-of (sum_of c))))
+header_is : (c : At) → header_of c ≡ record_size (first_record (lines_of (b-of (sum_of c))))
 header_is c = c.record-end.ensures.0 ∙ zero-add _
 
 -- the sum is within the largest
-within-sum : (c : At) → Within c.before.before.total.given.0.0 ≡ unitsWithin (sums (sum_of c))
+within-sum : (c : At) → Within c.before.before.total.given.0.0 ≡ units_within (sums (sum_of c))
 within-sum c = told (sum_of c) _ c.before.before.total.given.1
 
 header-fits : (c : At) → header_of c ≤ (second-of (sum_of c)).last.0
@@ -102,20 +102,20 @@ Tested = tie.After-within
 abbrev at_of : Tested → At
 at_of c = c.before.before
 
-tested : (c : Tested) → let s = sum_of (at_of c) in c.within.result ≡ linesWithin (limitOf (headerIn (a-of s))) (concat (concat (groupsIn (b-of s))))
+tested : (c : Tested) → let s = sum_of (at_of c) in c.within.result ≡ lines_within (limit_of (header_in (a-of s))) (concat (concat (groups_in (b-of s))))
 tested c =
     let m = at_of c in
     let s = sum_of m in
     c.within.ensures
     ∙ same_lines (b-of s) (second-of s) (begun s).pre.1 (header_of m) (header_is m) (first_of s).limit
-    ∙ ap (λ (l : ℕ). linesWithin l (concat (concat (groupsIn (b-of s))))) (begun s).pre.0.limit
+    ∙ ap (λ (l : ℕ). lines_within l (concat (concat (groups_in (b-of s))))) (begun s).pre.0.limit
 
 returns : tie.Need-returns
 returns c =
     let w = c.before.before in
     let s = sum_of (at_of w) in
     c.refused-by2.ensures (out_of s)
-    ∙ too_wide (a-of s) (b-of s) (out_of s) (summaryMeant (first_of s).summary) (summaryMeant (second-of s).summary)
+    ∙ too_wide (a-of s) (b-of s) (out_of s) (summary_meant (first_of s).summary) (summary_meant (second-of s).summary)
     (within-most (sums s) _ (within-sum (at_of w))) (sym (tested w) ∙ not-true _ c.before.if1.true)
 
 combine-fitting-requires : tie.Need-combine-fitting-requires
@@ -129,7 +129,7 @@ returns-3 c =
     let w = c.before.before.before.before.before in
     let s = sum_of (at_of w) in
     c.before.before.combine-fitting.ensures
-    ∙ to-fit (a-of s) (b-of s) (out_of s) (summaryMeant (first_of s).summary) (summaryMeant (second-of s).summary)
+    ∙ to-fit (a-of s) (b-of s) (out_of s) (summary_meant (first_of s).summary) (summary_meant (second-of s).summary)
     (within-most (sums s) _ (within-sum (at_of w))) (sym (tested w) ∙ not-false _ c.before.before.before.before.if1.false)
 
 pub combine-accepted-spec : {M : Type 1} → statement M

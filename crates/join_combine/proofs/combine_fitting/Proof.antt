@@ -6,12 +6,12 @@ use mathlib.Core.List.{◌++◌}
 use lib.ListN.{length, take, drop}
 use Rattle.rules.specs.Bytes.{Bytes}
 use Rattle.rules.specs.Lines.{lines_of}
-use Rattle.rules.specs.Limits.{longestFile}
-use Rattle.base_quantities.specs.QuantityMeanings.{sumMeant}
+use Rattle.rules.specs.Limits.{longest_file}
+use Rattle.base_quantities.specs.QuantityMeanings.{sum_meant}
 use Rattle.base_numerals.specs.PutBytes.{Put}
 use Rattle.base_numerals.proofs.PutLaws.{rest-is}
-use Rattle.join_trailer.specs.FreshTrailer.{lastLine, trailerOf}
-use Rattle.join_combine.specs.CombineAnswers.{combinedResult, combinedFitting}
+use Rattle.join_trailer.specs.FreshTrailer.{last_line, trailer_of}
+use Rattle.join_combine.specs.CombineAnswers.{combined_result, combined_fitting}
 use Rattle.join_trailer.proofs.TrailerLengths.{in-front}
 use Rattle.join_trailer.proofs.FitsLaws.{too_long, no_room, written, part-most, front-size}
 use Rattle.join_combine.proofs.CombineLaws.{short, last-inside, header-first, result-is, result-size}
@@ -42,8 +42,8 @@ abbrev h-of : At → ℕ
 h-of c = c.args.header
 
 record Inside (c : At) : Type 0 where
-  a-short : length (a-of c) ≤ longestFile
-  b-short : length (b-of c) ≤ longestFile
+  a-short : length (a-of c) ≤ longest_file
+  b-short : length (b-of c) ≤ longest_file
   a-last : x-of c ≤ length (a-of c)
   b-last : y_of c ≤ length (b-of c)
   header : h-of c ≤ y_of c
@@ -72,16 +72,16 @@ abbrev records-of : Measured → ℕ
 records-of c = c.before.add.result.0
 
 abbrev last_of : Measured → Bytes
-last_of c = let s = (begun c).args in lastLine (sumMeant s.total) (s.first.summary.groups.0 + s.second.summary.groups.0) (records-of c)
+last_of c = let s = (begun c).args in last_line (sum_meant s.total) (s.first.summary.groups.0 + s.second.summary.groups.0) (records-of c)
 
 abbrev size_of : Measured → ℕ
 size_of c = c.fresh-trailer.result.length
 
-fresh : (c : Measured) → c.fresh-trailer.result ≡ trailerOf (last_of c)
-fresh c = c.fresh-trailer.ensures.0 ∙ ap (λ (n : ℕ). trailerOf (lastLine (sumMeant (begun c).args.total) n (records-of c))) c.before.before.both.ensures
+fresh : (c : Measured) → c.fresh-trailer.result ≡ trailer_of (last_of c)
+fresh c = c.fresh-trailer.ensures.0 ∙ ap (λ (n : ℕ). trailer_of (last_line (sum_meant (begun c).args.total) n (records-of c))) c.before.before.both.ensures
 
 -- the result, part by part, and its length
-result : (c : Measured) → let s = begun c in take (x-of s) (a-of s) ++ (take (y_of s - h-of s) (drop (h-of s) (b-of s)) ++ last_of c) ≡ combinedResult (a-of s) (b-of s)
+result : (c : Measured) → let s = begun c in take (x-of s) (a-of s) ++ (take (y_of s - h-of s) (drop (h-of s) (b-of s)) ++ last_of c) ≡ combined_result (a-of s) (b-of s)
 result c =
     let s = begun c in
     let n = (counted_of c).records-left in
@@ -89,10 +89,10 @@ result c =
     let la = ap (λ (xs : Bytes). length (lines_of xs)) (rest-is (x-of s) (a-of s)) in
     let lh = ap (λ (k : ℕ). length (lines_of (take k (b-of s)))) e in
     let lb = ap (λ (xs : Bytes). length (lines_of xs)) (rest-is (y_of s) (b-of s)) in
-    result-is (a-of s) (b-of s) s.args.first s.args.second s.pre.0 s.pre.1 (h-of s) s.pre.2 (sumMeant s.args.total) (records-of c) s.pre.3
+    result-is (a-of s) (b-of s) s.args.first s.args.second s.pre.0 s.pre.1 (h-of s) s.pre.2 (sum_meant s.args.total) (records-of c) s.pre.3
     (omega (arith, c.before.add.ensures, n.ensures, la, lh, lb, s.pre.0.records, s.pre.1.records))
 
-size : (c : Measured) → let s = begun c in (x-of s + (y_of s - h-of s)) + size_of c ≡ length (combinedResult (a-of s) (b-of s))
+size : (c : Measured) → let s = begun c in (x-of s + (y_of s - h-of s)) + size_of c ≡ length (combined_result (a-of s) (b-of s))
 size c =
     let s = begun c in
     let last = c.fresh-trailer.ensures in
@@ -102,7 +102,7 @@ size c =
 -- the same, as the slices are lent
 lent : (c : Measured) → let s = begun c in
     take (x-of s - 0) (drop 0 (a-of s)) ++ (take (y_of s - h-of s) (drop (h-of s) (b-of s)) ++ take (size_of c - 0) (drop 0 c.fresh-trailer.result.bytes))
-    ≡ combinedResult (a-of s) (b-of s)
+    ≡ combined_result (a-of s) (b-of s)
 lent c =
     let s = begun c in
     let e : x-of s - 0 ≡ x-of s = omega arith in
@@ -141,9 +141,9 @@ records-left-requires c κs =
     let i = inside s in (
       s.pre.0.records,
       s.pre.1.records,
-      part-most longestFile (length (a-of s) - x-of s) (x-of s) (a-of s) i.a-short,
-      part-most longestFile (h-of s - 0) 0 (b-of s) i.b-short,
-      part-most longestFile (length (b-of s) - y_of s) (y_of s) (b-of s) i.b-short,
+      part-most longest_file (length (a-of s) - x-of s) (x-of s) (a-of s) i.a-short,
+      part-most longest_file (h-of s - 0) 0 (b-of s) i.b-short,
+      part-most longest_file (length (b-of s) - y_of s) (y_of s) (b-of s) i.b-short,
     )
 
 both-requires : tie.Need-both-requires
@@ -161,18 +161,18 @@ add-length-2 : tie.Need-overflow-add-length-2
 add-length-2 c = let i = inside (begun c) in omega (arith, i.a-last, i.b-last, i.a-short, i.b-short, c.fresh-trailer.ensures.1)
 
 returns : tie.Need-returns
-unfolding combinedFitting
+unfolding combined_fitting
 returns c =
     let m = c.before.before in
     let s = begun m in
-    c.refused-by.ensures (out_of s) ∙ too_long (combinedResult (a-of s) (b-of s)) (out_of s) 0 (omega (arith, size m))
+    c.refused-by.ensures (out_of s) ∙ too_long (combined_result (a-of s) (b-of s)) (out_of s) 0 (omega (arith, size m))
 
 returns-2 : tie.Need-returns-2
-unfolding combinedFitting
+unfolding combined_fitting
 returns-2 c =
     let m = c.before.before.before in
     let s = begun m in
-    c.refused-by2.ensures (out_of s) ∙ no_room (combinedResult (a-of s) (b-of s)) (out_of s) 0 (omega (arith, size m)) (omega (arith, size m))
+    c.refused-by2.ensures (out_of s) ∙ no_room (combined_result (a-of s) (b-of s)) (out_of s) 0 (omega (arith, size m)) (omega (arith, size m))
 
 -- ---- it fits
 
@@ -185,10 +185,10 @@ measured-of c = c.before.before.before
 abbrev fit_of : Fits → At
 fit_of c = begun (measured-of c)
 
-short-enough : (c : Fits) → let s = fit_of c in length (combinedResult (a-of s) (b-of s)) ≤ longestFile
+short-enough : (c : Fits) → let s = fit_of c in length (combined_result (a-of s) (b-of s)) ≤ longest_file
 short-enough c = omega (arith, size (measured-of c), c.before.before.if1.false)
 
-room : (c : Fits) → let s = fit_of c in length (combinedResult (a-of s) (b-of s)) ≤ length (out_of s)
+room : (c : Fits) → let s = fit_of c in length (combined_result (a-of s) (b-of s)) ≤ length (out_of s)
 room c = omega (arith, size (measured-of c), c.before.if2.false)
 
 part-put-three-end : tie.Need-slice-bounds-put-three-end
@@ -209,12 +209,12 @@ put-three-requires c κs =
     subst (λ (bs : Bytes). length bs ≤ length (out_of (fit_of f))) (sym (lent (measured-of f))) (room f)
 
 returns-3 : tie.Need-returns-3
-unfolding combinedFitting
+unfolding combined_fitting
 returns-3 c =
     let put = c.before.before.put_three in
     let f = c.before.before.before.before.before.before.before.before in
     let s = fit_of f in
-    written (combinedResult (a-of s) (b-of s)) (out_of s) 0 (short-enough f) (room f) put.result put.new.1.1.1.0
+    written (combined_result (a-of s) (b-of s)) (out_of s) 0 (short-enough f) (room f) put.result put.new.1.1.1.0
     (subst (λ (bs : Bytes). Put bs (out_of s) put.result put.new.1.1.1.0) (lent (measured-of f)) put.ensures)
 
 pub combine-fitting-spec : {M : Type 1} → statement M

@@ -3,7 +3,7 @@ use mathlib.Core.Path.{sym, ap, ◌∙◌}
 use Rattle.rules.specs.Lines.{lines_of}
 use Rattle.rules.proofs.Tests.{is_true}
 use Rattle.read_line_checks.specs.declared.Checked.{Checked}
-use Rattle.read_line_checks.specs.LineChecks.{checkedOf}
+use Rattle.read_line_checks.specs.LineChecks.{checked_of}
 use Rattle.join_combine.proofs.LimitLaws.{within_more, none_within, none_over}
 use borrow.Author.Rules.{rules}
 use Rattle.join_combine.proofs.within.Statement.{statement}
@@ -18,13 +18,13 @@ returns-2 : tie.Need-returns-2
 returns-2 c =
     let n = c.before.before in
     let a = n.before.before.before.args in
-    none_within a.limit 0 (lines_of a.s.now) (sym n.none-longer.ensures.0 ∙ ap (λ (v : Checked). checkedOf v) c.enum_told.given.1)
+    none_within a.limit 0 (lines_of a.s.now) (sym n.none-longer.ensures.0 ∙ ap (λ (v : Checked). checked_of v) c.enum_told.given.1)
 
 returns-3 : tie.Need-returns-3
 returns-3 c =
     let n = c.before.before in
     let a = n.before.before.before.args in
-    none_over a.limit 0 (lines_of a.s.now) _ (sym n.none-longer.ensures.0 ∙ ap (λ (v : Checked). checkedOf v) c.enum-told2.given.1)
+    none_over a.limit 0 (lines_of a.s.now) _ (sym n.none-longer.ensures.0 ∙ ap (λ (v : Checked). checked_of v) c.enum-told2.given.1)
 
 pub within-spec : {M : Type 1} → statement M
 within-spec =

@@ -1,11 +1,11 @@
 -- `join_groups::read_trailer` meets its contract. Assumes nothing.
 use mathlib.Core.Path.{ap, ◌∙◌}
 use borrow.Author.Rules.{rules}
-use Rattle.rules.specs.Amounts.{amountAdds}
-use Rattle.rules.specs.Lines.{groupTrailer, lines_of}
+use Rattle.rules.specs.Amounts.{amount_adds}
+use Rattle.rules.specs.Lines.{group_trailer, lines_of}
 use Rattle.rules.specs.Grammar.{fields_of}
 use Rattle.base_digits.specs.NumbersRead.{value_of}
-use Rattle.base_amounts.specs.AmountsRead.{amountRead}
+use Rattle.base_amounts.specs.AmountsRead.{amount_read}
 use Rattle.find_field.proofs.DetailFields.{total-found, records-found}
 use Rattle.join_groups.proofs.read_trailer.Statement.{statement}
 use Rattle.join_groups.proofs.read_trailer.Tie as tie
@@ -14,8 +14,8 @@ returns : tie.Need-returns
 returns c =
     let r = lines_of c.before.before.before.before.before.before.args.rec.now in
     let total = c.before.before.before in (
-      c.adds.ensures ∙ ap amountAdds (total.amount-in.ensures ∙ ap amountRead total.before.field.ensures ∙ total-found (fields_of groupTrailer) r),
-      c.before.value.ensures.0 ∙ ap value_of c.before.before.field2.ensures ∙ records-found (fields_of groupTrailer) r,
+      c.adds.ensures ∙ ap amount_adds (total.amount-in.ensures ∙ ap amount_read total.before.field.ensures ∙ total-found (fields_of group_trailer) r),
+      c.before.value.ensures.0 ∙ ap value_of c.before.before.field2.ensures ∙ records-found (fields_of group_trailer) r,
     )
 
 pub read-trailer-spec : {M : Type 1} → statement M

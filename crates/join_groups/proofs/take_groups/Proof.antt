@@ -5,13 +5,13 @@ use mathlib.Core.Path.{◌≡◌, refl, ap, sym, subst, ◌∙◌}
 use mathlib.Core.Bool.{true}
 use mathlib.Core.List.{List}
 use lib.ListN.{length, take, drop}
-use Rattle.rules.specs.Bytes.{Bytes, sameBytes}
+use Rattle.rules.specs.Bytes.{Bytes, same_bytes}
 use Rattle.rules.specs.Numbers.{Sum, ◌⊕◌}
-use Rattle.rules.specs.Lines.{groupHeader, codeBytes, Record}
-use Rattle.base_quantities.specs.QuantityMeanings.{sumMeant, wrappedSum, mostRecords}
+use Rattle.rules.specs.Lines.{group_header, code_bytes, Record}
+use Rattle.base_quantities.specs.QuantityMeanings.{sum_meant, wrapped_sum, most_records}
 use Rattle.base_slices.proofs.WroteLaws.{within-rest}
-use Rattle.join_groups.specs.StatedNumbers.{statedTotal, statedRecords}
-use Rattle.join_groups.specs.GroupsTaken.{groupsTaken}
+use Rattle.join_groups.specs.StatedNumbers.{stated_total, stated_records}
+use Rattle.join_groups.specs.GroupsTaken.{groups_taken}
 use Rattle.join_groups.proofs.GroupTallies.{Taking, take-start, take-one, take-end, take_put}
 use Rattle.join_groups.proofs.GroupTurns.{spans, TurnIs, turn_is, no_more}
 use borrow.Author.Rules.{rules}
@@ -21,7 +21,7 @@ use Rattle.join_groups.proofs.take_groups.Tie as tie
 abbrev invariant-loop : tie.invariant-loop
 invariant-loop name file out₀ from o₀ groups₀ bytes₀ total₀ records₀ out at o groups bytes total records =
     (o ≤ length out) × (length out ≡ length out₀) × (groups + from ≤ at) × (bytes + from ≤ at) × (at ≤ length file + (from - length file))
-    × Taking (groupsTaken name (drop from file)) (groupsTaken name (drop at file)) out₀ groups bytes (sumMeant total) records.0 o out
+    × Taking (groups_taken name (drop from file)) (groups_taken name (drop at file)) out₀ groups bytes (sum_meant total) records.0 o out
 
 abbrev decreases-loop : tie.decreases-loop
 decreases-loop name file out₀ from o₀ groups₀ bytes₀ total₀ records₀ out at o groups bytes total records = length file - at
@@ -56,7 +56,7 @@ end_of c = c.record-end.result.0
 abbrev here_of : Turn → Bytes
 here_of c = drop (at_of c) (file-of c)
 
-begun : (c : Turn) → sameBytes (codeBytes groupHeader) (take 3 (here_of c)) ≡ true
+begun : (c : Turn) → same_bytes (code_bytes group_header) (take 3 (here_of c)) ≡ true
 begun c = sym c.before.before.before.begins.ensures ∙ c.before.before.if1.true
 
 places : (c : Turn) → (at_of c + 3 ≤ last_of c) × (last_of c ≤ end_of c) × (end_of c ≤ length (file-of c)) × (length (take (end_of c - at_of c) (here_of c)) ≡ end_of c - at_of c)
@@ -82,7 +82,7 @@ abbrev So-far : Asked → List (List Record) → Type 0
 So-far c gs =
     let t = turn-of c in
     let l = (head t).loop in
-    Taking (groupsTaken (name_of t) (drop (entry t).args.from.0 (file-of t))) gs (entry t).args.out.now l.groups l.bytes (sumMeant l.total) l.records.0 l.o l.out
+    Taking (groups_taken (name_of t) (drop (entry t).args.from.0 (file-of t))) gs (entry t).args.out.now l.groups l.bytes (sum_meant l.total) l.records.0 l.o l.out
 
 -- ---- at the end of a turn that took the group
 
@@ -101,7 +101,7 @@ read_of c = c.before.before
 loop-holds : tie.Need-loop-init invariant-loop decreases-loop
 loop-holds c =
     let a = c.before.before.before.args in
-    (omega arith, refl, omega arith, omega arith, omega arith, take-start (groupsTaken a.name.now (drop a.from.0 a.file.now)) a.out.now)
+    (omega arith, refl, omega arith, omega arith, omega arith, take-start (groups_taken a.name.now (drop a.from.0 a.file.now)) a.out.now)
 
 part-is-for-end : tie.Need-slice-bounds-is-for-end invariant-loop decreases-loop
 part-is-for-end c = omega (arith, places c.before, c.record-end2.ensures.1)
@@ -143,8 +143,8 @@ loop-again c =
     let read = (read_of c).read-trailer.ensures in
     let kept = c.before.before.before.before.before.out.given.1 in
     let ahead = subst (So-far asked) (turn.next-taken is-taken) l.inv.5 in
-    let sum = c.before.add.ensures ∙ ap (λ (a : Sum). wrappedSum (sumMeant l.total ⊕ a)) (read.0 ∙ ap (λ (r : Record). statedTotal r) turn.trailer) in
-    let lines = c.add2.ensures ∙ ap (λ (n : ℕ). min (l.records.0 + n) mostRecords) (read.1 ∙ ap (λ (r : Record). statedRecords r) turn.trailer) in (
+    let sum = c.before.add.ensures ∙ ap (λ (a : Sum). wrapped_sum (sum_meant l.total ⊕ a)) (read.0 ∙ ap (λ (r : Record). stated_total r) turn.trailer) in
+    let lines = c.add2.ensures ∙ ap (λ (n : ℕ). min (l.records.0 + n) most_records) (read.1 ∙ ap (λ (r : Record). stated_records r) turn.trailer) in (
       omega (arith, within-rest l.o _ l.out _ _ l.inv.0 (put_of c).put.ensures, kept),
       kept ∙ l.inv.1,
       omega (arith, l.inv.2),
@@ -176,9 +176,9 @@ returns : tie.Need-returns invariant-loop decreases-loop
 returns c =
     let l = c.before.before.loop in
     let a = c.before.before.before.before.before.before.args in
-    let all = groupsTaken a.name.now (drop a.from.0 a.file.now) in
+    let all = groups_taken a.name.now (drop a.from.0 a.file.now) in
     let over = no_more a.name.now (drop l.at a.file.now) (sym c.before.begins.ensures ∙ c.if1.false) in
-    let took = subst (λ (gs : List (List Record)). Taking all gs a.out.now l.groups l.bytes (sumMeant l.total) l.records.0 l.o l.out) over l.invariant.5 in
+    let took = subst (λ (gs : List (List Record)). Taking all gs a.out.now l.groups l.bytes (sum_meant l.total) l.records.0 l.o l.out) over l.invariant.5 in
     (take-end all a.out.now l.groups l.bytes l.total l.records l.o l.out took, take_put all a.out.now l.groups l.bytes l.total l.records l.o l.out took)
 
 pub take-groups-spec : {M : Type 1} → statement M

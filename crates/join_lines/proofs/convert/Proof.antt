@@ -3,7 +3,7 @@ use mathlib.Core.Path.{◌≡◌, ◌∙◌}
 use native.Mathlib.Omega.{arith}
 use lib.ListN.{length}
 use Rattle.join_trailer.proofs.FitsLaws.{too_long, no_room, written}
-use Rattle.join_lines.specs.LinesWritten.{block_lines, linesFitting}
+use Rattle.join_lines.specs.LinesWritten.{block_lines, lines_fitting}
 use borrow.Author.Rules.{rules}
 use Rattle.join_lines.proofs.convert.Statement.{statement}
 use Rattle.join_lines.proofs.convert.Tie as tie
@@ -18,14 +18,14 @@ lines-length-requires : tie.Need-lines-length-requires
 lines-length-requires c κs = let p = c.before.before.requires in (omega (arith, p.some_byte), p.not-too-long)
 
 returns : tie.Need-returns
-unfolding linesFitting
+unfolding lines_fitting
 returns c =
     let m = c.before.before in
     let a = (begun m).args in
     c.refused.ensures a.out.now ∙ too_long (block_lines a.size a.file.now) a.out.now 0 (omega (arith, m.lines-length.ensures, c.before.if1.true))
 
 returns-2 : tie.Need-returns-2
-unfolding linesFitting
+unfolding lines_fitting
 returns-2 c =
     let m = c.before.before.before in
     let a = (begun m).args in
@@ -38,7 +38,7 @@ write-lines-requires c κs =
     (omega (arith, (begun m).requires.some_byte), omega (arith, m.lines-length.ensures, c.before.if2.false))
 
 returns-3 : tie.Need-returns-3
-unfolding linesFitting
+unfolding lines_fitting
 returns-3 c =
     let write = c.before.before.write-lines in
     let m = c.before.before.before.before.before.before in

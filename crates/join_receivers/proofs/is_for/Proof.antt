@@ -1,12 +1,12 @@
 -- `join_receivers::is_for` meets its contract. Assumes nothing.
 use mathlib.Core.Path.{ap, ◌∙◌}
-use Rattle.rules.specs.Bytes.{sameBytes}
+use Rattle.rules.specs.Bytes.{same_bytes}
 use borrow.Author.Rules.{rules}
 use Rattle.join_receivers.proofs.is_for.Statement.{statement}
 use Rattle.join_receivers.proofs.is_for.Tie as tie
 
 returns : tie.Need-returns
-returns c = c.same_bytes.ensures ∙ ap (sameBytes c.before.before.before.before.args.name.now) c.before.field.ensures
+returns c = c.same_bytes.ensures ∙ ap (same_bytes c.before.before.before.before.args.name.now) c.before.field.ensures
 
 pub is-for-spec : {M : Type 1} → statement M
 is-for-spec = tie.close (tie.spec (λ c κs. search rules) (λ c κs. search rules) returns)

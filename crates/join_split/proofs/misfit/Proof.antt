@@ -4,7 +4,7 @@ use native.Mathlib.Omega.{arith}
 use borrow.Author.Tests.{leb-true}
 use lib.ListN.{length}
 use Rattle.join_groups.proofs.GroupOpens.{opened}
-use Rattle.join_split.specs.SplitAnswers.{splitResult}
+use Rattle.join_split.specs.SplitAnswers.{split_result}
 use Rattle.join_split.proofs.MisfitLaws.{misfit-long, misfit-room, misfit-none}
 use Rattle.join_split.proofs.SplitLaws.{result-most}
 use borrow.Author.Rules.{rules}
@@ -18,22 +18,22 @@ returns c =
     let a = s.args in
     let p = s.requires in
     let most = result-most a.name.now a.file.now a.header (opened a.file.now p.0.0 a.header p.0.1 p.1) in
-    misfit-none (splitResult a.name.now a.file.now) a.room (omega (arith, most, leb-true (length a.file.now + 64) 16777216 c.if2.true)) (omega (arith, most, c.before.if1.true))
+    misfit-none (split_result a.name.now a.file.now) a.room (omega (arith, most, leb-true (length a.file.now + 64) 16777216 c.if2.true)) (omega (arith, most, c.before.if1.true))
 
 returns-2 : tie.Need-returns-2
 returns-2 c =
     let a = c.before.before.before.before.before.args in
-    misfit-long (splitResult a.name.now a.file.now) a.room (omega (arith, c.before.split-length.ensures))
+    misfit-long (split_result a.name.now a.file.now) a.room (omega (arith, c.before.split-length.ensures))
 
 returns-3 : tie.Need-returns-3
 returns-3 c =
     let a = c.before.before.before.before.before.before.args in
-    misfit-room (splitResult a.name.now a.file.now) a.room (omega (arith, c.before.before.split-length.ensures)) (omega (arith, c.before.before.split-length.ensures))
+    misfit-room (split_result a.name.now a.file.now) a.room (omega (arith, c.before.before.split-length.ensures)) (omega (arith, c.before.before.split-length.ensures))
 
 returns-4 : tie.Need-returns-4
 returns-4 c =
     let a = c.before.before.before.before.before.before.args in
-    misfit-none (splitResult a.name.now a.file.now) a.room (omega (arith, c.before.before.split-length.ensures)) (omega (arith, c.before.before.split-length.ensures))
+    misfit-none (split_result a.name.now a.file.now) a.room (omega (arith, c.before.before.split-length.ensures)) (omega (arith, c.before.before.split-length.ensures))
 
 pub misfit-spec : {M : Type 1} → statement M
 misfit-spec =

@@ -4,10 +4,10 @@ use mathlib.Core.Bool.{true}
 use borrow.Author.Tests.{not-true, not-false}
 use Rattle.rules.specs.Bytes.{Bytes}
 use Rattle.rules.specs.Verdict.{judge}
-use Rattle.rules.specs.Split.{isName}
+use Rattle.rules.specs.Split.{is_name}
 use Rattle.read_file.specs.declared.Verdict.{Verdict}
-use Rattle.base_totals.specs.SummaryMeaning.{summaryMeant}
-use Rattle.read_file.specs.FileMeanings.{verdictMeant}
+use Rattle.base_totals.specs.SummaryMeaning.{summary_meant}
+use Rattle.read_file.specs.FileMeanings.{verdict_meant}
 use Rattle.join_split.proofs.NameLaws.{split-16, split-refused, split-accepted}
 use borrow.Author.Rules.{rules}
 use Rattle.join_split.proofs.split.Statement.{statement}
@@ -43,30 +43,30 @@ Read = tie.After-read
 abbrev asked_of : Read → Asked
 asked_of c = c.before.before
 
-is_name : (c : Read) → isName (name_of (asked_of c)) ≡ true
-is_name c = sym (asked_of c).is-asked.ensures ∙ not-false _ c.before.if1.false
+name_is : (c : Read) → is_name (name_of (asked_of c)) ≡ true
+name_is c = sym (asked_of c).is-asked.ensures ∙ not-false _ c.before.if1.false
 
 -- what a branch knows of the verdict
-told : (c : Read) (v : Verdict) → c.read.result ≡ v → judge (file-of (asked_of c)) ≡ verdictMeant v
-told c v e = sym c.read.ensures ∙ ap (λ (x : Verdict). verdictMeant x) e
+told : (c : Read) (v : Verdict) → c.read.result ≡ v → judge (file-of (asked_of c)) ≡ verdict_meant v
+told c v e = sym c.read.ensures ∙ ap (λ (x : Verdict). verdict_meant x) e
 
 split-accepted-requires : tie.Need-split-accepted-requires
 split-accepted-requires c κs =
     let told_of = c.before.enum_told in
-    (summaryMeant told_of.given.0.0, told c.before.before.before _ told_of.given.1)
+    (summary_meant told_of.given.0.0, told c.before.before.before _ told_of.given.1)
 
 returns-2 : tie.Need-returns-2
 returns-2 c =
     let r = c.before.before.before.before in
     let s = asked_of r in
-    c.refused2.ensures (out_of s) ∙ split-refused (name_of s) (file-of s) (out_of s) (is_name r) _ (told r _ c.before.before.why.given.1)
+    c.refused2.ensures (out_of s) ∙ split-refused (name_of s) (file-of s) (out_of s) (name_is r) _ (told r _ c.before.before.why.given.1)
 
 returns-3 : tie.Need-returns-3
 returns-3 c =
     let r = c.before.before.before.before.before.before in
     let s = asked_of r in
     c.before.before.split-accepted.ensures
-    ∙ split-accepted (name_of s) (file-of s) (out_of s) (is_name r) _ (told r _ c.before.before.before.before.enum_told.given.1)
+    ∙ split-accepted (name_of s) (file-of s) (out_of s) (name_is r) _ (told r _ c.before.before.before.before.enum_told.given.1)
 
 pub split-spec : {M : Type 1} → statement M
 split-spec =

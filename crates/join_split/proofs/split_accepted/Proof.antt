@@ -2,8 +2,8 @@
 use mathlib.Core.Path.{sym, ◌∙◌}
 use Prim.Native.Nat.{◌≤◌}
 use lib.ListN.{length}
-use Rattle.rules.specs.Limits.{longestFile}
-use Rattle.join_split.specs.SplitAnswers.{splitResult, splitFitting}
+use Rattle.rules.specs.Limits.{longest_file}
+use Rattle.join_split.specs.SplitAnswers.{split_result, split_fitting}
 use Rattle.join_trailer.proofs.FitsLaws.{written}
 use Rattle.join_split.proofs.MisfitLaws.{misfit-refused, fits_by}
 use borrow.Author.Rules.{rules}
@@ -11,18 +11,18 @@ use Rattle.join_split.proofs.split_accepted.Statement.{statement}
 use Rattle.join_split.proofs.split_accepted.Tie as tie
 
 returns : tie.Need-returns
-unfolding splitFitting
+unfolding split_fitting
 returns c =
     let a = c.before.before.before.before.before.before.before.args in
     let m = c.before.before.misfit in
-    c.refused.ensures a.out.now ∙ misfit-refused (splitResult a.name.now a.file.now) a.out.now 0 m.result m.ensures c.before.if1.true
+    c.refused.ensures a.out.now ∙ misfit-refused (split_result a.name.now a.file.now) a.out.now 0 m.result m.ensures c.before.if1.true
 
 -- once it is known that it fits
 fits : (c : tie.Else1) → let a = c.before.before.before.before.before.before.args in
-    (length (splitResult a.name.now a.file.now) ≤ longestFile) × (length (splitResult a.name.now a.file.now) ≤ length a.out.now)
+    (length (split_result a.name.now a.file.now) ≤ longest_file) × (length (split_result a.name.now a.file.now) ≤ length a.out.now)
 fits c =
     let a = c.before.before.before.before.before.before.args in
-    fits_by (splitResult a.name.now a.file.now) (length a.out.now) (sym c.if1.false ∙ c.before.misfit.ensures)
+    fits_by (split_result a.name.now a.file.now) (length a.out.now) (sym c.if1.false ∙ c.before.misfit.ensures)
 
 write-split-requires : tie.Need-write-split-requires
 write-split-requires c κs =
@@ -30,12 +30,12 @@ write-split-requires c κs =
     ((s.requires, c.before.before.before.record-end.ensures.0), (fits c.before).1)
 
 returns-2 : tie.Need-returns-2
-unfolding splitFitting
+unfolding split_fitting
 returns-2 c =
     let e = c.before.before.before.before in
     let a = e.before.before.before.before.before.before.args in
     let write = c.before.before.write-split in
-    written (splitResult a.name.now a.file.now) a.out.now 0 (fits e).0 (fits e).1 write.result write.new.1.1.1.0 write.ensures
+    written (split_result a.name.now a.file.now) a.out.now 0 (fits e).0 (fits e).1 write.result write.new.1.1.1.0 write.ensures
 
 pub split-accepted-spec : {M : Type 1} → statement M
 split-accepted-spec =

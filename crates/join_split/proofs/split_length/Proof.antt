@@ -5,7 +5,7 @@ use mathlib.Core.Path.{◌≡◌}
 use lib.ListN.{length}
 use Rattle.rules.specs.Bytes.{Bytes}
 use Rattle.join_groups.proofs.GroupOpens.{Opened, opened}
-use Rattle.join_split.specs.SplitAnswers.{splitResult, splitLast}
+use Rattle.join_split.specs.SplitAnswers.{split_result, split_last}
 use Rattle.join_trailer.proofs.FitsLaws.{front-size}
 use Rattle.join_split.proofs.SplitLaws.{result-size, result-most}
 use borrow.Author.Rules.{rules}
@@ -28,18 +28,18 @@ header_of c = c.before.before.before.before.before.before.before.args.header
 known : (c : Took) → Opened (file-of c) (header_of c)
 known c = let p = c.before.before.before.before.before.before.before.requires in opened (file-of c) p.0.0 (header_of c) p.0.1 p.1
 
-sizes : (c : Took) → let r = c.before.before.before.take_rest.result in (header_of c + r.bytes) + r.last.length ≡ length (splitResult (name_of c) (file-of c))
+sizes : (c : Took) → let r = c.before.before.before.take_rest.result in (header_of c + r.bytes) + r.last.length ≡ length (split_result (name_of c) (file-of c))
 sizes c =
     let r = c.before.before.before.take_rest.result in
     let rest = c.before.before.before.take_rest.ensures in
     omega (
       arith,
       rest.count,
-      front-size (splitLast (name_of c) (file-of c)) r.last.bytes r.last.length rest.is_last (omega (arith, rest.last-most)),
+      front-size (split_last (name_of c) (file-of c)) r.last.bytes r.last.length rest.is_last (omega (arith, rest.last-most)),
       result-size (name_of c) (file-of c) (header_of c) (known c),
     )
 
-small : (c : Took) → length (splitResult (name_of c) (file-of c)) ≤ 16777216 + 64
+small : (c : Took) → length (split_result (name_of c) (file-of c)) ≤ 16777216 + 64
 small c = omega (arith, result-most (name_of c) (file-of c) (header_of c) (known c), (known c).not-too-long)
 
 add-result : tie.Need-overflow-add-result

@@ -5,7 +5,7 @@ use mathlib.Core.Path.{◌≡◌, ap, subst, ◌∙◌}
 use lib.ListN.{length, take, drop, length-drop}
 use Rattle.rules.specs.Bytes.{Bytes}
 use Rattle.rules.specs.Lines.{lines_of}
-use Rattle.base_quantities.specs.QuantityMeanings.{sumMeant}
+use Rattle.base_quantities.specs.QuantityMeanings.{sum_meant}
 use Rattle.base_numerals.specs.PutBytes.{Put}
 use Rattle.join_groups.proofs.GroupsAhead.{matching, Takes}
 use Rattle.join_groups.proofs.TakenLaws.{takes}
@@ -67,7 +67,7 @@ returns c =
     record {
       count = taken.tallied.size ∙ ap length groups;
       put = same-put _ _ _ _ _ groups taken.put;
-      is_last = in-front _ _ last.0 ∙ last-is name file h (known m) t.result.groups.0 t.result.bytes (sumMeant t.result.total) t.result.records.0 n _ taken.tallied lines all;
+      is_last = in-front _ _ last.0 ∙ last-is name file h (known m) t.result.groups.0 t.result.bytes (sum_meant t.result.total) t.result.records.0 n _ taken.tallied lines all;
       last-most = (last.1, last.2);
     }
 

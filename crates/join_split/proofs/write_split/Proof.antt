@@ -10,7 +10,7 @@ use Rattle.base_numerals.specs.PutBytes.{Put}
 use Rattle.base_slices.specs.WroteBytes.{Wrote}
 use Rattle.base_slices.proofs.WroteLaws.{wrote-first, wrote-part, wrote-last, has_room, within-rest}
 use Rattle.join_groups.proofs.GroupOpens.{Opened, opened}
-use Rattle.join_split.specs.SplitAnswers.{Opens, splitResult, splitGroups, splitLast}
+use Rattle.join_split.specs.SplitAnswers.{Opens, split_result, split_groups, split_last}
 use Rattle.join_split.proofs.SplitLaws.{result_parts}
 use borrow.Author.Rules.{rules}
 use Rattle.join_split.proofs.write_split.Statement.{statement}
@@ -20,13 +20,13 @@ known : (file : Bytes) (h : ℕ) → Opens file h → Opened file h
 known file h p = opened file p.0.0 h p.0.1 p.1
 
 -- header and groups stand, and the 99 is left
-after-groups : (name file out : Bytes) (h : ℕ) → Opens file h → length (splitResult name file) ≤ length out → (r : ℕ) (out₁ : Bytes) → Put (take (h - 0) (drop 0 file)) out r out₁
-    → (bytes : ℕ) (after : Bytes) → (length (splitGroups name file) ≤ length (mid_of r (length out₁ - r) out₁) → Put (splitGroups name file) (mid_of r (length out₁ - r) out₁) bytes after)
-    → Wrote (splitResult name file) out (r + bytes) (splitLast name file) (put_mid r (length out₁ - r) out₁ after)
+after-groups : (name file out : Bytes) (h : ℕ) → Opens file h → length (split_result name file) ≤ length out → (r : ℕ) (out₁ : Bytes) → Put (take (h - 0) (drop 0 file)) out r out₁
+    → (bytes : ℕ) (after : Bytes) → (length (split_groups name file) ≤ length (mid_of r (length out₁ - r) out₁) → Put (split_groups name file) (mid_of r (length out₁ - r) out₁) bytes after)
+    → Wrote (split_result name file) out (r + bytes) (split_last name file) (put_mid r (length out₁ - r) out₁ after)
 after-groups name file out h p room r out₁ first bytes after put =
     let e : h - 0 ≡ h = omega arith in
-    let groups = splitGroups name file in
-    let last = splitLast name file in
+    let groups = split_groups name file in
+    let last = split_last name file in
     let whole = result_parts name file h (known file h p) in
     let w = wrote-first (take h file) (groups ++ last) out r out₁ (omega (arith, ap length whole, room)) (rw e at first) in
     subst (λ (bs : Bytes). Wrote bs out (r + bytes) last (put_mid r (length out₁ - r) out₁ after)) whole (wrote-part _ out r groups last out₁ bytes after w (put (has_room _ out r groups last out₁ w)))
@@ -72,7 +72,7 @@ holds c =
     let put = (header-put c).put in
     put_mid put.result (length put.last.0 - put.result) put.last.0 (rest_of c).take_rest.new.1.1.1.0
 
-wrote : (c : Took) → Wrote (splitResult (name_of c) (file-of c)) (out_of c) ((header-put c).put.result + (rest_of c).take_rest.result.bytes) (splitLast (name_of c) (file-of c)) (holds c)
+wrote : (c : Took) → Wrote (split_result (name_of c) (file-of c)) (out_of c) ((header-put c).put.result + (rest_of c).take_rest.result.bytes) (split_last (name_of c) (file-of c)) (holds c)
 wrote c =
     let put = (header-put c).put in
     let rest = (rest_of c).take_rest in

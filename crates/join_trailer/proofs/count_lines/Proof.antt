@@ -6,7 +6,7 @@ use lib.ListN.{length, drop, length-drop, drop_of_length-le}
 use lib.Seq.{drop-drop}
 use Rattle.rules.specs.Bytes.{Bytes}
 use Rattle.rules.specs.Lines.{lines_of}
-use Rattle.read_lines.specs.LineLengths.{lineLen}
+use Rattle.read_lines.specs.LineLengths.{line_len}
 use Rattle.read_lines.proofs.LineLengthLaws.{first_of, line-some}
 use borrow.Author.Rules.{rules}
 use Rattle.join_trailer.proofs.count_lines.Statement.{statement}
@@ -19,10 +19,10 @@ abbrev decreases-loop : tie.decreases-loop
 decreases-loop s n₀ at₀ n at = length s - at
 
 -- a line more is passed
-line-more : (s : Bytes) (at next : ℕ) → at < length s → next ≡ at + lineLen (drop at s) → (at < next) × (length (lines_of (drop at s)) ≡ 1 + length (lines_of (drop next s)))
+line-more : (s : Bytes) (at next : ℕ) → at < length s → next ≡ at + line_len (drop at s) → (at < next) × (length (lines_of (drop at s)) ≡ 1 + length (lines_of (drop next s)))
 line-more s at next h e =
     let some : 0 < length (drop at s) = omega (arith, length-drop at s) in
-    let after : length (lines_of (drop (lineLen (drop at s)) (drop at s))) ≡ length (lines_of (drop next s)) = rw e (ap (λ (xs : Bytes). length (lines_of xs)) (drop-drop (lineLen (drop at s)) at s)) in
+    let after : length (lines_of (drop (line_len (drop at s)) (drop at s))) ≡ length (lines_of (drop next s)) = rw e (ap (λ (xs : Bytes). length (lines_of xs)) (drop-drop (line_len (drop at s)) at s)) in
     (omega (arith, line-some (drop at s) some), ap length (first_of (drop at s) some) ∙ omega (arith, after))
 
 -- in a turn, once the next line is known

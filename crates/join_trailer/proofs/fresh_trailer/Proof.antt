@@ -1,6 +1,6 @@
 -- `join_trailer::fresh_trailer` meets its contract. Assumes nothing.
 use native.Mathlib.Omega.{arith}
-use Rattle.base_quantities.specs.QuantityMeanings.{sumMeant}
+use Rattle.base_quantities.specs.QuantityMeanings.{sum_meant}
 use Rattle.join_trailer.proofs.TrailerLengths.{last-most, put-80}
 use borrow.Author.Rules.{rules}
 use Rattle.join_trailer.proofs.fresh_trailer.Statement.{statement}
@@ -9,12 +9,12 @@ use Rattle.join_trailer.proofs.fresh_trailer.Tie as tie
 put-trailer-requires : tie.Need-put-trailer-requires
 put-trailer-requires c κs =
     let a = c.before.args in
-    omega (arith, last-most (sumMeant a.total) a.groups.0 a.records.0 (omega arith) (omega arith) (omega arith) (omega arith))
+    omega (arith, last-most (sum_meant a.total) a.groups.0 a.records.0 (omega arith) (omega arith) (omega arith) (omega arith))
 
 returns : tie.Need-returns
 returns c =
     let a = c.before.before.before.args in
-    let most = last-most (sumMeant a.total) a.groups.0 a.records.0 (omega arith) (omega arith) (omega arith) (omega arith) in
+    let most = last-most (sum_meant a.total) a.groups.0 a.records.0 (omega arith) (omega arith) (omega arith) (omega arith) in
     put-80 _ _ _ most c.before.put-trailer.ensures
 
 pub fresh-trailer-spec : {M : Type 1} → statement M

@@ -1,9 +1,9 @@
 -- `join_trailer::put_trailer` meets its contract. Assumes nothing.
 use mathlib.Core.List.{[], ◌∷◌, ◌++◌}
 use Rattle.rules.specs.Bytes.{Bytes, LF, comma, slash}
-use Rattle.rules.specs.Numbers.{decimal, totalBytes}
-use Rattle.base_quantities.specs.QuantityMeanings.{sumMeant}
-use Rattle.join_trailer.specs.FreshTrailer.{lastLine}
+use Rattle.rules.specs.Numbers.{decimal, total_bytes}
+use Rattle.base_quantities.specs.QuantityMeanings.{sum_meant}
+use Rattle.join_trailer.specs.FreshTrailer.{last_line}
 use Rattle.base_slices.proofs.WroteLaws.{wrote-first, wrote-part, wrote-last}
 use borrow.Author.Rules.{rules}
 use Rattle.join_trailer.proofs.put_trailer.Statement.{statement}
@@ -24,7 +24,7 @@ abbrev records-put : tie.After-put2 → tie.After-put-digits-after2
 records-put c = c.before.before.before.before.before
 
 returns : tie.Need-returns
-unfolding lastLine
+unfolding last_line
 returns c =
     let end-call = c.before.before in
     let records-call = records-put end-call in
@@ -36,7 +36,7 @@ returns c =
     let last : Bytes = slash ∷ LF ∷ [] in
     let records : Bytes = comma ∷ decimal a.records.0 in
     let groups : Bytes = comma ∷ decimal a.groups.0 in
-    let total = totalBytes (sumMeant a.total) in
+    let total = total_bytes (sum_meant a.total) in
     let w₁ = wrote-first (57 ∷ 57 ∷ comma ∷ []) (total ++ (groups ++ (records ++ last))) a.out.now code_call.put.result code_call.put.last.0 s.pre code_call.put.ensures in
     let w₂ = wrote-part _ _ _ total (groups ++ (records ++ last)) _ _ _ w₁ total-call.put-total.ensures in
     let w₃ = wrote-part _ _ _ groups (records ++ last) _ _ _ w₂ groups-call.put-digits-after.ensures in

@@ -1,32 +1,32 @@
 -- `name_codes::class_of` meets its contract. Assumes nothing.
 use mathlib.Core.Path.{refl, sym}
-use Rattle.name_codes.specs.ClassMeaning.{entryMeant}
+use Rattle.name_codes.specs.ClassMeaning.{entry_meant}
 use Rattle.name_codes.proofs.TableLaws.{no-letter}
 use Rattle.name_codes.proofs.class_of.Statement.{statement}
 use Rattle.name_codes.proofs.class_of.Tie as tie
 
 status : tie.Need-returns
-unfolding entryMeant
+unfolding entry_meant
 status c = rw c.match.keys1 refl
 
 credit-summary : tie.Need-returns-2
-unfolding entryMeant
+unfolding entry_meant
 credit-summary c = rw c.match.keys2 refl
 
 credit-detail : tie.Need-returns-3
-unfolding entryMeant
+unfolding entry_meant
 credit-detail c = rw c.match.keys3 refl
 
 debit-summary : tie.Need-returns-4
-unfolding entryMeant
+unfolding entry_meant
 debit-summary c = rw c.match.keys4 refl
 
 debit-detail : tie.Need-returns-5
-unfolding entryMeant
+unfolding entry_meant
 debit-detail c = rw c.match.keys5 refl
 
 non-monetary : tie.Need-returns-6
-unfolding entryMeant
+unfolding entry_meant
 non-monetary c = rw c.match.keys6 refl
 
 unlisted : tie.Need-returns-7

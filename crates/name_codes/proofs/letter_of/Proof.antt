@@ -1,19 +1,19 @@
 -- `name_codes::letter_of` meets its contract. Assumes nothing.
 use mathlib.Core.Path.{sym}
 use borrow.Author.Rules.{rules}
-use Rattle.rules.specs.CodeList.{entryIn, entry_of}
+use Rattle.rules.specs.CodeList.{entry_in, entry_of}
 use Rattle.rules.proofs.CodeLaws.{over-unlisted}
-use Rattle.name_codes.specs.ClassMeaning.{entryMeant}
-use Rattle.name_codes.proofs.TableLaws.{entriesFrom, letter_at}
+use Rattle.name_codes.specs.ClassMeaning.{entry_meant}
+use Rattle.name_codes.proofs.TableLaws.{entries_from, letter_at}
 use Rattle.name_codes.proofs.letter_of.Statement.{statement}
 use Rattle.name_codes.proofs.letter_of.Tie as tie
 
 returns : tie.Need-returns
-unfolding entryMeant
+unfolding entry_meant
 returns c = sym (over-unlisted c.before.args.code c.if1.true)
 
 returns-2 : tie.Need-returns-2
-unfolding entriesFrom entryIn entry_of
+unfolding entries_from entry_in entry_of
 returns-2 c = letter_at c.before.args.code (search rules)
 
 pub letter-of-spec : {M : Type 1} → statement M

@@ -1,7 +1,7 @@
 -- `part_details::detail` meets its contract. Assumes nothing.
 use Prim.Native.Nat.{zero-le}
 use native.Mathlib.Omega.{arith}
-use Rattle.part_groups.specs.PartMeaning.{partMeant}
+use Rattle.part_groups.specs.PartMeaning.{part_meant}
 use Rattle.part_details.proofs.DetailLaws.{detail-refused, detail-found}
 use borrow.Author.Rules.{rules}
 use Rattle.part_details.proofs.detail.Statement.{statement}
@@ -11,7 +11,7 @@ returns : tie.Need-returns
 returns c =
     let a = c.before.before.before.before.before.args in
     let f = c.before.before.before.find-detail in
-    let said = detail-refused a.file.now a.g a.a a.n (partMeant f.result) f.ensures.0 c.if1.true in
+    let said = detail-refused a.file.now a.g a.a a.n (part_meant f.result) f.ensures.0 c.if1.true in
     (said.0, record { bytes = said.1; inside = zero-le })
 
 add-to : tie.Need-overflow-add-to
@@ -29,7 +29,7 @@ returns-2 c =
     let here = t.before.before.before.before in
     let a = here.before.before.before.before.before.args in
     let f = here.before.before.before.find-detail in
-    let said = detail-found a.file.now (partMeant f.result) _ _ _ _ a.g a.a a.n f.ensures.0 here.if1.false
+    let said = detail-found a.file.now (part_meant f.result) _ _ _ _ a.g a.a a.n f.ensures.0 here.if1.false
     (record { type-is = c.before.type-of.ensures; amount-is = c.amount-of.ensures; text-is = t.text_in.ensures.answer; inside = t.text_in.ensures.inside }) in
     (said.0, record { bytes = said.1; inside = t.text_in.ensures.inside })
 

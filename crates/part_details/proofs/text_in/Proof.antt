@@ -5,8 +5,8 @@ use mathlib.Core.Path.{◌≡◌, sym, ap, ◌∙◌}
 use lib.ListN.{length, take, drop, length-take}
 use Rattle.rules.specs.Bytes.{Bytes, slash, just}
 use Rattle.rules.specs.Grammar.{text}
-use Rattle.find_field.specs.FieldSearch.{Found, inDetail}
-use Rattle.find_field.specs.SoughtKinds.{spotMeant}
+use Rattle.find_field.specs.FieldSearch.{Found, in_detail}
+use Rattle.find_field.specs.SoughtKinds.{spot_meant}
 use Rattle.find_field.proofs.DetailFields.{spot_is, spot-bytes}
 use Rattle.part_details.proofs.DetailLaws.{no-piece, some-piece}
 use borrow.Author.Rules.{rules}
@@ -60,7 +60,7 @@ abbrev sought-of : Tested → Sought
 sought-of c = c.before.before.before.before
 
 abbrev found_in : Tested → Found
-found_in c = inDetail text (rec-of (sought-of c))
+found_in c = in_detail text (rec-of (sought-of c))
 
 tested : (c : Tested) → c.is-one-of.result ≡ just slash (found_in c).bytes
 tested c =
@@ -79,7 +79,7 @@ returns-2 : tie.Need-returns-2
 returns-2 c =
     let t = c.before in
     let s = sought-of t in
-    let found = spot_is text (rec-of s) (spotMeant (rec-of s) s.seek.result) s.seek.ensures.answer in
+    let found = spot_is text (rec-of s) (spot_meant (rec-of s) s.seek.result) s.seek.ensures.answer in
     record {
       answer = some-piece (file-of s) (from-of s) (to-of s) _ _ (found_in t) found (begun s).pre.0 (fits s) (sym (tested t) ∙ c.if1.false);
       inside = omega (arith, fits s, (begun s).pre.0, (begun s).pre.1);

@@ -9,13 +9,13 @@ use lib.Dec.{leb}
 use lib.ListN.{length, take, drop}
 use Rattle.rules.specs.Bytes.{Bytes}
 use Rattle.base_numerals.specs.PutBytes.{Put}
-use Rattle.base_codes.specs.CodeMeaning.{codeMeant}
+use Rattle.base_codes.specs.CodeMeaning.{code_meant}
 use Rattle.find_next.specs.FieldTrace.{Trace}
 use Rattle.find_next.proofs.OwnLines.{flip}
 use Rattle.find_walk.specs.declared.Reached.{Reached}
-use Rattle.find_walk.specs.WalkEnds.{overAfter, walkEnd, numbersPassed, traceOfRecord, reachedMeant}
+use Rattle.find_walk.specs.WalkEnds.{over_after, walk_end, numbers_passed, trace_of_record, reached_meant}
 use Rattle.part_fields.specs.declared.Fields.{Fields}
-use Rattle.part_fields.specs.FieldAnswers.{fieldsMeant}
+use Rattle.part_fields.specs.FieldAnswers.{fields_meant}
 use Rattle.part_fields.proofs.FieldsLaws.{refused-gives, met-never, numbers-size, all-put, no-room-gives, gives, copied}
 use borrow.Author.Rules.{rules}
 use Rattle.part_fields.proofs.fields_of.Statement.{statement}
@@ -39,10 +39,10 @@ abbrev before : Walked → List ℕ
 before c = (entry c).args.out.now
 
 abbrev all : Walked → Trace
-all c = traceOfRecord (rec-of c) 1 (codeMeant (entry c).args.code)
+all c = trace_of_record (rec-of c) 1 (code_meant (entry c).args.code)
 
-end_is : (c : Walked) (r : Reached) → c.walk-to.result ≡ r → reachedMeant (rec-of c) r ≡ walkEnd 0 (start_of c) (all c)
-end_is c r e = ap (λ (x : Reached). reachedMeant (rec-of c) x) (sym e) ∙ c.walk-to.ensures.answer
+end_is : (c : Walked) (r : Reached) → c.walk-to.result ≡ r → reached_meant (rec-of c) r ≡ walk_end 0 (start_of c) (all c)
+end_is c r e = ap (λ (x : Reached). reached_meant (rec-of c) x) (sym e) ∙ c.walk-to.ensures.answer
 
 -- ---- after so many fields
 
@@ -55,7 +55,7 @@ walked c = c.before.before.before.before.before
 abbrev count : Tested → ℕ
 count c = c.before.before.count.given.0.0.0
 
-count-is : (c : Tested) → overAfter (count c) ≡ walkEnd 0 (start_of (walked c)) (all (walked c))
+count-is : (c : Tested) → over_after (count c) ≡ walk_end 0 (start_of (walked c)) (all (walked c))
 count-is c = end_is (walked c) _ c.before.before.count.given.1
 
 room : (c : Tested) (b : Bool) → c.has_room.result ≡ b → leb (3 * count c) (length (before (walked c))) ≡ b
@@ -65,7 +65,7 @@ returns : tie.Need-returns
 returns c =
     let t = c.before.before in
     let k = walked t in
-    ap (λ (x : Fields). fieldsMeant x (before k)) c.refuse2.ensures
+    ap (λ (x : Fields). fields_meant x (before k)) c.refuse2.ensures
     ∙ no-room-gives (start_of k) (all k) (before k) (count t) (count-is t) (room t false (flip _ _ c.before.if1.true))
 
 -- put into the slice itself
@@ -101,7 +101,7 @@ returns-5 c =
     let lent = ap (λ (n : ℕ). take n held) whole ∙ ap (λ (ns : List ℕ). take (3 * count t) ns) filled in
     let fits = room t true (flip _ _ p.before.before.before.before.before.if1.false) in
     gives (start_of k) (all k) (before k) (count t) (count-is t) p.put-numbers.new.0 fits
-    (copied (numbersPassed 0 (start_of k) (all k)) _ (before k) p.put-numbers.new.0 (3 * count t) p.put-numbers.result
+    (copied (numbers_passed 0 (start_of k) (all k)) _ (before k) p.put-numbers.new.0 (3 * count t) p.put-numbers.result
     (numbers-size (start_of k) (all k) (before k) (count t) (count-is t))
     (subst (λ (src : List ℕ). Put src (before k) p.put-numbers.result p.put-numbers.new.0) lent p.put-numbers.ensures) fits)
 

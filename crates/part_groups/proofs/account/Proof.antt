@@ -1,9 +1,9 @@
 -- `part_groups::account` meets its contract. Assumes nothing.
 use mathlib.Core.Path.{◌∙◌}
-use Rattle.rules.specs.Parts.{accountAt}
-use Rattle.rules.specs.Answers.{accountPart}
+use Rattle.rules.specs.Parts.{account_at}
+use Rattle.rules.specs.Answers.{account_part}
 use Rattle.laws.proofs.FileTheorems.{account-is-slice}
-use Rattle.part_groups.specs.PartMeaning.{partMeant}
+use Rattle.part_groups.specs.PartMeaning.{part_meant}
 use Rattle.part_groups.proofs.PartsMoved.{named-slice}
 use borrow.Author.Rules.{rules}
 use Rattle.part_groups.proofs.account.Statement.{statement}
@@ -13,11 +13,11 @@ bytes-of-requires : tie.Need-bytes-of-requires
 bytes-of-requires c κs = c.find-account.ensures.1
 
 returns : tie.Need-returns
-unfolding accountPart
+unfolding account_part
 returns c =
     let a = c.before.before.before.args in
     let f = c.before.find-account in
-    c.bytes_of.ensures ∙ named-slice a.file.now (accountAt a.file.now a.g a.n) (partMeant f.result) f.ensures.0 (account-is-slice a.file.now a.g a.n)
+    c.bytes_of.ensures ∙ named-slice a.file.now (account_at a.file.now a.g a.n) (part_meant f.result) f.ensures.0 (account-is-slice a.file.now a.g a.n)
 
 pub account-spec : {M : Type 1} → statement M
 account-spec = tie.close (tie.spec (λ c κs. search rules) bytes-of-requires returns)

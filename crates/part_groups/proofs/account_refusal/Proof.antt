@@ -1,12 +1,12 @@
 -- `part_groups::account_refusal` meets its contract. Assumes nothing.
 use mathlib.Core.Path.{ap}
-use Rattle.rules.specs.Answers.{PartAnswer, partAnswer, accountPart}
+use Rattle.rules.specs.Answers.{PartAnswer, part_answer, account_part}
 use borrow.Author.Rules.{rules}
 use Rattle.part_groups.proofs.account_refusal.Statement.{statement}
 use Rattle.part_groups.proofs.account_refusal.Tie as tie
 
 returns : tie.Need-returns
-unfolding accountPart partAnswer
+unfolding account_part part_answer
 returns c = ap (λ (q : PartAnswer). q.refusal) c.before.find-account.ensures.0
 
 pub account-refusal-spec : {M : Type 1} → statement M

@@ -1,6 +1,6 @@
 -- `part_groups::find_account` meets its contract. Assumes nothing.
-use Rattle.rules.specs.Parts.{groupAt, accountAt, inAccounts}
-use Rattle.rules.specs.Answers.{groupPart, accountPart}
+use Rattle.rules.specs.Parts.{group_at, account_at, in_accounts}
+use Rattle.rules.specs.Answers.{group_part, account_part}
 use Rattle.part_groups.proofs.PartsStand.{outer-group}
 use borrow.Author.Rules.{rules}
 use Rattle.part_groups.proofs.find_account.Statement.{statement}
@@ -10,10 +10,10 @@ part-within-requires : tie.Need-part-within-requires
 part-within-requires c κs = c.find-group.ensures.1
 
 returns : tie.Need-returns
-unfolding groupPart accountPart accountAt inAccounts
+unfolding group_part account_part account_at in_accounts
 returns c =
     let a = c.before.before.before.args in
-    (c.part-within.ensures.found (groupAt a.file.now a.g) c.before.find-group.ensures.0 (outer-group a.file.now a.g), c.part-within.ensures.inside)
+    (c.part-within.ensures.found (group_at a.file.now a.g) c.before.find-group.ensures.0 (outer-group a.file.now a.g), c.part-within.ensures.inside)
 
 pub find-account-spec : {M : Type 1} → statement M
 find-account-spec = tie.close (tie.spec (λ c κs. search rules) part-within-requires returns)

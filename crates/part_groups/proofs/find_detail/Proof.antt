@@ -1,6 +1,6 @@
 -- `part_groups::find_detail` meets its contract. Assumes nothing.
-use Rattle.rules.specs.Parts.{accountAt, detailPartAt, inDetails}
-use Rattle.rules.specs.Answers.{accountPart}
+use Rattle.rules.specs.Parts.{account_at, detail_part_at, in_details}
+use Rattle.rules.specs.Answers.{account_part}
 use Rattle.part_groups.proofs.PartsStand.{outer-account}
 use borrow.Author.Rules.{rules}
 use Rattle.part_groups.proofs.find_detail.Statement.{statement}
@@ -10,10 +10,10 @@ part-within-requires : tie.Need-part-within-requires
 part-within-requires c κs = c.find-account.ensures.1
 
 returns : tie.Need-returns
-unfolding accountPart detailPartAt inDetails
+unfolding account_part detail_part_at in_details
 returns c =
     let a = c.before.before.before.args in
-    (c.part-within.ensures.found (accountAt a.file.now a.g a.a) c.before.find-account.ensures.0 (outer-account a.file.now a.g a.a), c.part-within.ensures.inside)
+    (c.part-within.ensures.found (account_at a.file.now a.g a.a) c.before.find-account.ensures.0 (outer-account a.file.now a.g a.a), c.part-within.ensures.inside)
 
 pub find-detail-spec : {M : Type 1} → statement M
 find-detail-spec = tie.close (tie.spec (λ c κs. search rules) part-within-requires returns)

@@ -2,7 +2,7 @@
 use native.Mathlib.Omega.{arith}
 use mathlib.Core.Path.{sym, ap, subst, ◌∙◌}
 use Rattle.read_file.specs.declared.Verdict.{Verdict}
-use Rattle.read_file.specs.FileMeanings.{verdictMeant}
+use Rattle.read_file.specs.FileMeanings.{verdict_meant}
 use Rattle.part_groups.specs.PartMeaning.{Inside}
 use Rattle.part_groups.proofs.PartsStand.{file-envelope, group-refused, group-accepted}
 use borrow.Author.Rules.{rules}
@@ -12,13 +12,13 @@ use Rattle.part_groups.proofs.find_group.Tie as tie
 returns : tie.Need-returns
 returns c =
     let a = c.before.before.before.before.before.before.args in
-    let said = sym c.before.before.before.before.read.ensures ∙ ap (λ (v : Verdict). verdictMeant v) c.before.before.why.given.1 in
+    let said = sym c.before.before.before.before.read.ensures ∙ ap (λ (v : Verdict). verdict_meant v) c.before.before.why.given.1 in
     (c.no-part.ensures ∙ group-refused a.file.now a.n _ said, subst (Inside a.file.now) (sym c.no-part.ensures) (omega arith))
 
 returns-2 : tie.Need-returns-2
 returns-2 c =
     let a = c.before.before.before.before.before.args in
-    let said = sym c.before.before.before.read.ensures ∙ ap (λ (v : Verdict). verdictMeant v) c.before.enum_told.given.1 in
+    let said = sym c.before.before.before.read.ensures ∙ ap (λ (v : Verdict). verdict_meant v) c.before.enum_told.given.1 in
     (group-accepted a.file.now _ a.n _ said (c.nth-part.ensures.found (file-envelope a.file.now _ said)), c.nth-part.ensures.inside)
 
 pub find-group-spec : {M : Type 1} → statement M

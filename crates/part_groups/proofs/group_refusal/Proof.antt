@@ -1,12 +1,12 @@
 -- `part_groups::group_refusal` meets its contract. Assumes nothing.
 use mathlib.Core.Path.{ap}
-use Rattle.rules.specs.Answers.{PartAnswer, partAnswer, groupPart}
+use Rattle.rules.specs.Answers.{PartAnswer, part_answer, group_part}
 use borrow.Author.Rules.{rules}
 use Rattle.part_groups.proofs.group_refusal.Statement.{statement}
 use Rattle.part_groups.proofs.group_refusal.Tie as tie
 
 returns : tie.Need-returns
-unfolding groupPart partAnswer
+unfolding group_part part_answer
 returns c = ap (λ (q : PartAnswer). q.refusal) c.before.find-group.ensures.0
 
 pub group-refusal-spec : {M : Type 1} → statement M

@@ -5,11 +5,11 @@ use native.Mathlib.Omega.{arith}
 use mathlib.Core.Path.{◌≡◌, sym, subst, ◌∙◌}
 use mathlib.Core.Bool.{true}
 use lib.ListN.{length, take, drop}
-use Rattle.rules.specs.Bytes.{Bytes, sameBytes}
-use Rattle.rules.specs.Lines.{codeBytes, fileRecords}
+use Rattle.rules.specs.Bytes.{Bytes, same_bytes}
+use Rattle.rules.specs.Lines.{code_bytes, file_records}
 use Rattle.rules.specs.Lines as rules
-use Rattle.rules.specs.Parts.{cut_at, partIn}
-use Rattle.base_codes.specs.CodeMeaning.{codeMeant}
+use Rattle.rules.specs.Parts.{cut_at, part_in}
+use Rattle.base_codes.specs.CodeMeaning.{code_meant}
 use Rattle.part_groups.specs.PartsEnclosed.{Envelope}
 use Rattle.part_groups.proofs.PartTurns.{spans, Left, started, hit, go, missed}
 use borrow.Author.Rules.{rules}
@@ -19,8 +19,8 @@ use Rattle.part_groups.proofs.nth_part.Tie as tie
 abbrev invariant-loop : tie.invariant-loop
 invariant-loop s opening closing n at₀ left₀ at left =
     (at ≤ length s)
-    × ((e : Envelope (codeMeant opening) (codeMeant closing) (fileRecords s))
-    → Left (codeMeant opening) (codeMeant closing) e.others s (partIn 0 (cut_at (codeMeant opening) (codeMeant closing) (fileRecords s)) n) at left)
+    × ((e : Envelope (code_meant opening) (code_meant closing) (file_records s))
+    → Left (code_meant opening) (code_meant closing) e.others s (part_in 0 (cut_at (code_meant opening) (code_meant closing) (file_records s)) n) at left)
 
 abbrev decreases-loop : tie.decreases-loop
 decreases-loop s opening closing n at₀ left₀ at left = length s - at
@@ -43,10 +43,10 @@ abbrev s-of : Turn → Bytes
 s-of c = (entry c).args.s.now
 
 abbrev opening_of : Turn → rules.Code
-opening_of c = codeMeant (entry c).args.opening
+opening_of c = code_meant (entry c).args.opening
 
 abbrev closing-of : Turn → rules.Code
-closing-of c = codeMeant (entry c).args.closing
+closing-of c = code_meant (entry c).args.closing
 
 abbrev at_of : Turn → ℕ
 at_of c = (head c).loop.at
@@ -58,7 +58,7 @@ first-end c = c.before.record-end2.result.0
 abbrev end_of : Turn → ℕ
 end_of c = c.next-line-of.result.0
 
-begun : (c : Turn) → sameBytes (codeBytes (opening_of c)) (take 3 (drop (at_of c) (s-of c))) ≡ true
+begun : (c : Turn) → same_bytes (code_bytes (opening_of c)) (take 3 (drop (at_of c) (s-of c))) ≡ true
 begun c = sym c.before.before.before.begins.ensures ∙ c.before.before.if1.true
 
 places : (c : Turn) → (at_of c < end_of c) × (end_of c ≤ length (s-of c))
@@ -102,7 +102,7 @@ returns-2 c =
     record {
       found = λ e.
           c.no-part.ensures
-          ∙ missed (codeMeant a.opening) (codeMeant a.closing) e.others e.apart a.s.now _ _ _
+          ∙ missed (code_meant a.opening) (code_meant a.closing) e.others e.apart a.s.now _ _ _
           (sym c.before.before.begins.ensures ∙ c.before.if1.false) (l.loop.invariant.1 e);
       inside = subst (Inside a.s.now) (sym c.no-part.ensures) (omega arith);
     }

@@ -6,8 +6,8 @@ use lib.ListN.{length}
 use Rattle.rules.specs.Bytes.{Bytes}
 use Rattle.rules.specs.Lines as rules
 use Rattle.rules.specs.Answers.{PartAnswer}
-use Rattle.base_codes.specs.CodeMeaning.{codeMeant}
-use Rattle.part_groups.specs.PartMeaning.{partMeant, Inside}
+use Rattle.base_codes.specs.CodeMeaning.{code_meant}
+use Rattle.part_groups.specs.PartMeaning.{part_meant, Inside}
 use Rattle.part_groups.proofs.PartsMoved.{same-refusal, inner-fits, inner-refused, inner-found}
 use borrow.Author.Rules.{rules}
 use Rattle.part_groups.proofs.part_within.Statement.{statement}
@@ -19,7 +19,7 @@ returns : tie.Need-returns
 returns c =
     let a = c.before.before.before.before.before.args in
     record {
-      found = λ o e u. c.no-part.ensures ∙ same-refusal (partMeant a.outer) o _ e c.before.if1.true;
+      found = λ o e u. c.no-part.ensures ∙ same-refusal (part_meant a.outer) o _ e c.before.if1.true;
       inside = subst (Inside a.file.now) (sym c.no-part.ensures) (omega arith);
     }
 
@@ -41,16 +41,16 @@ abbrev file-of : Sought → Bytes
 file-of c = (begun c).args.file.now
 
 abbrev opening_of : Sought → rules.Code
-opening_of c = codeMeant (begun c).args.opening
+opening_of c = code_meant (begun c).args.opening
 
 abbrev closing-of : Sought → rules.Code
-closing-of c = codeMeant (begun c).args.closing
+closing-of c = code_meant (begun c).args.closing
 
 abbrev outer-of : Sought → PartAnswer
-outer-of c = partMeant (begun c).args.outer
+outer-of c = part_meant (begun c).args.outer
 
 abbrev inner_of : Sought → PartAnswer
-inner_of c = partMeant c.nth-part.result
+inner_of c = part_meant c.nth-part.result
 
 fits : (c : Sought) → (outer-of c).start + ((inner_of c).start + (inner_of c).len) ≤ length (file-of c)
 fits c = inner-fits (opening_of c) (closing-of c) (file-of c) _ (outer-of c) (inner_of c) c.before.before.before.before.if1.false c.nth-part.ensures (begun c).requires

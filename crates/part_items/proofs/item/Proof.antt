@@ -1,8 +1,8 @@
 -- `part_items::item` meets its contract. Assumes nothing.
 use native.Mathlib.Omega.{arith}
 use mathlib.Core.Path.{sym, ap, ◌∙◌}
-use Rattle.find_item.specs.ItemSearch.{foundMeant}
-use Rattle.part_groups.specs.PartMeaning.{partMeant}
+use Rattle.find_item.specs.ItemSearch.{found_meant}
+use Rattle.part_groups.specs.PartMeaning.{part_meant}
 use Rattle.part_items.proofs.ItemAnswers.{account-refused, none_found, one_found}
 use borrow.Author.Rules.{rules}
 use Rattle.part_items.proofs.item.Statement.{statement}
@@ -12,7 +12,7 @@ returns : tie.Need-returns
 returns c =
     let p = c.before.before.before.before in
     let a = p.before.before.args in
-    c.no_item.ensures ∙ account-refused a.file.now a.g a.a a.n (partMeant p.find-account.result) p.find-account.ensures.0 c.before.if1.true
+    c.no_item.ensures ∙ account-refused a.file.now a.g a.a a.n (part_meant p.find-account.result) p.find-account.ensures.0 c.before.if1.true
 
 -- where the 03 was searched
 abbrev Searched : Type 0
@@ -33,16 +33,16 @@ returns-2 c =
     let p = part_of s in
     let a = p.before.before.args in
     c.no-item2.ensures
-    ∙ none_found a.file.now a.n (partMeant p.find-account.result) a.g a.a p.find-account.ensures.0 s.before.before.before.before.if1.false
-    (sym (ap foundMeant c.before.enum_told.given.1) ∙ s.item_in.ensures)
+    ∙ none_found a.file.now a.n (part_meant p.find-account.result) a.g a.a p.find-account.ensures.0 s.before.before.before.before.if1.false
+    (sym (ap found_meant c.before.enum_told.given.1) ∙ s.item_in.ensures)
 
 returns-3 : tie.Need-returns-3
 returns-3 c =
     let s = c.before.before.before in
     let p = part_of s in
     let a = p.before.before.args in
-    one_found a.file.now a.n (partMeant p.find-account.result) a.g a.a p.find-account.ensures.0 s.before.before.before.before.if1.false _
-    (sym (ap foundMeant c.before.type-code.given.1) ∙ s.item_in.ensures)
+    one_found a.file.now a.n (part_meant p.find-account.result) a.g a.a p.find-account.ensures.0 s.before.before.before.before.if1.false _
+    (sym (ap found_meant c.before.type-code.given.1) ∙ s.item_in.ensures)
 
 pub item-spec : {M : Type 1} → statement M
 item-spec =

@@ -5,14 +5,14 @@ use mathlib.Core.Path.{◌≡◌, refl, sym, ◌∙◌}
 use lib.ListN.{drop}
 use Rattle.rules.specs.Bytes.{Bytes}
 use Rattle.rules.specs.Lines.{code_in, code_of}
-use Rattle.read_lines.specs.LineLengths.{firstLine}
+use Rattle.read_lines.specs.LineLengths.{first_line}
 use Rattle.part_records.proofs.FoundLaws.{meant, detail-found, code-found, code-passed, none_left}
 use borrow.Author.Rules.{rules}
 use Rattle.part_records.proofs.code_there.Statement.{statement}
 use Rattle.part_records.proofs.code_there.Tie as tie
 
 abbrev invariant-loop : tie.invariant-loop
-invariant-loop file start codes i₀ i = (i ≤ 8) × (code_of (firstLine (drop start.0 file)) ≡ code_in (drop i (meant codes)) (firstLine (drop start.0 file)))
+invariant-loop file start codes i₀ i = (i ≤ 8) × (code_of (first_line (drop start.0 file)) ≡ code_in (drop i (meant codes)) (first_line (drop start.0 file)))
 
 abbrev decreases-loop : tie.decreases-loop
 decreases-loop file start codes i₀ i = 8 - i

@@ -6,9 +6,9 @@ use mathlib.Core.Option.{some}
 use lib.ListN.{length, drop}
 use Rattle.rules.specs.Bytes.{Bytes}
 use Rattle.rules.specs.Lines.{code_of}
-use Rattle.base_codes.specs.CodeMeaning.{codeMeant}
-use Rattle.read_lines.specs.LineLengths.{firstLine}
-use Rattle.read_lines.specs.LineAnswers.{codeFound}
+use Rattle.base_codes.specs.CodeMeaning.{code_meant}
+use Rattle.read_lines.specs.LineLengths.{first_line}
+use Rattle.read_lines.specs.LineAnswers.{code_found}
 use Rattle.part_records.proofs.FoundLaws.{past_finds, uncoded-finds, coded-finds, single-finds}
 use borrow.Author.Rules.{rules}
 use Rattle.part_records.proofs.record_at.Statement.{statement}
@@ -37,8 +37,8 @@ next_of c = c.before.next-line.result.0
 next-in : (c : Next) → (start_of c ≤ next_of c) × (next_of c ≤ length (file-of c))
 next-in c = (omega (arith, c.before.next-line.ensures.0), omega (arith, (coded c).before.if1.false, c.before.next-line.ensures.1))
 
-code_is : (c : Next) → some (codeMeant c.before.before.before.code.given.0.0) ≡ code_of (firstLine (drop (start_of c) (file-of c)))
-code_is c = sym (ap codeFound c.before.before.before.code.given.1) ∙ (coded c).code-there.ensures
+code_is : (c : Next) → some (code_meant c.before.before.before.code.given.0.0) ≡ code_of (first_line (drop (start_of c) (file-of c)))
+code_is c = sym (ap code_found c.before.before.before.code.given.1) ∙ (coded c).code-there.ensures
 
 -- ---- after the record's 88 lines
 
@@ -80,7 +80,7 @@ returns-3 : tie.Need-returns-3
 returns-3 c =
     let found = c.before.before.before in
     let a = found.before.before.before.before.args in
-    uncoded-finds a.file.now a.start.0 found.before.if1.false _ c.refuse2.ensures (sym (ap codeFound c.before.enum_told.given.1) ∙ found.code-there.ensures)
+    uncoded-finds a.file.now a.start.0 found.before.if1.false _ c.refuse2.ensures (sym (ap code_found c.before.enum_told.given.1) ∙ found.code-there.ensures)
 
 returns-4 : tie.Need-returns-4
 returns-4 c =

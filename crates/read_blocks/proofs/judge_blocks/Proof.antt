@@ -4,10 +4,10 @@ use mathlib.Core.Path.{◌≡◌, sym, subst, ◌∙◌}
 use lib.ListN.{length}
 use borrow.Author.Rules.{rules}
 use Rattle.rules.specs.Bytes.{Bytes}
-use Rattle.rules.specs.Verdict.{judgeLines}
-use Rattle.read_lines.specs.Cuts.{linesBy}
+use Rattle.rules.specs.Verdict.{judge_lines}
+use Rattle.read_lines.specs.Cuts.{lines_by}
 use Rattle.read_file.specs.declared.Judged.{Judged}
-use Rattle.read_file.specs.FileAnswers.{judgeBy, JudgedBy}
+use Rattle.read_file.specs.FileAnswers.{judge_by, JudgedBy}
 use Rattle.read_file.proofs.FileRunLaws.{judge-short}
 use Rattle.read_blocks.specs.declared.length.BlockLength.{BlockLength}
 use Rattle.read_blocks.specs.declared.length.BlockLength.TheVariants as told
@@ -47,7 +47,7 @@ is_cut c = size-told (sized c) _ c.before.before.size.given.1
 lines-told : (c : Read) (r : Judged) → c.judge-lines.result ≡ r → JudgedBy r (size_of c) (file-of (sized c))
 lines-told c r e = subst (λ (x : Judged). JudgedBy x (size_of c) (file-of (sized c))) e c.judge-lines.ensures
 
-judged : (c : Read) → judgeBy (size_of c) (file-of (sized c)) ≡ judgeLines (length (file-of (sized c))) (linesBy (size_of c) (file-of (sized c)))
+judged : (c : Read) → judge_by (size_of c) (file-of (sized c)) ≡ judge_lines (length (file-of (sized c))) (lines_by (size_of c) (file-of (sized c)))
 judged c = judge-short (size_of c) (file-of (sized c)) (is_cut c).2 (is_cut c).3
 
 returns-2 : tie.Need-returns-2

@@ -5,8 +5,8 @@ use native.Mathlib.Omega.{arith}
 use lib.ListN.{length, take, drop}
 use borrow.Author.Rules.{rules}
 use Rattle.rules.specs.Bytes.{Bytes}
-use Rattle.read_lines.specs.LineLengths.{bodyLen, endLen, lineLen}
-use Rattle.read_lines.specs.Cuts.{bodyBy, lineBy}
+use Rattle.read_lines.specs.LineLengths.{body_len, end_len, line_len}
+use Rattle.read_lines.specs.Cuts.{body_by, line_by}
 use Rattle.read_lines.proofs.LineLaws.{next-is, next-within}
 use Rattle.read_cuts.proofs.ReachLaws.{body-ends, line-ends, body-each, line-each}
 use Rattle.read_cuts.proofs.line_in.Statement.{statement}
@@ -32,13 +32,13 @@ end_of c = c.before.before.body-end-in.result.0
 abbrev next_of : Ended → ℕ
 next_of c = end_of c + c.before.end-len.result
 
-end_is : (c : Ended) → end_of c ≡ at_of c + bodyLen (drop (at_of c) (part_of c))
+end_is : (c : Ended) → end_of c ≡ at_of c + body_len (drop (at_of c) (part_of c))
 end_is c = c.before.before.body-end-in.ensures
 
-next-end : (c : Ended) → next_of c ≡ end_of c + endLen (drop (end_of c) (part_of c))
+next-end : (c : Ended) → next_of c ≡ end_of c + end_len (drop (end_of c) (part_of c))
 next-end c =
     ap (λ (n : ℕ). end_of c + n)
-    (c.before.end-len.ensures ∙ ap (λ (xs : Bytes). endLen (drop (end_of c) xs)) c.before.before.before.before.front.ensures)
+    (c.before.end-len.ensures ∙ ap (λ (xs : Bytes). end_len (drop (end_of c) xs)) c.before.before.before.before.front.ensures)
 
 add-t11 : tie.Need-overflow-add-t11
 add-t11 c =

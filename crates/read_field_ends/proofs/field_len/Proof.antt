@@ -4,13 +4,13 @@ use mathlib.Core.Path.{◌≡◌}
 use native.Mathlib.Omega.{arith}
 use borrow.Author.Rules.{rules}
 use lib.ListN.{length, drop}
-use Rattle.read_field_ends.specs.FieldLengths.{until, isMark}
+use Rattle.read_field_ends.specs.FieldLengths.{until, is_mark}
 use Rattle.read_field_ends.proofs.FieldLengthLaws.{until_stop, until-on, until_end, mark-comma, mark-slash, mark-none}
 use Rattle.read_field_ends.proofs.field_len.Statement.{statement}
 use Rattle.read_field_ends.proofs.field_len.Tie as tie
 
 abbrev invariant-loop : tie.invariant-loop
-invariant-loop f i₀ i = (i ≤ length f) × (i + until isMark (drop i f) ≡ until isMark f)
+invariant-loop f i₀ i = (i ≤ length f) × (i + until is_mark (drop i f) ≡ until is_mark f)
 
 abbrev decreases-loop : tie.decreases-loop
 decreases-loop f i₀ i = length f - i
@@ -18,20 +18,20 @@ decreases-loop f i₀ i = length f - i
 returns : tie.Need-returns invariant-loop decreases-loop
 returns c =
     let l = c.before.before.before in
-    (until_stop isMark _ _ l.loop.invariant.1 c.before.before.loop-test.true (mark-comma _ c.if1.true), omega arith)
+    (until_stop is_mark _ _ l.loop.invariant.1 c.before.before.loop-test.true (mark-comma _ c.if1.true), omega arith)
 
 returns-2 : tie.Need-returns-2 invariant-loop decreases-loop
 returns-2 c =
     let l = c.before.before.before.before in
-    (until_stop isMark _ _ l.before.loop.invariant.1 l.loop-test.true (mark-slash _ c.if2.true), omega arith)
+    (until_stop is_mark _ _ l.before.loop.invariant.1 l.loop-test.true (mark-slash _ c.if2.true), omega arith)
 
 loop-again : tie.Need-loop-preserved invariant-loop decreases-loop
 loop-again c =
     let l = c.before.before.before.before in
-    (omega arith, until-on isMark _ _ l.before.loop.invariant.1 l.loop-test.true (mark-none _ c.before.before.if1.false c.if2.false))
+    (omega arith, until-on is_mark _ _ l.before.loop.invariant.1 l.loop-test.true (mark-none _ c.before.before.if1.false c.if2.false))
 
 returns-3 : tie.Need-returns-3 invariant-loop decreases-loop
-returns-3 c = (until_end isMark _ _ c.before.loop.invariant.1 c.loop-test.false, omega arith)
+returns-3 c = (until_end is_mark _ _ c.before.loop.invariant.1 c.loop-test.false, omega arith)
 
 pub field-len-spec : {M : Type 1} → statement M
 field-len-spec =

@@ -2,8 +2,8 @@
 use mathlib.Core.Path.{refl, ap, ◌∙◌}
 use Rattle.rules.specs.Bytes.{Bytes}
 use Rattle.rules.specs.TypeCodes.{Class}
-use Rattle.rules.specs.Grammar.{judged, and_then, takeNext, fields_of, detailOf}
-use Rattle.read_wanted.specs.Wants.{wantedOf, wantedAfter, references}
+use Rattle.rules.specs.Grammar.{judged, and_then, take_next, fields_of, detail_of}
+use Rattle.read_wanted.specs.Wants.{wanted_of, wanted_after, references}
 use Rattle.read_fields.proofs.FieldArms.{arm, arm-fits, arm-optional}
 use borrow.Author.Rules.{rules}
 use Rattle.read_fields.proofs.take_detail_first.Statement.{statement}
@@ -14,33 +14,33 @@ abbrev bytes : tie.After-shared-slice-known → Bytes
 bytes k = k.before.args.f.now
 
 returns : tie.Need-returns
-unfolding takeNext wantedOf judged fields_of references wantedAfter
+unfolding take_next wanted_of judged fields_of references wanted_after
 returns c =
     arm (bytes c.before.before.before.before) c.before.before.enum_told.given.1
-    (c.detail.ensures ∙ ap (λ (x : Class). and_then (detailOf x) references) c.before.type-class.ensures)
+    (c.detail.ensures ∙ ap (λ (x : Class). and_then (detail_of x) references) c.before.type-class.ensures)
 
 returns-2 : tie.Need-returns-2
-unfolding takeNext wantedOf judged fields_of references wantedAfter
+unfolding take_next wanted_of judged fields_of references wanted_after
 returns-2 c = arm-optional (bytes c.before.before.before.before) c.before.before.enum-told2.given.1 c.before.is-unsigned.ensures refl c.fitted-or-none.ensures refl
 
 returns-3 : tie.Need-returns-3
-unfolding takeNext wantedOf judged fields_of references wantedAfter
+unfolding take_next wanted_of judged fields_of references wanted_after
 returns-3 c = arm (bytes c.before.before.before) c.before.enum-told3.given.1 c.take-funds.ensures
 
 returns-4 : tie.Need-returns-4
-unfolding takeNext wantedOf judged fields_of references wantedAfter
+unfolding take_next wanted_of judged fields_of references wanted_after
 returns-4 c = arm-fits (bytes c.before.before.before.before) c.before.before.enum-told4.given.1 c.before.is-reference.ensures refl c.fitted.ensures refl
 
 returns-5 : tie.Need-returns-5
-unfolding takeNext wantedOf judged fields_of references wantedAfter
+unfolding take_next wanted_of judged fields_of references wanted_after
 returns-5 c = arm-fits (bytes c.before.before.before.before) c.before.before.enum-told5.given.1 c.before.is-reference2.ensures refl c.fitted2.ensures refl
 
 returns-6 : tie.Need-returns-6
-unfolding takeNext wantedOf judged fields_of references wantedAfter
+unfolding take_next wanted_of judged fields_of references wanted_after
 returns-6 c = arm (bytes c.before.before.before) c.before.enum-told6.given.1 c.take-first-piece.ensures
 
 returns-7 : tie.Need-returns-7
-unfolding takeNext wantedOf judged fields_of references wantedAfter
+unfolding take_next wanted_of judged fields_of references wanted_after
 returns-7 c = arm (bytes c.before.before.before) c.before.enum-told7.given.1 c.take-piece.ensures
 
 pub take-detail-first-spec : {M : Type 1} → statement M

@@ -1,16 +1,16 @@
 -- `read_file::at_end` meets its contract. Assumes nothing.
 use mathlib.Core.Path.{refl, sym, ◌∙◌}
 use borrow.Author.Rules.{rules}
-use Rattle.read_file.specs.FileAnswers.{atEnd}
+use Rattle.read_file.specs.FileAnswers.{at_end}
 use Rattle.read_file.proofs.at_end.Statement.{statement}
 use Rattle.read_file.proofs.at_end.Tie as tie
 
 returns : tie.Need-returns
-unfolding atEnd
+unfolding at_end
 returns c = (rw (sym c.before.before.has_ended.ensures ∙ c.before.if1.true), refl)
 
 returns-2 : tie.Need-returns-2
-unfolding atEnd
+unfolding at_end
 returns-2 c = rw (sym c.before.has_ended.ensures ∙ c.if1.false)
 
 pub at-end-spec : {M : Type 1} → statement M

@@ -6,14 +6,14 @@ use lib.ListN.{length, take, drop, length-drop}
 use lib.Seq.{take_all}
 use borrow.Author.Rules.{rules}
 use Rattle.rules.specs.Bytes.{Bytes}
-use Rattle.rules.specs.Lines.{recordSize}
-use Rattle.rules.specs.Limits.{longestFile}
-use Rattle.read_lines.specs.LineLengths.{firstRecord}
-use Rattle.read_lines.specs.Cuts.{linesBy}
-use Rattle.read_file.specs.FileMeanings.{stateMeant, Held}
+use Rattle.rules.specs.Lines.{record_size}
+use Rattle.rules.specs.Limits.{longest_file}
+use Rattle.read_lines.specs.LineLengths.{first_record}
+use Rattle.read_lines.specs.Cuts.{lines_by}
+use Rattle.read_file.specs.FileMeanings.{state_meant, Held}
 use Rattle.read_file.specs.declared.record.Stepped.{Stepped}
 use Rattle.read_file.specs.FileAnswers.{StepIs, Passed}
-use Rattle.read_file.proofs.FileRunLaws.{run_from, run_end, run-stop, run-go, lastFrom, last_end, last-go, judge-empty, judge-long, judge-stop}
+use Rattle.read_file.proofs.FileRunLaws.{run_from, run_end, run-stop, run-go, last_from, last_end, last-go, judge-empty, judge-long, judge-stop}
 use Rattle.read_file.proofs.GoodFiles.{judged-end}
 use Rattle.read_file.proofs.judge_lines.Statement.{statement}
 use Rattle.rules.specs.Verdict as verdict
@@ -23,9 +23,9 @@ abbrev invariant-loop : tie.invariant-loop
 invariant-loop cut file st₀ last₀ at₀ st last at =
     (at ≤ length file)
     × Held st
-    × (st.file.records.0 + (length file - at) ≤ longestFile)
-    × (run_from cut 0 verdict.start file ≡ run_from cut at (stateMeant st) file)
-    × (lastFrom cut 0 0 file ≡ lastFrom cut last at file)
+    × (st.file.records.0 + (length file - at) ≤ longest_file)
+    × (run_from cut 0 verdict.start file ≡ run_from cut at (state_meant st) file)
+    × (last_from cut 0 0 file ≡ last_from cut last at file)
 
 abbrev decreases-loop : tie.decreases-loop
 decreases-loop cut file st₀ last₀ at₀ st last at = length file - at
@@ -49,7 +49,7 @@ abbrev at_of : Turn → ℕ
 at_of c = c.loop.at
 
 abbrev state-of : Turn → verdict.State
-state-of c = stateMeant c.loop.st
+state-of c = state_meant c.loop.st
 
 -- ---- after the step of a turn
 
@@ -115,7 +115,7 @@ returns-4 c =
     let l = length-drop (at_of t) (file-of t) in
     let z = told s _ c.before.before.before.why.given.1 in
     judge-stop (cut_of t) (file-of t) (omega arith) (omega arith) _ (t.loop.inv.3
-    ∙ run-stop (cut_of t) (at_of t) (recordSize (firstRecord (linesBy (cut_of t) (drop (at_of t) (file-of t))))) (state-of t) (file-of t) (omega (arith, z.some_byte)) refl _ z.stops)
+    ∙ run-stop (cut_of t) (at_of t) (record_size (first_record (lines_by (cut_of t) (drop (at_of t) (file-of t))))) (state-of t) (file-of t) (omega (arith, z.some_byte)) refl _ z.stops)
 
 -- ---- the record is accepted
 

@@ -1,18 +1,18 @@
 -- `read_kinds::kind_number` meets its contract: each want has its kind. Assumes nothing.
 use Prim.Native.Nat.{ℕ}
 use mathlib.Core.Path.{◌≡◌, refl, sym, ap, ◌∙◌}
-use Rattle.rules.specs.Grammar.{kindNumber, nextKind, fields_of, pairs}
+use Rattle.rules.specs.Grammar.{kind_number, next_kind, fields_of, pairs}
 use Rattle.read_wanted.specs.declared.want.Want.{Want}
-use Rattle.read_wanted.specs.Wants.{wantedOf, references}
+use Rattle.read_wanted.specs.Wants.{wanted_of, references}
 use borrow.Author.Rules.{rules}
 use Rattle.read_kinds.proofs.kind_number.Statement.{statement}
 use Rattle.read_kinds.proofs.kind_number.Tie as tie
 
-told : {w v : Want} {n : ℕ} → w ≡ v → n ≡ kindNumber (nextKind (wantedOf v)) → n ≡ kindNumber (nextKind (wantedOf w))
-told e q = q ∙ ap (λ (x : Want). kindNumber (nextKind (wantedOf x))) (sym e)
+told : {w v : Want} {n : ℕ} → w ≡ v → n ≡ kind_number (next_kind (wanted_of v)) → n ≡ kind_number (next_kind (wanted_of w))
+told e q = q ∙ ap (λ (x : Want). kind_number (next_kind (wanted_of x))) (sym e)
 
 pub kind-number-spec : {M : Type 1} → statement M
-unfolding wantedOf references fields_of
+unfolding wanted_of references fields_of
 kind-number-spec =
     tie.close
     (tie.spec

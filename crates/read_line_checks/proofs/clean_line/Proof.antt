@@ -5,7 +5,7 @@ use native.Mathlib.Omega.{arith}
 use lib.ListN.{drop, length-drop}
 use borrow.Author.Rules.{rules}
 use Rattle.rules.specs.Outcome.{refuse}
-use Rattle.read_cuts.specs.Reaches.{nearBody}
+use Rattle.read_cuts.specs.Reaches.{near_body}
 use Rattle.read_cuts.proofs.ReachLaws.{end-found, near_fits}
 use Rattle.read_line_checks.proofs.LineCheckLaws.{line-long, line-byte, line_clean}
 use Rattle.read_line_checks.proofs.clean_line.Statement.{statement}
@@ -14,7 +14,7 @@ use Rattle.read_line_checks.proofs.clean_line.Tie as tie
 abbrev begun : tie.After-end-from → tie.Start
 begun c = c.before.before.before
 
-the_end : (c : tie.After-end-from) → c.end-from.result.0 ≡ (begun c).args.start.0 + nearBody (begun c).args.cut (drop (begun c).args.start.0 (begun c).args.near.now)
+the_end : (c : tie.After-end-from) → c.end-from.result.0 ≡ (begun c).args.start.0 + near_body (begun c).args.cut (drop (begun c).args.start.0 (begun c).args.near.now)
 the_end c =
     let a = (begun c).args in
     c.end-from.ensures ∙ end-found a.cut a.start.0 c.before.plain-end.result.0 a.near.now (omega arith) c.before.plain-end.ensures.0

@@ -5,9 +5,9 @@ use native.Mathlib.Omega.{arith}
 use lib.ListN.{drop, length-drop}
 use borrow.Author.Rules.{rules}
 use Rattle.rules.specs.Bytes.{Bytes}
-use Rattle.base_codes.specs.CodeMeaning.{codeMeant}
-use Rattle.read_lines.specs.LineAnswers.{codeFound}
-use Rattle.read_cuts.specs.Reaches.{nearLen, nearLine}
+use Rattle.base_codes.specs.CodeMeaning.{code_meant}
+use Rattle.read_lines.specs.LineAnswers.{code_found}
+use Rattle.read_cuts.specs.Reaches.{near_len, near_line}
 use Rattle.read_cuts.proofs.ReachLaws.{after-near, near_within, code-near}
 use Rattle.read_line_checks.specs.declared.Clean.{Clean}
 use Rattle.read_line_checks.specs.LineChecks.{CleanIs}
@@ -40,8 +40,8 @@ returns-2 c =
     let cleaned = clean.before.before in
     let a = (begun cleaned).args in
     let g = told cleaned _ clean.e.given.1 in (
-      line_code a.start.0 a.limit (nearLine a.cut (line_of cleaned)) g.0
-          (ap codeFound (sym c.enum_told.given.1) ∙ c.before.before.code_at.ensures ∙ code-near a.cut (line_of cleaned)),
+      line_code a.start.0 a.limit (near_line a.cut (line_of cleaned)) g.0
+          (ap code_found (sym c.enum_told.given.1) ∙ c.before.before.code_at.ensures ∙ code-near a.cut (line_of cleaned)),
       omega arith,
     )
 
@@ -59,7 +59,7 @@ cleaned-of c = (ended c).before.before
 abbrev next_of : Good → ℕ
 next_of c = (ended c).e.given.0.0.0 + c.before.tail-len.result
 
-next-is : (c : Good) → next_of c ≡ (begun (cleaned-of c)).args.start.0 + nearLen (begun (cleaned-of c)).args.cut (line_of (cleaned-of c))
+next-is : (c : Good) → next_of c ≡ (begun (cleaned-of c)).args.start.0 + near_len (begun (cleaned-of c)).args.cut (line_of (cleaned-of c))
 next-is c =
     let a = (begun (cleaned-of c)).args in
     let e = (ended c).e.given.0.0.0 in
@@ -77,8 +77,8 @@ returns-3 c =
     let coded = c.before.before.before in
     let a = (begun (cleaned-of c)).args in
     let xs = line_of (cleaned-of c) in (
-      line-fine a.start.0 a.limit (nearLine a.cut xs) (told (cleaned-of c) _ (ended c).e.given.1).0 (codeMeant coded.code.given.0.0)
-          (ap codeFound (sym coded.code.given.1) ∙ coded.before.before.code_at.ensures ∙ code-near a.cut xs),
+      line-fine a.start.0 a.limit (near_line a.cut xs) (told (cleaned-of c) _ (ended c).e.given.1).0 (code_meant coded.code.given.0.0)
+          (ap code_found (sym coded.code.given.1) ∙ coded.before.before.code_at.ensures ∙ code-near a.cut xs),
       next-is c,
     )
 

@@ -5,14 +5,14 @@ use native.Mathlib.Omega.{arith}
 use lib.ListN.{length, drop}
 use borrow.Author.Rules.{rules}
 use Rattle.rules.specs.Lines.{lines_of}
-use Rattle.rules.specs.Verdict.{noneLonger}
+use Rattle.rules.specs.Verdict.{none_longer}
 use Rattle.read_lines.proofs.LineLaws.{next-is, next-after, next-within}
 use Rattle.read_line_checks.proofs.LineCheckLaws.{short-end, short-stop, short-go}
 use Rattle.read_line_checks.proofs.none_longer.Statement.{statement}
 use Rattle.read_line_checks.proofs.none_longer.Tie as tie
 
 abbrev invariant-loop : tie.invariant-loop
-invariant-loop s limit start₀ start = (start ≤ length s) × (noneLonger 0 limit (lines_of s) ≡ noneLonger start limit (lines_of (drop start s)))
+invariant-loop s limit start₀ start = (start ≤ length s) × (none_longer 0 limit (lines_of s) ≡ none_longer start limit (lines_of (drop start s)))
 
 abbrev decreases-loop : tie.decreases-loop
 decreases-loop s limit start₀ start = length s - start

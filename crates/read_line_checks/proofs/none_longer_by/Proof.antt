@@ -5,7 +5,7 @@ use native.Mathlib.Omega.{arith}
 use lib.ListN.{length}
 use borrow.Author.Rules.{rules}
 use Rattle.rules.specs.Bytes.{Bytes}
-use Rattle.read_lines.specs.Cuts.{bodyBy}
+use Rattle.read_lines.specs.Cuts.{body_by}
 use Rattle.read_lines.proofs.CutLaws.{body-fits}
 use Rattle.read_cuts.proofs.ReachLaws.{first_reach}
 use Rattle.read_line_checks.proofs.LineCheckLaws.{ends-none, each_long, each-short}
@@ -18,7 +18,7 @@ returns c =
     (c.none-longer.ensures.0 ∙ ends-none a.cut c.before.if1.true a.limit a.s.now, c.none-longer.ensures.1)
 
 -- the first block is as long as what it may reach
-block-is : (c : tie.After-reach) → length c.reach.result.now ≡ bodyBy c.before.before.before.args.cut c.before.before.before.args.s.now
+block-is : (c : tie.After-reach) → length c.reach.result.now ≡ body_by c.before.before.before.args.cut c.before.before.before.args.s.now
 block-is c =
     let a = c.before.before.before.args in
     ap (λ (xs : Bytes). length xs) c.reach.ensures ∙ first_reach a.cut c.before.if1.false a.s.now

@@ -6,15 +6,15 @@ use native.Mathlib.Omega.{arith}
 use borrow.Author.Tests.{not-true, not-false}
 use lib.ListN.{length, take, drop, length-drop}
 use borrow.Author.Rules.{rules}
-use Rattle.rules.specs.Bytes.{Bytes, sameBytes}
-use Rattle.rules.specs.Lines.{Line, begins, continuation, codeBytes, recordSize}
-use Rattle.rules.specs.Verdict.{goodLines}
-use Rattle.base_codes.specs.CodeMeaning.{codeMeant}
-use Rattle.read_lines.specs.LineLengths.{further, firstRecord}
-use Rattle.read_lines.specs.Cuts.{linesBy, tailLen, lineBy, firstBy}
+use Rattle.rules.specs.Bytes.{Bytes, same_bytes}
+use Rattle.rules.specs.Lines.{Line, begins, continuation, code_bytes, record_size}
+use Rattle.rules.specs.Verdict.{good_lines}
+use Rattle.base_codes.specs.CodeMeaning.{code_meant}
+use Rattle.read_lines.specs.LineLengths.{further, first_record}
+use Rattle.read_lines.specs.Cuts.{lines_by, tail_len, line_by, first_by}
 use Rattle.read_lines.proofs.CutLaws.{line-some-by, line-fits-by}
 use Rattle.read_lines.proofs.LineLaws.{further-some-by}
-use Rattle.read_cuts.specs.Reaches.{reachBy}
+use Rattle.read_cuts.specs.Reaches.{reach_by}
 use Rattle.read_cuts.proofs.ReachLaws.{near-line, near-length, after-near, begins-near, reach-some, reach-within}
 use Rattle.read_line_checks.specs.declared.Clean.{Clean}
 use Rattle.read_line_checks.specs.LineChecks.{CleanIs}
@@ -23,7 +23,7 @@ use Rattle.read_line_checks.proofs.scan_further.Statement.{statement}
 use Rattle.read_line_checks.proofs.scan_further.Tie as tie
 
 abbrev invariant-loop : tie.invariant-loop
-invariant-loop cut s limit code at₀ n₀ at n = (0 < at) × (at ≤ length s) × (n ≤ at) × (0 < n) × Same limit (firstRecord (linesBy cut s)) at n (further (linesBy cut (drop at s)))
+invariant-loop cut s limit code at₀ n₀ at n = (0 < at) × (at ≤ length s) × (n ≤ at) × (0 < n) × Same limit (first_record (lines_by cut s)) at n (further (lines_by cut (drop at s)))
 
 abbrev decreases-loop : tie.decreases-loop
 decreases-loop cut s limit code at₀ n₀ at n = length s - at
@@ -41,7 +41,7 @@ loop-holds c =
       omega arith,
       omega arith,
       omega arith,
-      first-go a.cut a.limit a.s.now p.0 (codeMeant a.code) a.next.0 (rw (near-line a.cut 0 a.s.now) at p.1.0) (omega arith),
+      first-go a.cut a.limit a.s.now p.0 (code_meant a.code) a.next.0 (rw (near-line a.cut 0 a.s.now) at p.1.0) (omega arith),
     )
 
 -- ---- at the head of a turn: the cut, the bytes, the place, and whether an 88 stands there
@@ -62,7 +62,7 @@ abbrev at_of : Turn → ℕ
 at_of c = c.loop.at
 
 abbrev line_of : Turn → Line
-line_of c = firstBy (cut_of c) (drop (at_of c) (bytes_of c))
+line_of c = first_by (cut_of c) (drop (at_of c) (bytes_of c))
 
 abbrev Asked : Type 0
 Asked = tie.After-begins-with invariant-loop decreases-loop
@@ -74,22 +74,22 @@ asks : (c : Asked) → begins continuation (line_of (turn c)) ≡ c.begins-with.
 asks c =
     let t = turn c in
     ap (λ (l : Line). begins continuation l) (sym (near-line (cut_of t) (at_of t) (bytes_of t)))
-    ∙ begins-near continuation (cut_of t) (drop (at_of t) (reachBy (cut_of t) (at_of t) (bytes_of t)))
-    ∙ ap (λ (xs : Bytes). sameBytes (codeBytes continuation) (take 3 (drop (at_of t) xs))) (sym c.before.reach.ensures)
+    ∙ begins-near continuation (cut_of t) (drop (at_of t) (reach_by (cut_of t) (at_of t) (bytes_of t)))
+    ∙ ap (λ (xs : Bytes). same_bytes (code_bytes continuation) (take 3 (drop (at_of t) xs))) (sym c.before.reach.ensures)
     ∙ sym c.begins-with.ensures
 
 -- ---- no 88 stands there
 
 returns : tie.Need-returns invariant-loop decreases-loop
-unfolding goodLines recordSize
+unfolding good_lines record_size
 returns c =
     let t = turn c.before in
     let a = (begun t).args in
     let no-88 = asks c.before ∙ not-true c.before.begins-with.result c.if1.true in
-    let e = further-end a.cut a.s.now (at_of t) a.limit (firstRecord (linesBy a.cut a.s.now)) t.loop.n t.loop.inv.4 no-88 in
+    let e = further-end a.cut a.s.now (at_of t) a.limit (first_record (lines_by a.cut a.s.now)) t.loop.n t.loop.inv.4 no-88 in
     record {
       good = e.checks;
-      code = good-code 0 a.limit (firstBy a.cut a.s.now) (codeMeant a.code) (rw (near-line a.cut 0 a.s.now) at (begun t).pre.1.0);
+      code = good-code 0 a.limit (first_by a.cut a.s.now) (code_meant a.code) (rw (near-line a.cut 0 a.s.now) at (begun t).pre.1.0);
       count = omega (arith, e.count);
       extent = omega (arith, e.size);
       some-line = omega arith;
@@ -121,7 +121,7 @@ abbrev Cleaned : Type 0
 Cleaned = tie.After-clean-line invariant-loop decreases-loop
 
 told : (c : Cleaned) (r : Clean) → c.Clean-Line.result ≡ r
-    → CleanIs r (cut_of (here c.before)) (at_of (here c.before)) (begun (here c.before)).args.limit (drop (at_of (here c.before)) (reachBy (cut_of (here c.before)) (at_of (here c.before)) (bytes_of (here c.before))))
+    → CleanIs r (cut_of (here c.before)) (at_of (here c.before)) (begun (here c.before)).args.limit (drop (at_of (here c.before)) (reach_by (cut_of (here c.before)) (at_of (here c.before)) (bytes_of (here c.before))))
 told c r e =
     let t = here c.before in
     subst (λ (xs : Bytes). CleanIs r (cut_of t) (at_of t) (begun t).args.limit (drop (at_of t) xs)) c.before.before.before.reach.ensures
@@ -133,12 +133,12 @@ returns-2 c =
     let further = cleaned.before in
     let t = here further in
     let a = (begun t).args in
-    let l = length-drop (at_of t) (reachBy a.cut (at_of t) a.s.now) in
+    let l = length-drop (at_of t) (reach_by a.cut (at_of t) a.s.now) in
     let w = reach-within a.cut (at_of t) a.s.now in
     let g = told cleaned _ c.before.why.given.1 in
     record {
       stops =
-          further-stop a.cut a.s.now (at_of t) a.limit (firstRecord (linesBy a.cut a.s.now)) t.loop.n t.loop.inv.4 (is-88 further) _
+          further-stop a.cut a.s.now (at_of t) a.limit (first_record (lines_by a.cut a.s.now)) t.loop.n t.loop.inv.4 (is-88 further) _
           (rw (near-line a.cut (at_of t) a.s.now) at g.0);
       some_byte = (begun t).pre.0;
       within = omega (arith, some_byte further, g.1);
@@ -164,14 +164,14 @@ turn-of c = here (further-of c)
 abbrev next_of : Good → ℕ
 next_of c = (ended c).e.given.0.0.0 + c.before.tail-len.result
 
-next-is : (c : Good) → next_of c ≡ at_of (turn-of c) + lineBy (cut_of (turn-of c)) (drop (at_of (turn-of c)) (bytes_of (turn-of c)))
+next-is : (c : Good) → next_of c ≡ at_of (turn-of c) + line_by (cut_of (turn-of c)) (drop (at_of (turn-of c)) (bytes_of (turn-of c)))
 next-is c =
     let t = turn-of c in
     let e = (ended c).e.given.0.0.0 in
-    let near = reachBy (cut_of t) (at_of t) (bytes_of t) in
+    let near = reach_by (cut_of t) (at_of t) (bytes_of t) in
     let g = told (cleaned-of c) _ (ended c).e.given.1 in
     after-near (cut_of t) (at_of t) e (next_of c) near g.1
-    (ap (λ (n : ℕ). e + n) (c.before.tail-len.ensures ∙ ap (λ (xs : Bytes). tailLen (cut_of t) (drop e xs)) (further-of c).before.before.reach.ensures))
+    (ap (λ (n : ℕ). e + n) (c.before.tail-len.ensures ∙ ap (λ (xs : Bytes). tail_len (cut_of t) (drop e xs)) (further-of c).before.before.reach.ensures))
     ∙ ap (λ (n : ℕ). at_of t + n) (near-length (cut_of t) (at_of t) (bytes_of t))
 
 -- the next line starts after this one, in the bytes
@@ -203,7 +203,7 @@ loop-again c =
       omega (arith, (next-within c).1),
       omega (arith, (next-within c).0),
       omega arith,
-      further-go a.cut a.s.now (at_of t) a.limit (firstRecord (linesBy a.cut a.s.now)) t.loop.n t.loop.inv.4 (is-88 (further-of c)) continuation (next_of c)
+      further-go a.cut a.s.now (at_of t) a.limit (first_record (lines_by a.cut a.s.now)) t.loop.n t.loop.inv.4 (is-88 (further-of c)) continuation (next_of c)
           (line-fine (at_of t) a.limit (line_of t) (rw (near-line a.cut (at_of t) a.s.now) at g.0) continuation (sym (code-88 (line_of t) (is-88 (further-of c))))) (next-is c),
     )
 

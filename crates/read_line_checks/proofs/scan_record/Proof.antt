@@ -4,7 +4,7 @@ use native.Mathlib.Omega.{arith}
 use lib.ListN.{length, drop}
 use borrow.Author.Rules.{rules}
 use Rattle.rules.specs.Bytes.{Bytes}
-use Rattle.read_cuts.specs.Reaches.{reachBy}
+use Rattle.read_cuts.specs.Reaches.{reach_by}
 use Rattle.read_cuts.proofs.ReachLaws.{near-line, reach-some, reach-within}
 use Rattle.read_line_checks.specs.declared.GoodLine.{GoodLine}
 use Rattle.read_line_checks.specs.LineChecks.{LineIs}
@@ -21,7 +21,7 @@ good-line-requires c κs =
 abbrev begun : tie.After-good-line → tie.Start
 begun c = c.before.before.before.before
 
-told : (c : tie.After-good-line) (r : GoodLine) → c.good-line.result ≡ r → LineIs r (begun c).args.cut 0 (begun c).args.limit (reachBy (begun c).args.cut 0 (begun c).args.s.now)
+told : (c : tie.After-good-line) (r : GoodLine) → c.good-line.result ≡ r → LineIs r (begun c).args.cut 0 (begun c).args.limit (reach_by (begun c).args.cut 0 (begun c).args.s.now)
 told c r e =
     let a = (begun c).args in
     subst (λ (xs : Bytes). LineIs r a.cut 0 a.limit xs) c.before.reach.ensures

@@ -4,14 +4,14 @@ use mathlib.Core.Path.{◌≡◌, ◌∙◌}
 use native.Mathlib.Omega.{arith}
 use lib.ListN.{length, drop}
 use borrow.Author.Rules.{rules}
-use Rattle.read_lines.specs.LineLengths.{bodyLen, isEnd, end_of}
+use Rattle.read_lines.specs.LineLengths.{body_len, is_end, end_of}
 use Rattle.read_lines.proofs.RunLengths.{run_none, run-stop, run_step, is-end-at, end-some, end_empty}
 use Rattle.read_lines.proofs.LineLaws.{body-from}
 use Rattle.read_lines.proofs.body_end.Statement.{statement}
 use Rattle.read_lines.proofs.body_end.Tie as tie
 
 abbrev invariant-loop : tie.invariant-loop
-invariant-loop s i₀ i = (i ≤ length s + (i₀ - length s)) × (i₀ + bodyLen (drop i₀ s) ≡ i + bodyLen (drop i s))
+invariant-loop s i₀ i = (i ≤ length s + (i₀ - length s)) × (i₀ + body_len (drop i₀ s) ≡ i + body_len (drop i s))
 
 abbrev decreases-loop : tie.decreases-loop
 decreases-loop s i₀ i = length s - i
@@ -20,20 +20,20 @@ returns : tie.Need-returns invariant-loop decreases-loop
 returns c =
     let i : ℕ = c.before.before.before.loop.i in
     let s = c.before.before.before.before.before.args.s.now in
-    let h = run-stop isEnd s i (omega arith) (is-end-at s i (omega arith) ∙ end-some (end_of (drop i s)) (omega (arith, c.before.end-len.ensures))) in
+    let h = run-stop is_end s i (omega arith) (is-end-at s i (omega arith) ∙ end-some (end_of (drop i s)) (omega (arith, c.before.end-len.ensures))) in
     (omega arith, omega arith)
 
 loop-again : tie.Need-loop-preserved invariant-loop decreases-loop
 loop-again c =
     let i : ℕ = c.before.before.before.before.loop.i in
     let s = c.before.before.before.before.before.before.args.s.now in
-    let h = run_step isEnd s i (omega arith) (is-end-at s i (omega arith) ∙ end_empty (end_of (drop i s)) (omega (arith, c.before.before.end-len.ensures))) in
+    let h = run_step is_end s i (omega arith) (is-end-at s i (omega arith) ∙ end_empty (end_of (drop i s)) (omega (arith, c.before.before.end-len.ensures))) in
     let f = body-from s (i + 1) c.plain-end.result.0 255 c.plain-end.ensures.0 in
     (omega arith, omega arith)
 
 returns-2 : tie.Need-returns-2 invariant-loop decreases-loop
 returns-2 c =
-    let h = run_none isEnd c.before.before.before.args.s.now c.before.loop.i (omega arith) in
+    let h = run_none is_end c.before.before.before.args.s.now c.before.loop.i (omega arith) in
     (omega arith, omega arith)
 
 pub body-end-spec : {M : Type 1} → statement M

@@ -5,7 +5,7 @@ use native.Mathlib.Omega.{arith}
 use lib.ListN.{drop}
 use borrow.Author.Rules.{rules}
 use Rattle.rules.specs.Bytes.{Bytes}
-use Rattle.read_lines.specs.LineLengths.{bodyLen}
+use Rattle.read_lines.specs.LineLengths.{body_len}
 use Rattle.read_lines.proofs.LineLaws.{next-within, body-in}
 use Rattle.read_lines.proofs.body_end_in.Statement.{statement}
 use Rattle.read_lines.proofs.body_end_in.Tie as tie
@@ -26,7 +26,7 @@ returns c =
 returns-2 : tie.Need-returns-2
 returns-2 c =
     let a = c.before.before.before.before.before.before.before.args in
-    c.body-end2.ensures.0 ∙ ap (λ (bs : Bytes). a.start.0 + bodyLen (drop a.start.0 bs)) c.before.front.ensures
+    c.body-end2.ensures.0 ∙ ap (λ (bs : Bytes). a.start.0 + body_len (drop a.start.0 bs)) c.before.front.ensures
 
 pub body-end-in-spec : {M : Type 1} → statement M
 body-end-in-spec =

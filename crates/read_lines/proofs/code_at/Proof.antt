@@ -4,15 +4,15 @@ use mathlib.Core.Path.{◌≡◌, sym, ◌∙◌}
 use lib.ListN.{drop}
 use borrow.Author.Rules.{rules}
 use Rattle.rules.specs.Bytes.{Bytes}
-use Rattle.rules.specs.Lines.{Code, fileHeader, groupHeader, accountHeader, detail, accountTrailer, groupTrailer, fileTrailer, continuation, allCodes, code_in, code_of}
-use Rattle.read_lines.specs.LineLengths.{firstLine}
+use Rattle.rules.specs.Lines.{Code, file_header, group_header, account_header, detail, account_trailer, group_trailer, file_trailer, continuation, all_codes, code_in, code_of}
+use Rattle.read_lines.specs.LineLengths.{first_line}
 use Rattle.read_lines.proofs.Fronts.{code_here, code-after}
 use Rattle.read_lines.proofs.code_at.Statement.{statement}
 use Rattle.read_lines.proofs.code_at.Tie as tie
 
 -- after the first n tests, the code of the line at `at` is among those that are left
 abbrev Left : ℕ → Bytes → ℕ → Type 0
-Left n s at = code_of (firstLine (drop at s)) ≡ code_in (drop n allCodes) (firstLine (drop at s))
+Left n s at = code_of (first_line (drop at s)) ≡ code_in (drop n all_codes) (first_line (drop at s))
 
 -- the bytes and the place, at each test
 abbrev s-1 : tie.After-begins → Bytes
@@ -65,53 +65,53 @@ at_8 c = at_7 c.before.before
 
 left-1 : (c : tie.Else1) → Left 1 (s-1 c.before) (at_1 c.before)
 unfolding code_of
-left-1 c = code-after (s-1 c.before) (at_1 c.before) fileHeader (drop 1 allCodes) c.before.begins.result c.before.begins.ensures c.if1.false
+left-1 c = code-after (s-1 c.before) (at_1 c.before) file_header (drop 1 all_codes) c.before.begins.result c.before.begins.ensures c.if1.false
 
 left-2 : (c : tie.Else2) → Left 2 (s-2 c.before) (at-2 c.before)
-left-2 c = left-1 c.before.before ∙ code-after (s-2 c.before) (at-2 c.before) groupHeader (drop 2 allCodes) c.before.begins2.result c.before.begins2.ensures c.if2.false
+left-2 c = left-1 c.before.before ∙ code-after (s-2 c.before) (at-2 c.before) group_header (drop 2 all_codes) c.before.begins2.result c.before.begins2.ensures c.if2.false
 
 left-3 : (c : tie.Else3) → Left 3 (s-3 c.before) (at-3 c.before)
-left-3 c = left-2 c.before.before ∙ code-after (s-3 c.before) (at-3 c.before) accountHeader (drop 3 allCodes) c.before.begins3.result c.before.begins3.ensures c.if3.false
+left-3 c = left-2 c.before.before ∙ code-after (s-3 c.before) (at-3 c.before) account_header (drop 3 all_codes) c.before.begins3.result c.before.begins3.ensures c.if3.false
 
 left-4 : (c : tie.Else4) → Left 4 (s-4 c.before) (at-4 c.before)
-left-4 c = left-3 c.before.before ∙ code-after (s-4 c.before) (at-4 c.before) detail (drop 4 allCodes) c.before.begins4.result c.before.begins4.ensures c.if4.false
+left-4 c = left-3 c.before.before ∙ code-after (s-4 c.before) (at-4 c.before) detail (drop 4 all_codes) c.before.begins4.result c.before.begins4.ensures c.if4.false
 
 left-5 : (c : tie.Else5) → Left 5 (s-5 c.before) (at_5 c.before)
-left-5 c = left-4 c.before.before ∙ code-after (s-5 c.before) (at_5 c.before) accountTrailer (drop 5 allCodes) c.before.begins5.result c.before.begins5.ensures c.if5.false
+left-5 c = left-4 c.before.before ∙ code-after (s-5 c.before) (at_5 c.before) account_trailer (drop 5 all_codes) c.before.begins5.result c.before.begins5.ensures c.if5.false
 
 left-6 : (c : tie.Else6) → Left 6 (s-6 c.before) (at-6 c.before)
-left-6 c = left-5 c.before.before ∙ code-after (s-6 c.before) (at-6 c.before) groupTrailer (drop 6 allCodes) c.before.begins6.result c.before.begins6.ensures c.if6.false
+left-6 c = left-5 c.before.before ∙ code-after (s-6 c.before) (at-6 c.before) group_trailer (drop 6 all_codes) c.before.begins6.result c.before.begins6.ensures c.if6.false
 
 left-7 : (c : tie.Else7) → Left 7 (s-7 c.before) (at_7 c.before)
-left-7 c = left-6 c.before.before ∙ code-after (s-7 c.before) (at_7 c.before) fileTrailer (drop 7 allCodes) c.before.begins7.result c.before.begins7.ensures c.if7.false
+left-7 c = left-6 c.before.before ∙ code-after (s-7 c.before) (at_7 c.before) file_trailer (drop 7 all_codes) c.before.begins7.result c.before.begins7.ensures c.if7.false
 
 left-8 : (c : tie.Else8) → Left 8 (s-8 c.before) (at_8 c.before)
-left-8 c = left-7 c.before.before ∙ code-after (s-8 c.before) (at_8 c.before) continuation (drop 8 allCodes) c.before.begins8.result c.before.begins8.ensures c.if8.false
+left-8 c = left-7 c.before.before ∙ code-after (s-8 c.before) (at_8 c.before) continuation (drop 8 all_codes) c.before.begins8.result c.before.begins8.ensures c.if8.false
 
 returns : tie.Need-returns
 unfolding code_of
-returns c = sym (code_here (s-1 c.before) (at_1 c.before) fileHeader (drop 1 allCodes) c.before.begins.result c.before.begins.ensures c.if1.true)
+returns c = sym (code_here (s-1 c.before) (at_1 c.before) file_header (drop 1 all_codes) c.before.begins.result c.before.begins.ensures c.if1.true)
 
 returns-2 : tie.Need-returns-2
-returns-2 c = sym (left-1 c.before.before ∙ code_here (s-2 c.before) (at-2 c.before) groupHeader (drop 2 allCodes) c.before.begins2.result c.before.begins2.ensures c.if2.true)
+returns-2 c = sym (left-1 c.before.before ∙ code_here (s-2 c.before) (at-2 c.before) group_header (drop 2 all_codes) c.before.begins2.result c.before.begins2.ensures c.if2.true)
 
 returns-3 : tie.Need-returns-3
-returns-3 c = sym (left-2 c.before.before ∙ code_here (s-3 c.before) (at-3 c.before) accountHeader (drop 3 allCodes) c.before.begins3.result c.before.begins3.ensures c.if3.true)
+returns-3 c = sym (left-2 c.before.before ∙ code_here (s-3 c.before) (at-3 c.before) account_header (drop 3 all_codes) c.before.begins3.result c.before.begins3.ensures c.if3.true)
 
 returns-4 : tie.Need-returns-4
-returns-4 c = sym (left-3 c.before.before ∙ code_here (s-4 c.before) (at-4 c.before) detail (drop 4 allCodes) c.before.begins4.result c.before.begins4.ensures c.if4.true)
+returns-4 c = sym (left-3 c.before.before ∙ code_here (s-4 c.before) (at-4 c.before) detail (drop 4 all_codes) c.before.begins4.result c.before.begins4.ensures c.if4.true)
 
 returns-5 : tie.Need-returns-5
-returns-5 c = sym (left-4 c.before.before ∙ code_here (s-5 c.before) (at_5 c.before) accountTrailer (drop 5 allCodes) c.before.begins5.result c.before.begins5.ensures c.if5.true)
+returns-5 c = sym (left-4 c.before.before ∙ code_here (s-5 c.before) (at_5 c.before) account_trailer (drop 5 all_codes) c.before.begins5.result c.before.begins5.ensures c.if5.true)
 
 returns-6 : tie.Need-returns-6
-returns-6 c = sym (left-5 c.before.before ∙ code_here (s-6 c.before) (at-6 c.before) groupTrailer (drop 6 allCodes) c.before.begins6.result c.before.begins6.ensures c.if6.true)
+returns-6 c = sym (left-5 c.before.before ∙ code_here (s-6 c.before) (at-6 c.before) group_trailer (drop 6 all_codes) c.before.begins6.result c.before.begins6.ensures c.if6.true)
 
 returns-7 : tie.Need-returns-7
-returns-7 c = sym (left-6 c.before.before ∙ code_here (s-7 c.before) (at_7 c.before) fileTrailer (drop 7 allCodes) c.before.begins7.result c.before.begins7.ensures c.if7.true)
+returns-7 c = sym (left-6 c.before.before ∙ code_here (s-7 c.before) (at_7 c.before) file_trailer (drop 7 all_codes) c.before.begins7.result c.before.begins7.ensures c.if7.true)
 
 returns-8 : tie.Need-returns-8
-returns-8 c = sym (left-7 c.before.before ∙ code_here (s-8 c.before) (at_8 c.before) continuation (drop 8 allCodes) c.before.begins8.result c.before.begins8.ensures c.if8.true)
+returns-8 c = sym (left-7 c.before.before ∙ code_here (s-8 c.before) (at_8 c.before) continuation (drop 8 all_codes) c.before.begins8.result c.before.begins8.ensures c.if8.true)
 
 returns-9 : tie.Need-returns-9
 unfolding code_in

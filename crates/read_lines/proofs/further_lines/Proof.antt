@@ -5,8 +5,8 @@ use mathlib.Core.Bool.{true}
 use native.Mathlib.Omega.{arith}
 use lib.ListN.{length, take, drop, length-drop}
 use borrow.Author.Rules.{rules}
-use Rattle.rules.specs.Bytes.{Bytes, sameBytes}
-use Rattle.rules.specs.Lines.{lines_of, continuation, codeBytes, recordSize}
+use Rattle.rules.specs.Bytes.{Bytes, same_bytes}
+use Rattle.rules.specs.Lines.{lines_of, continuation, code_bytes, record_size}
 use Rattle.read_lines.specs.LineLengths.{further}
 use Rattle.read_lines.proofs.LineLengthLaws.{line-some}
 use Rattle.read_lines.proofs.LineLaws.{further-some, further-none, further-size, further-count}
@@ -16,7 +16,7 @@ use Rattle.read_lines.proofs.further_lines.Tie as tie
 abbrev invariant-loop : tie.invariant-loop
 invariant-loop s end₀ n₀ end n =
     (end.0 ≤ length s + (end₀.0 - length s))
-    × (end₀.0 + recordSize (further (lines_of (drop end₀.0 s))) ≡ end.0 + recordSize (further (lines_of (drop end.0 s))))
+    × (end₀.0 + record_size (further (lines_of (drop end₀.0 s))) ≡ end.0 + record_size (further (lines_of (drop end.0 s))))
     × (length (further (lines_of (drop end₀.0 s))) ≡ n + length (further (lines_of (drop end.0 s))))
     × (end₀.0 + n ≤ end.0)
 
@@ -34,7 +34,7 @@ bytes c = c.before.before.before.before.before.args.s.now
 abbrev at_of : Line → ℕ
 at_of c = c.before.before.before.loop.end.0
 
-carries-on : (c : Line) → sameBytes (codeBytes continuation) (take 3 (drop (at_of c) (bytes c))) ≡ true
+carries-on : (c : Line) → same_bytes (code_bytes continuation) (take 3 (drop (at_of c) (bytes c))) ≡ true
 carries-on c = sym c.before.before.begins.ensures ∙ c.before.if1.true
 
 -- it has a byte
@@ -63,7 +63,7 @@ loop-again c =
     )
 
 returns : tie.Need-returns invariant-loop decreases-loop
-unfolding recordSize
+unfolding record_size
 returns c =
     let s = c.before.before.before.before.args.s.now in
     let l = c.before.before.loop in

@@ -3,29 +3,29 @@ use mathlib.Core.Path.{◌≡◌, sym, ◌∙◌}
 use lib.Dec.{eqb}
 use borrow.Author.Tests.{eq-eqb, ne_eqb}
 use borrow.Author.Rules.{rules}
-use Rattle.rules.specs.Lines.{sameCode}
+use Rattle.rules.specs.Lines.{same_code}
 use Rattle.rules.specs.Lines as lines
 use Rattle.rules.specs.Order.{among}
-use Rattle.base_codes.specs.CodeMeaning.{codeMeant}
+use Rattle.base_codes.specs.CodeMeaning.{code_meant}
 use Rattle.read_order.proofs.OrderLaws.{or-false, same-by-number}
 use Rattle.read_order.proofs.allows.Statement.{statement}
 use Rattle.read_order.proofs.allows.Tie as tie
 
 -- the code asked for, and those expected, in the second arm and in the third
 abbrev asked : tie.After-number-of → lines.Code
-asked c = codeMeant c.before.args.code
+asked c = code_meant c.before.args.code
 
 abbrev only : tie.After-expected → lines.Code
-only c = codeMeant c.expected.given.0.0
+only c = code_meant c.expected.given.0.0
 
 abbrev one : tie.After-expected2 → lines.Code
-one c = codeMeant c.expected2.given.0.0
+one c = code_meant c.expected2.given.0.0
 
 abbrev other : tie.After-expected2 → lines.Code
-other c = codeMeant c.expected2.given.0.1.0
+other c = code_meant c.expected2.given.0.1.0
 
 is_one : (c : tie.After-number-of3)
-    → eqb c.before.before.before.before.number_of.result c.number-of3.result ≡ sameCode (asked c.before.before.before.before) (one c.before.before)
+    → eqb c.before.before.before.before.number_of.result c.number-of3.result ≡ same_code (asked c.before.before.before.before) (one c.before.before)
 is_one c =
     let n = c.before.before.before.before in
     same-by-number n.number_of.result c.number-of3.result (asked n) (one c.before.before) n.number_of.ensures c.number-of3.ensures

@@ -1,5 +1,5 @@
 -- `read_trailers::right_records` meets its contract. Assumes nothing.
-use Rattle.base_totals.specs.SummaryMeaning.{summaryMeant}
+use Rattle.base_totals.specs.SummaryMeaning.{summary_meant}
 use Rattle.read_trailers.proofs.TrailerLaws.{records-fine, records-wrong}
 use Rattle.read_trailers.proofs.right_records.Statement.{statement}
 use Rattle.read_trailers.proofs.right_records.Tie as tie
@@ -7,12 +7,12 @@ use Rattle.read_trailers.proofs.right_records.Tie as tie
 returns : tie.Need-returns
 returns c =
     let a = c.before.before.before.before.before.before.before.args in
-    records-wrong (summaryMeant a.s) a.kept c.if1.true
+    records-wrong (summary_meant a.s) a.kept c.if1.true
 
 returns-2 : tie.Need-returns-2
 returns-2 c =
     let a = c.before.before.before.before.before.before.before.args in
-    records-fine (summaryMeant a.s) a.kept c.if1.false
+    records-fine (summary_meant a.s) a.kept c.if1.false
 
 pub right-records-spec : {M : Type 1} → statement M
 right-records-spec = tie.close (tie.spec returns returns-2)

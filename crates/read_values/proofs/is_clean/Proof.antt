@@ -4,13 +4,13 @@ use mathlib.Core.Path.{◌≡◌, refl, sym, ◌∙◌}
 use borrow.Author.Rules.{rules}
 use borrow.Author.Tests.{not-true, not-false}
 use lib.ListN.{length, drop}
-use Rattle.rules.specs.Bytes.{all, inField}
+use Rattle.rules.specs.Bytes.{all, in_field}
 use Rattle.base_digits.proofs.ReadingLaws.{go_on, stop, done}
 use Rattle.read_values.proofs.is_clean.Statement.{statement}
 use Rattle.read_values.proofs.is_clean.Tie as tie
 
 abbrev invariant-loop : tie.invariant-loop
-invariant-loop f i₀ i = (i ≤ length f) × (all inField (drop i f) ≡ all inField f)
+invariant-loop f i₀ i = (i ≤ length f) × (all in_field (drop i f) ≡ all in_field f)
 
 abbrev decreases-loop : tie.decreases-loop
 decreases-loop f i₀ i = length f - i
@@ -22,16 +22,16 @@ returns : tie.Need-returns invariant-loop decreases-loop
 returns c =
     let d = c.before in
     let t = d.before.before in
-    stop inField _ _ t.before.loop.invariant.1 t.loop-test.true (sym d.in_field.ensures ∙ not-true _ c.if1.true)
+    stop in_field _ _ t.before.loop.invariant.1 t.loop-test.true (sym d.in_field.ensures ∙ not-true _ c.if1.true)
 
 loop-again : tie.Need-loop-preserved invariant-loop decreases-loop
 loop-again c =
     let d = c.before in
     let t = d.before.before in
-    (search rules, go_on inField _ _ t.before.loop.invariant.1 t.loop-test.true (sym d.in_field.ensures ∙ not-false _ c.if1.false))
+    (search rules, go_on in_field _ _ t.before.loop.invariant.1 t.loop-test.true (sym d.in_field.ensures ∙ not-false _ c.if1.false))
 
 returns-2 : tie.Need-returns-2 invariant-loop decreases-loop
-returns-2 c = done inField _ _ c.before.loop.invariant.1 c.loop-test.false
+returns-2 c = done in_field _ _ c.before.loop.invariant.1 c.loop-test.false
 
 pub is-clean-spec : {M : Type 1} → statement M
 is-clean-spec =

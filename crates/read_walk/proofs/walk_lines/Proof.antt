@@ -9,22 +9,22 @@ use lib.Seq.{slice, length-slice}
 use borrow.Author.Rules.{rules}
 use Rattle.rules.specs.Bytes.{Bytes}
 use Rattle.rules.specs.Outcome.{refuse, fine}
-use Rattle.rules.specs.Cells.{cellsFrom, leadingBlanks}
-use Rattle.rules.specs.Grammar.{takeNext, nextKind, isText}
-use Rattle.read_lines.specs.Cuts.{linesBy, bodyBy, lineBy}
+use Rattle.rules.specs.Cells.{cells_from, leading_blanks}
+use Rattle.rules.specs.Grammar.{take_next, next_kind, is_text}
+use Rattle.read_lines.specs.Cuts.{lines_by, body_by, line_by}
 use Rattle.read_lines.proofs.CutLaws.{body-fits, line-fits-by, line-some-by}
-use Rattle.read_wanted.specs.Wants.{wantedOf, purpose}
-use Rattle.read_wanted.specs.TakenMeaning.{judgedOf}
+use Rattle.read_wanted.specs.Wants.{wanted_of, purpose}
+use Rattle.read_wanted.specs.TakenMeaning.{judged_of}
 use Rattle.read_field_ends.specs.declared.Extent.TheVariants as extent
-use Rattle.read_field_ends.specs.FieldLengths.{extentOf}
+use Rattle.read_field_ends.specs.FieldLengths.{extent_of}
 use Rattle.read_kept.specs.declared.Kept.{Kept}
-use Rattle.read_kept.specs.KeepFields.{nothingKept, keepRead}
+use Rattle.read_kept.specs.KeepFields.{nothing_kept, keep_read}
 use Rattle.read_kept.proofs.AddAmounts.{kept-for-nothing}
 use Rattle.read_wanted.specs.declared.want.Want.{Want}
 use Rattle.read_walk.specs.declared.Walked.{Walked}
 use Rattle.read_walk.specs.declared.Walked.TheVariants.{Refused}
 use Rattle.read_walk.specs.WalkAnswers.{Walks}
-use Rattle.read_walk.specs.WalkKept.{WalkK, point, takenK, walkCellsK, walkLinesK, walkFrom}
+use Rattle.read_walk.specs.WalkKept.{WalkK, point, taken_k, walk_cells_k, walk_lines_k, walk_from}
 use Rattle.read_walk.proofs.LineParts.{part_slice}
 use Rattle.read_walk.proofs.WalkBounds.{Fits, fits-same, start_fits, taken-fits, end-bounds}
 use Rattle.read_walk.proofs.WalkLaws.{took-bad, took-good, open-here, field-within, wrong-here, text-here, field-short, comma-here, blanks-here, byte-here, short-here, line-stop, line-go, lines_end, from-stop, from_end}
@@ -35,8 +35,8 @@ abbrev invariant-loop : tie.invariant-loop
 invariant-loop cut rest rec want₀ kept₀ slash₀ at e a₀ want kept slash a =
     (a ≤ e)
     × (e ≤ length rec)
-    × Fits (length rec) kept₀.before.0 (point (wantedOf want) kept slash.0)
-    × (walkCellsK (point (wantedOf want₀) kept₀ slash₀.0) (cellsFrom a₀ (slice a₀ e rec)) ≡ walkCellsK (point (wantedOf want) kept slash.0) (cellsFrom a (slice a e rec)))
+    × Fits (length rec) kept₀.before.0 (point (wanted_of want) kept slash.0)
+    × (walk_cells_k (point (wanted_of want₀) kept₀ slash₀.0) (cells_from a₀ (slice a₀ e rec)) ≡ walk_cells_k (point (wanted_of want) kept slash.0) (cells_from a (slice a e rec)))
 
 abbrev decreases-loop : tie.decreases-loop
 decreases-loop cut rest rec want₀ kept₀ slash₀ at e a₀ want kept slash a = e - a
@@ -44,8 +44,8 @@ decreases-loop cut rest rec want₀ kept₀ slash₀ at e a₀ want kept slash a
 abbrev invariant-walk : tie.invariant-walk
 invariant-walk cut rest rec want₀ kept₀ slash₀ at₀ want kept slash at =
     (at ≤ length rec)
-    × Fits (length rec) kept₀.before.0 (point (wantedOf want) kept slash.0)
-    × (walkLinesK 0 (point (wantedOf want₀) kept₀ slash₀.0) (linesBy cut rec) ≡ walkLinesK at (point (wantedOf want) kept slash.0) (linesBy cut (drop at rec)))
+    × Fits (length rec) kept₀.before.0 (point (wanted_of want) kept slash.0)
+    × (walk_lines_k 0 (point (wanted_of want₀) kept₀ slash₀.0) (lines_by cut rec) ≡ walk_lines_k at (point (wanted_of want) kept slash.0) (lines_by cut (drop at rec)))
 
 abbrev decreases-walk : tie.decreases-walk
 decreases-walk cut rest rec want₀ kept₀ slash₀ at₀ want kept slash at = length rec - at
@@ -76,17 +76,17 @@ next_of c = c.line-in.result.next.0
 abbrev from-of : Line → WalkK
 from-of c =
     let w = c.before.before.walk in
-    point (wantedOf w.want) w.auto w.slash.0
+    point (wanted_of w.want) w.auto w.slash.0
 
 -- the walk where the record starts
 abbrev Made : Type 0
 Made = tie.After-none invariant-loop decreases-loop invariant-walk decreases-walk
 
 abbrev first_of : Made → WalkK
-first_of c = point (wantedOf c.before.before.before.args.first) c.none.result 0
+first_of c = point (wanted_of c.before.before.before.args.first) c.none.result 0
 
-first-is : (c : Made) → first_of c ≡ point (wantedOf c.before.before.before.args.first) (nothingKept c.before.before.before.args.before.0) 0
-first-is c = ap (λ (k : Kept). point (wantedOf c.before.before.before.args.first) k 0) c.none.ensures
+first-is : (c : Made) → first_of c ≡ point (wanted_of c.before.before.before.args.first) (nothing_kept c.before.before.before.args.before.0) 0
+first-is c = ap (λ (k : Kept). point (wanted_of c.before.before.before.args.first) k 0) c.none.ensures
 
 -- the magnitudes before, as they are kept where the record starts, and where a line does
 same-before : (c : Made) → c.none.result.before.0 ≡ c.before.before.before.args.before.0
@@ -101,11 +101,11 @@ kept-before c = c.before.before.walk.invariant.1.kept.before
 some_byte : (c : Line) → start_of c < length (rec-of c)
 some_byte c = c.before.if1.false
 
-end_is : (c : Line) → end_of c ≡ start_of c + bodyBy (cut_of c) (drop (start_of c) (rec-of c))
-end_is c = c.line-in.ensures.0 ∙ ap (λ (bs : Bytes). start_of c + bodyBy (cut_of c) (drop (start_of c) bs)) (sym (entry c).requires)
+end_is : (c : Line) → end_of c ≡ start_of c + body_by (cut_of c) (drop (start_of c) (rec-of c))
+end_is c = c.line-in.ensures.0 ∙ ap (λ (bs : Bytes). start_of c + body_by (cut_of c) (drop (start_of c) bs)) (sym (entry c).requires)
 
-next-at : (c : Line) → next_of c ≡ start_of c + lineBy (cut_of c) (drop (start_of c) (rec-of c))
-next-at c = c.line-in.ensures.1 ∙ ap (λ (bs : Bytes). start_of c + lineBy (cut_of c) (drop (start_of c) bs)) (sym (entry c).requires)
+next-at : (c : Line) → next_of c ≡ start_of c + line_by (cut_of c) (drop (start_of c) (rec-of c))
+next-at c = c.line-in.ensures.1 ∙ ap (λ (bs : Bytes). start_of c + line_by (cut_of c) (drop (start_of c) bs)) (sym (entry c).requires)
 
 ends : (c : Line) → end_of c ≤ length (rec-of c)
 ends c = omega (arith, some_byte c, end_is c, body-fits (cut_of c) (drop (start_of c) (rec-of c)), length-drop (start_of c) (rec-of c))
@@ -121,19 +121,19 @@ after c =
 
 -- a walk that stops at this place answers so
 stopped-at : (cut : ℕ) (rec : Bytes) (first : Want) (before number place : ℕ) (r : Walked) → r ≡ Refused (record { number = number; place = record { 0 = place } })
-    → refuse number place ≡ walkFrom (wantedOf first) (nothingKept before) (linesBy cut rec) → place ≤ length rec + 3 → Walks cut rec first before r
+    → refuse number place ≡ walk_from (wanted_of first) (nothing_kept before) (lines_by cut rec) → place ≤ length rec + 3 → Walks cut rec first before r
 stopped-at cut rec first before number place r e answers within = rw e (record { answer = answers; bounds = within })
 
 -- the record is refused where this line is
-stop : (c : Line) (n q : ℕ) → walkCellsK (from-of c) (cellsFrom (start_of c + 3) (slice (start_of c + 3) (end_of c) (rec-of c))) ≡ refuse n q
-    → refuse n q ≡ walkFrom (wantedOf (entry c).args.first) (nothingKept (entry c).args.before.0) (linesBy (cut_of c) (rec-of c))
+stop : (c : Line) (n q : ℕ) → walk_cells_k (from-of c) (cells_from (start_of c + 3) (slice (start_of c + 3) (end_of c) (rec-of c))) ≡ refuse n q
+    → refuse n q ≡ walk_from (wanted_of (entry c).args.first) (nothing_kept (entry c).args.before.0) (lines_by (cut_of c) (rec-of c))
 stop c n q r =
-    from-stop _ _ (linesBy (cut_of c) (rec-of c)) (first_of c.before.before.before) (first-is c.before.before.before) n q
+    from-stop _ _ (lines_by (cut_of c) (rec-of c)) (first_of c.before.before.before) (first-is c.before.before.before) n q
     (c.before.before.walk.invariant.2 ∙ line-stop (cut_of c) (rec-of c) (start_of c) (end_of c) (next_of c) (some_byte c) (end_is c) (next-at c) (from-of c) n q r)
 
 -- the walk goes on at the next line where this one is good
-go_on : (c : Line) (v : WalkK) → walkCellsK (from-of c) (cellsFrom (start_of c + 3) (slice (start_of c + 3) (end_of c) (rec-of c))) ≡ fine v
-    → walkLinesK 0 (first_of c.before.before.before) (linesBy (cut_of c) (rec-of c)) ≡ walkLinesK (next_of c) v (linesBy (cut_of c) (drop (next_of c) (rec-of c)))
+go_on : (c : Line) (v : WalkK) → walk_cells_k (from-of c) (cells_from (start_of c + 3) (slice (start_of c + 3) (end_of c) (rec-of c))) ≡ fine v
+    → walk_lines_k 0 (first_of c.before.before.before) (lines_by (cut_of c) (rec-of c)) ≡ walk_lines_k (next_of c) v (lines_by (cut_of c) (drop (next_of c) (rec-of c)))
 go_on c v r =
     c.before.before.walk.invariant.2 ∙ line-go (cut_of c) (rec-of c) (start_of c) (end_of c) (next_of c) (some_byte c) (end_is c) (next-at c) (from-of c) v r
 
@@ -149,25 +149,25 @@ abbrev at_of : Head → ℕ
 at_of c = c.loop.a
 
 abbrev here : Head → WalkK
-here c = point (wantedOf c.loop.want) c.loop.auto c.loop.slash.0
+here c = point (wanted_of c.loop.want) c.loop.auto c.loop.slash.0
 
 abbrev left : Head → Bytes
 left c = slice (at_of c) (end_of (line c)) (rec-of (line c))
 
 abbrev wants-text : Head → Bool
-wants-text c = isText (nextKind (wantedOf c.loop.want))
+wants-text c = is_text (next_kind (wanted_of c.loop.want))
 
 -- ---- how far the field goes
 
 abbrev Cutting : Type 0
 Cutting = tie.After-field-extent invariant-loop decreases-loop invariant-walk decreases-walk
 
-extent-is : (c : Cutting) → c.field-extent.result ≡ extentOf (wants-text c.before.before.before) (left c.before.before.before)
+extent-is : (c : Cutting) → c.field-extent.result ≡ extent_of (wants-text c.before.before.before) (left c.before.before.before)
 extent-is c =
     let h = c.before.before.before in
     c.field-extent.ensures
-    ∙ ap (λ (t : Bool). extentOf t (take (end_of (line h) - at_of h) (drop (at_of h) (rec-of (line h))))) c.before.before.is-text.ensures
-    ∙ ap (λ (bs : Bytes). extentOf (wants-text h) bs) (part_slice (at_of h) (end_of (line h)) (rec-of (line h)) h.loop.invariant.0)
+    ∙ ap (λ (t : Bool). extent_of t (take (end_of (line h) - at_of h) (drop (at_of h) (rec-of (line h))))) c.before.before.is-text.ensures
+    ∙ ap (λ (bs : Bytes). extent_of (wants-text h) bs) (part_slice (at_of h) (end_of (line h)) (rec-of (line h)) h.loop.invariant.0)
 
 abbrev Field : Type 0
 Field = tie.After-known-told invariant-loop decreases-loop invariant-walk decreases-walk
@@ -181,7 +181,7 @@ asked c = c.before.before.before.before.before
 abbrev size : Field → ℕ
 size c = c.before.n.given.0.0
 
-field-extent : (c : Field) → extent.Field (size c) ≡ extentOf (wants-text (head c)) (left (head c))
+field-extent : (c : Field) → extent.Field (size c) ≡ extent_of (wants-text (head c)) (left (head c))
 field-extent c = sym c.before.n.given.1 ∙ extent-is c.before.before.before
 
 inside : (c : Field) → at_of (head c) + size c ≤ end_of (line (head c))
@@ -203,13 +203,13 @@ Noted = tie.Joined3 invariant-loop decreases-loop invariant-walk decreases-walk
 abbrev noted-field : Noted → Field
 noted-field c = c.before.before
 
-kept-is : (c : Noted) → c.if3.auto ≡ keepRead (purpose (nextKind (here (head (noted-field c))).wanted)) (here (head (noted-field c))).kept (at_of (head (noted-field c))) (bytes (noted-field c))
+kept-is : (c : Noted) → c.if3.auto ≡ keep_read (purpose (next_kind (here (head (noted-field c))).wanted)) (here (head (noted-field c))).kept (at_of (head (noted-field c))) (bytes (noted-field c))
 kept-is c =
     let g = noted-field c in
     let h = head g in
     ⊎_elim
-    (λ t. t.3 ∙ t.2.ensures ∙ ap (λ (bs : Bytes). keepRead (purpose (nextKind (here h).wanted)) (here h).kept (at_of h) bs) (lent g))
-    (λ t. t.1 ∙ kept-for-nothing (purpose (nextKind (here h).wanted)) (here h).kept (at_of h) (bytes g) (sym c.before.is-kept.ensures ∙ t.0.left))
+    (λ t. t.3 ∙ t.2.ensures ∙ ap (λ (bs : Bytes). keep_read (purpose (next_kind (here h).wanted)) (here h).kept (at_of h) bs) (lent g))
+    (λ t. t.1 ∙ kept-for-nothing (purpose (next_kind (here h).wanted)) (here h).kept (at_of h) (bytes g) (sym c.before.is-kept.ensures ∙ t.0.left))
     c.if3.branch
 
 -- ---- the field is judged
@@ -223,8 +223,8 @@ noted c = c.before.before
 abbrev field : Judged → Field
 field c = noted-field (noted c)
 
-judged-is : (c : Judged) → judgedOf c.take-detail-first.result ≡ takeNext (here (head (field c))).wanted (bytes (field c))
-judged-is c = c.take-detail-first.ensures ∙ ap (λ (bs : Bytes). takeNext (here (head (field c))).wanted bs) (lent (field c))
+judged-is : (c : Judged) → judged_of c.take-detail-first.result ≡ take_next (here (head (field c))).wanted (bytes (field c))
+judged-is c = c.take-detail-first.ensures ∙ ap (λ (bs : Bytes). take_next (here (head (field c))).wanted bs) (lent (field c))
 
 abbrev Good : Type 0
 Good = tie.After-known-told3 invariant-loop decreases-loop invariant-walk decreases-walk
@@ -233,14 +233,14 @@ abbrev good-field : Good → Field
 good-field c = field c.before.before.before
 
 abbrev then : Good → WalkK
-then c = point (wantedOf c.before.next.given.0.0) (noted c.before.before.before).if3.kept (here (head (good-field c))).lastSlash
+then c = point (wanted_of c.before.next.given.0.0) (noted c.before.before.before).if3.kept (here (head (good-field c))).last_slash
 
-took : (c : Good) → takenK (at_of (head (good-field c))) (bytes (good-field c)) (here (head (good-field c))) ≡ fine (then c)
-unfolding judgedOf
+took : (c : Good) → taken_k (at_of (head (good-field c))) (bytes (good-field c)) (here (head (good-field c))) ≡ fine (then c)
+unfolding judged_of
 took c =
     let j = c.before.before.before in
     took-good (at_of (head (field j))) (bytes (field j)) (here (head (field j))) _ _
-    (sym (judged-is j) ∙ ap judgedOf c.before.next.given.1) (kept-is (noted j))
+    (sym (judged-is j) ∙ ap judged_of c.before.next.given.1) (kept-is (noted j))
 
 fits : (c : Good) → Fits (length (rec-of (line (head (good-field c))))) (before_of (line (head (good-field c)))) (then c)
 fits c =
@@ -273,12 +273,12 @@ abbrev blanks-end : Blanks → ℕ
 blanks-end c = at_of (head (blank-field c)) + size (blank-field c) + 1 + c.blanks-len.result
 
 blanks-from : (c : Blanks) → blanks-end c ≡ at_of (head (blank-field c)) + size (blank-field c) + 1
-    + leadingBlanks (slice (at_of (head (blank-field c)) + size (blank-field c) + 1) (end_of (line (head (blank-field c)))) (rec-of (line (head (blank-field c)))))
+    + leading_blanks (slice (at_of (head (blank-field c)) + size (blank-field c) + 1) (end_of (line (head (blank-field c)))) (rec-of (line (head (blank-field c)))))
 blanks-from c =
     let g = blank-field c in
     let h = head g in
     ap (λ (n : ℕ). at_of h + size g + 1 + n) (c.blanks-len.ensures.0
-    ∙ ap leadingBlanks (part_slice (at_of h + size g + 1) (end_of (line h)) (rec-of (line h)) (omega (arith, short c.before.before.before.before))))
+    ∙ ap leading_blanks (part_slice (at_of h + size g + 1) (end_of (line h)) (rec-of (line h)) (omega (arith, short c.before.before.before.before))))
 
 blanks-in : (c : Blanks) → blanks-end c ≤ end_of (line (head (blank-field c)))
 blanks-in c =
@@ -385,9 +385,9 @@ returns c =
     let w = c.before.before in
     let a = w.before.before.before.before.args in
     let s = a.rec.now in
-    let p = point (wantedOf w.walk.want) w.walk.auto w.walk.slash.0 in
+    let p = point (wanted_of w.walk.want) w.walk.auto w.walk.slash.0 in
     record {
-      answer = from_end _ _ (linesBy a.cut s) (first_of w.before) (first-is w.before) p _
+      answer = from_end _ _ (lines_by a.cut s) (first_of w.before) (first-is w.before) p _
           (w.walk.invariant.2 ∙ lines_end a.cut s p w.walk.at c.before.if1.true) c.finish.ensures;
       bounds = end-bounds _ _ c.finish.result p c.finish.ensures (fits-same _ _ _ p (same-before w.before) w.walk.invariant.1);
     }
@@ -409,7 +409,7 @@ returns-3 c =
     (omega (arith, ends (line h)))
 
 returns-4 : tie.Need-returns-4 invariant-loop decreases-loop invariant-walk decreases-walk
-unfolding judgedOf
+unfolding judged_of
 returns-4 c =
     let d = c.before in
     let g = field d.before.before.before in
@@ -418,7 +418,7 @@ returns-4 c =
     (stop (line h) _ (at_of h) (h.loop.inv.3
     ∙ wrong-here (rec-of (line h)) (here h) (at_of h) (end_of (line h))
     h.loop.inv.0 h.loop.inv.1 (size g) (field-extent g) _
-    (took-bad (at_of h) (bytes g) (here h) _ (sym (judged-is d.before.before.before) ∙ ap judgedOf d.before.number.given.1))))
+    (took-bad (at_of h) (bytes g) (here h) _ (sym (judged-is d.before.before.before) ∙ ap judged_of d.before.number.given.1))))
     (omega (arith, ends (line h), h.loop.inv.0))
 
 returns-5 : tie.Need-returns-5 invariant-loop decreases-loop invariant-walk decreases-walk

@@ -1,6 +1,6 @@
 -- `run_report::put_counts` meets its contract. Assumes nothing.
 use mathlib.Core.List.{◌++◌}
-use Rattle.base_totals.specs.SummaryMeaning.{summaryMeant}
+use Rattle.base_totals.specs.SummaryMeaning.{summary_meant}
 use Rattle.base_slices.proofs.WroteLaws.{wrote-first, wrote-part, wrote-last}
 use Rattle.run_report.specs.PutLines.{figure, counts}
 use borrow.Author.Rules.{rules}
@@ -15,7 +15,7 @@ returns c =
     let accounts-put = details-put.before.before.before.before in
     let groups-put = accounts-put.before.before.before.before in
     let start = groups-put.before.before.before.before.before.before.before in
-    let s = summaryMeant start.args.summary in
+    let s = summary_meant start.args.summary in
     let w₁ =
     wrote-first (figure s.groups) (figure s.accounts ++ (figure s.details ++ figure s.records)) start.args.out.now
     groups-put.put-digits-after.result groups-put.put-digits-after.new.0 start.requires groups-put.put-digits-after.ensures in

@@ -5,17 +5,17 @@ use mathlib.Core.List.{[], ◌∷◌, ◌++◌}
 use lib.ListN.{length}
 use Rattle.rules.specs.Bytes.{Bytes, bytes, LF}
 use Rattle.rules.specs.Outcome.{refused}
-use Rattle.rules.specs.Report.{asLine, verdictWords}
-use Rattle.base_refusals.specs.RefusalMeaning.{refusalMeant}
+use Rattle.rules.specs.Report.{as_line, verdict_words}
+use Rattle.base_refusals.specs.RefusalMeaning.{refusal_meant}
 use Rattle.base_slices.proofs.WroteLaws.{wrote-first, wrote-part, wrote-last}
-use Rattle.run_report.specs.PutLines.{figure, longestReport}
+use Rattle.run_report.specs.PutLines.{figure, longest_report}
 use Rattle.run_report.proofs.LineParts.{refusal-parts, refusal-most}
 use borrow.Author.Rules.{rules}
 use Rattle.run_report.proofs.put_refusal.Statement.{statement}
 use Rattle.run_report.proofs.put_refusal.Tie as tie
 
-line-most : (start : tie.Start) → length (asLine (verdictWords (refused (refusalMeant start.args.why)))) ≤ longestReport
-line-most start = refusal-most (refusalMeant start.args.why) (omega arith) (omega arith)
+line-most : (start : tie.Start) → length (as_line (verdict_words (refused (refusal_meant start.args.why)))) ≤ longest_report
+line-most start = refusal-most (refusal_meant start.args.why) (omega arith) (omega arith)
 
 returns : tie.Need-returns
 returns c =
@@ -24,7 +24,7 @@ returns c =
     let number_put = place-put.before.before.before.before in
     let refused-put = number_put.before.before.before.before in
     let start = refused-put.before.before.before.before.before in
-    let why = refusalMeant start.args.why in
+    let why = refusal_meant start.args.why in
     let rest : Bytes = figure why.place ++ (LF ∷ []) in
     let most = rw (refusal-parts why) at (line-most start) in
     let w₁ = wrote-first (bytes "refused") (figure why.number ++ rest) start.args.out.now refused-put.put.result refused-put.put.new.0 (omega (arith, most, start.requires)) refused-put.put.ensures in

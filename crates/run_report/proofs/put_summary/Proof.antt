@@ -4,30 +4,30 @@ use native.Mathlib.Omega.{arith}
 use mathlib.Core.List.{[], ◌∷◌, ◌++◌}
 use lib.ListN.{length}
 use Rattle.rules.specs.Bytes.{Bytes, bytes, LF}
-use Rattle.rules.specs.Numbers.{totalBytes}
+use Rattle.rules.specs.Numbers.{total_bytes}
 use Rattle.rules.specs.Outcome.{fine}
-use Rattle.rules.specs.Report.{asLine, verdictWords}
-use Rattle.base_totals.specs.SummaryMeaning.{summaryMeant}
+use Rattle.rules.specs.Report.{as_line, verdict_words}
+use Rattle.base_totals.specs.SummaryMeaning.{summary_meant}
 use Rattle.base_slices.proofs.WroteLaws.{wrote-first, wrote-part, wrote-last, has_room}
-use Rattle.run_report.specs.PutLines.{counts, longestReport}
+use Rattle.run_report.specs.PutLines.{counts, longest_report}
 use Rattle.run_report.proofs.LineParts.{summary-parts, summary-most}
 use borrow.Author.Rules.{rules}
 use Rattle.run_report.proofs.put_summary.Statement.{statement}
 use Rattle.run_report.proofs.put_summary.Tie as tie
 
-line-most : (start : tie.Start) → length (asLine (verdictWords (fine (summaryMeant start.args.summary)))) ≤ longestReport
-line-most start = summary-most (summaryMeant start.args.summary) (omega arith) (omega arith) (omega arith) (omega arith) (omega arith) (omega arith)
+line-most : (start : tie.Start) → length (as_line (verdict_words (fine (summary_meant start.args.summary)))) ≤ longest_report
+line-most start = summary-most (summary_meant start.args.summary) (omega arith) (omega arith) (omega arith) (omega arith) (omega arith) (omega arith)
 
 put-counts-requires : tie.Need-put-counts-requires
 put-counts-requires c κs =
     let total-put = c.before.before.before in
     let ok-put = total-put.before.before.before.before in
     let start = ok-put.before.before.before.before.before in
-    let s = summaryMeant start.args.summary in
+    let s = summary_meant start.args.summary in
     let rest : Bytes = counts s ++ (LF ∷ []) in
     let most = rw (summary-parts s) at (line-most start) in
-    let w₁ = wrote-first (bytes "ok ") (totalBytes s.sum ++ rest) start.args.out.now ok-put.put.result ok-put.put.new.0 (omega (arith, most, start.requires)) ok-put.put.ensures in
-    let w₂ = wrote-part _ _ _ (totalBytes s.sum) rest _ _ _ w₁ total-put.put-total.ensures in
+    let w₁ = wrote-first (bytes "ok ") (total_bytes s.sum ++ rest) start.args.out.now ok-put.put.result ok-put.put.new.0 (omega (arith, most, start.requires)) ok-put.put.ensures in
+    let w₂ = wrote-part _ _ _ (total_bytes s.sum) rest _ _ _ w₁ total-put.put-total.ensures in
     has_room _ _ _ (counts s) (LF ∷ []) _ w₂
 
 returns : tie.Need-returns
@@ -37,11 +37,11 @@ returns c =
     let total-put = counts-put.before.before.before.before in
     let ok-put = total-put.before.before.before.before in
     let start = ok-put.before.before.before.before.before in
-    let s = summaryMeant start.args.summary in
+    let s = summary_meant start.args.summary in
     let rest : Bytes = counts s ++ (LF ∷ []) in
     let most = rw (summary-parts s) at (line-most start) in
-    let w₁ = wrote-first (bytes "ok ") (totalBytes s.sum ++ rest) start.args.out.now ok-put.put.result ok-put.put.new.0 (omega (arith, most, start.requires)) ok-put.put.ensures in
-    let w₂ = wrote-part _ _ _ (totalBytes s.sum) rest _ _ _ w₁ total-put.put-total.ensures in
+    let w₁ = wrote-first (bytes "ok ") (total_bytes s.sum ++ rest) start.args.out.now ok-put.put.result ok-put.put.new.0 (omega (arith, most, start.requires)) ok-put.put.ensures in
+    let w₂ = wrote-part _ _ _ (total_bytes s.sum) rest _ _ _ w₁ total-put.put-total.ensures in
     let w₃ = wrote-part _ _ _ (counts s) (LF ∷ []) _ _ _ w₂ counts-put.put-counts.ensures in
     rw (summary-parts s) (wrote-last _ _ _ (LF ∷ []) _ _ _ w₃ end-put.put2.ensures, most)
 

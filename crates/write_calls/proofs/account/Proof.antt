@@ -1,7 +1,7 @@
 -- `account` meets its contract: with an item, or with an empty one where none is given. Assumes nothing.
 use mathlib.Core.Path.{◌∙◌}
 use Rattle.write_calls.proofs.CallLaws.{with_item, no_item}
-use Rattle.write_state.specs.WriterMeaning.{writerMeant}
+use Rattle.write_state.specs.WriterMeaning.{writer_meant}
 use borrow.Author.Rules.{rules}
 use Rattle.write_calls.proofs.account.Statement.{statement}
 use Rattle.write_calls.proofs.account.Tie as tie
@@ -14,7 +14,7 @@ returns c =
     let done = c.before.before in
     let asked = done.before.before in
     let s = start asked.before in
-    with_item (writerMeant s.args.w) s.args.number.now s.args.currency.now s.args.type-code.now s.args.out.now s.args.amount s.args.count
+    with_item (writer_meant s.args.w) s.args.number.now s.args.currency.now s.args.type-code.now s.args.out.now s.args.amount s.args.count
     s.args.item-given asked.if1.true done.open-account.ensures
 
 returns-2 : tie.Need-returns-2
@@ -22,7 +22,7 @@ returns-2 c =
     let done = c.before.before in
     let asked = done.before.before.before.before in
     let s = start asked.before in
-    rw asked.if1.false (done.open-account2.ensures ∙ no_item (writerMeant s.args.w) s.args.number.now s.args.currency.now s.args.out.now)
+    rw asked.if1.false (done.open-account2.ensures ∙ no_item (writer_meant s.args.w) s.args.number.now s.args.currency.now s.args.out.now)
 
 pub account-spec : {M : Type 1} → statement M
 account-spec =

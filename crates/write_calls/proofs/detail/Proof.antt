@@ -1,8 +1,8 @@
 -- `detail` meets its contract: its drafted line is committed as the rules say. Assumes nothing.
 use mathlib.Core.Path.{◌∙◌}
-use Rattle.write_line.specs.DraftMeaning.{amountGiven}
+use Rattle.write_line.specs.DraftMeaning.{amount_given}
 use Rattle.write_calls.proofs.CallLaws.{detail-written}
-use Rattle.write_state.specs.WriterMeaning.{writerMeant}
+use Rattle.write_state.specs.WriterMeaning.{writer_meant}
 use borrow.Author.Rules.{rules}
 use Rattle.write_calls.proofs.detail.Statement.{statement}
 use Rattle.write_calls.proofs.detail.Tie as tie
@@ -17,7 +17,7 @@ returns c =
     let drafted = added.before in
     let s = start drafted in
     done.commit.ensures
-    ∙ detail-written (writerMeant s.args.w) s.args.type-code.now (amountGiven s.args.amount) s.args.bank-reference.now s.args.customer-reference.now
+    ∙ detail-written (writer_meant s.args.w) s.args.type-code.now (amount_given s.args.amount) s.args.bank-reference.now s.args.customer-reference.now
     s.args.text.now s.args.out.now _ _ _ added.sum-given.ensures drafted.detail.ensures
 
 pub detail-spec : {M : Type 1} → statement M

@@ -1,7 +1,7 @@
 -- `group` meets its contract: its drafted line is committed as the rules say. Assumes nothing.
 use mathlib.Core.Path.{◌∙◌}
 use Rattle.write_calls.proofs.CallLaws.{group-written}
-use Rattle.write_state.specs.WriterMeaning.{writerMeant}
+use Rattle.write_state.specs.WriterMeaning.{writer_meant}
 use borrow.Author.Rules.{rules}
 use Rattle.write_calls.proofs.group.Statement.{statement}
 use Rattle.write_calls.proofs.group.Tie as tie
@@ -16,7 +16,7 @@ returns c =
     let drafted = added.before.before in
     let s = start drafted in
     done.commit.ensures
-    ∙ group-written (writerMeant s.args.w) s.args.out.now _ _ _ s.args.receiver.now s.args.originator.now s.args.status.now s.args.date.now
+    ∙ group-written (writer_meant s.args.w) s.args.out.now _ _ _ s.args.receiver.now s.args.originator.now s.args.status.now s.args.date.now
     s.args.time.now s.args.currency.now s.args.modifier.now added.none.ensures drafted.group.ensures
 
 pub group-spec : {M : Type 1} → statement M

@@ -1,7 +1,7 @@
 -- `header` meets its contract: its drafted line is committed as the rules say. Assumes nothing.
 use mathlib.Core.Path.{◌∙◌}
 use Rattle.write_calls.proofs.CallLaws.{header-written}
-use Rattle.write_state.specs.WriterMeaning.{writerMeant}
+use Rattle.write_state.specs.WriterMeaning.{writer_meant}
 use borrow.Author.Rules.{rules}
 use Rattle.write_calls.proofs.header.Statement.{statement}
 use Rattle.write_calls.proofs.header.Tie as tie
@@ -16,7 +16,7 @@ returns c =
     let drafted = added.before.before in
     let s = start drafted in
     done.commit.ensures
-    ∙ header-written (writerMeant s.args.w) s.args.out.now _ _ _ s.args.sender.now s.args.receiver.now s.args.date.now s.args.time.now
+    ∙ header-written (writer_meant s.args.w) s.args.out.now _ _ _ s.args.sender.now s.args.receiver.now s.args.date.now s.args.time.now
     s.args.file-number.now added.none.ensures drafted.header.ensures
 
 pub header-spec : {M : Type 1} → statement M

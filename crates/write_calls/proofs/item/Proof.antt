@@ -1,8 +1,8 @@
 -- `item` meets its contract: its drafted line is committed as the rules say. Assumes nothing.
 use mathlib.Core.Path.{◌∙◌}
-use Rattle.write_calls.specs.ItemMeaning.{itemMeant}
+use Rattle.write_calls.specs.ItemMeaning.{item_meant}
 use Rattle.write_calls.proofs.CallLaws.{item-written}
-use Rattle.write_state.specs.WriterMeaning.{writerMeant}
+use Rattle.write_state.specs.WriterMeaning.{writer_meant}
 use borrow.Author.Rules.{rules}
 use Rattle.write_calls.proofs.item.Statement.{statement}
 use Rattle.write_calls.proofs.item.Tie as tie
@@ -17,7 +17,7 @@ returns c =
     let drafted = added.before in
     let s = start drafted in
     done.commit.ensures
-    ∙ item-written (writerMeant s.args.w) s.args.out.now _ _ _ (itemMeant s.args.type-code.now s.args.amount s.args.count) added.sum-given.ensures
+    ∙ item-written (writer_meant s.args.w) s.args.out.now _ _ _ (item_meant s.args.type-code.now s.args.amount s.args.count) added.sum-given.ensures
     drafted.item.ensures
 
 pub item-spec : {M : Type 1} → statement M

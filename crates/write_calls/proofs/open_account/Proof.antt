@@ -1,8 +1,8 @@
 -- `open_account` meets its contract: its drafted line is committed as the rules say. Assumes nothing.
 use mathlib.Core.Path.{◌∙◌}
-use Rattle.write_calls.specs.ItemMeaning.{itemMeant}
+use Rattle.write_calls.specs.ItemMeaning.{item_meant}
 use Rattle.write_calls.proofs.CallLaws.{account-written}
-use Rattle.write_state.specs.WriterMeaning.{writerMeant}
+use Rattle.write_state.specs.WriterMeaning.{writer_meant}
 use borrow.Author.Rules.{rules}
 use Rattle.write_calls.proofs.open_account.Statement.{statement}
 use Rattle.write_calls.proofs.open_account.Tie as tie
@@ -19,8 +19,8 @@ returns c =
     let s = start drafted in
     done.commit.ensures
     ∙ rw kept.is-empty.ensures
-    (account-written (writerMeant s.args.w) s.args.out.now _ _ _ s.args.number.now s.args.currency.now
-    (itemMeant s.args.type-code.now s.args.amount s.args.count) added.sum-given.ensures drafted.account.ensures)
+    (account-written (writer_meant s.args.w) s.args.out.now _ _ _ s.args.number.now s.args.currency.now
+    (item_meant s.args.type-code.now s.args.amount s.args.count) added.sum-given.ensures drafted.account.ensures)
 
 pub open-account-spec : {M : Type 1} → statement M
 open-account-spec =

@@ -4,9 +4,9 @@ use mathlib.Core.Bool.{true}
 use Rattle.rules.specs.Numbers.{Sum}
 use Rattle.rules.specs.Lines as lines
 use Rattle.rules.specs.Writer.{sound}
-use Rattle.base_codes.specs.CodeMeaning.{codeMeant}
-use Rattle.base_quantities.specs.QuantityMeanings.{sumMeant}
-use Rattle.write_state.specs.WriterMeaning.{writerMeant}
+use Rattle.base_codes.specs.CodeMeaning.{code_meant}
+use Rattle.base_quantities.specs.QuantityMeanings.{sum_meant}
+use Rattle.write_state.specs.WriterMeaning.{writer_meant}
 use Rattle.write_state.specs.declared.Writer.{Writer}
 use Rattle.base_totals.specs.SummaryMeaning.{Small}
 use Rattle.write_commit.proofs.StateSums.{small_line, to-file, to-group, to-account, state-is}
@@ -25,12 +25,12 @@ abbrev given : Line → Writer
 given c = (start c).args.w
 
 abbrev code : Line → lines.Code
-code c = codeMeant (start c).args.code
+code c = code_meant (start c).args.code
 
 abbrev sum : Line → Sum
-sum c = sumMeant (start c).args.sum
+sum c = sum_meant (start c).args.sum
 
-is-sound : (c : Line) → sound (writerMeant (given c)) ≡ true
+is-sound : (c : Line) → sound (writer_meant (given c)) ≡ true
 is-sound c = (start c).requires.0
 
 this-small : (c : Line) → Small c.adding.result
@@ -42,7 +42,7 @@ returns c =
     let group = account.before.before in
     let sums = group.before.before in
     let l = sums.before.before.before in
-    state-is (writerMeant (given l)) (code l) (sum l) (start l).args.items (start l).args.n l.before.phase-after.ensures l.adding.ensures
+    state-is (writer_meant (given l)) (code l) (sum l) (start l).args.items (start l).args.n l.before.phase-after.ensures l.adding.ensures
     group.group-open.ensures account.account-open.ensures (to-file (given l) (is-sound l) l.adding.result (this-small l) sums.before.before.add.ensures)
     (to-group (given l) (is-sound l) l.adding.result (this-small l) sums.before.add2.ensures)
     (to-account (given l) (is-sound l) l.adding.result (this-small l) sums.add3.ensures)

@@ -8,11 +8,11 @@ use borrow.Author.Tests.{not-true, not-false}
 use Rattle.rules.specs.Bytes.{Bytes}
 use Rattle.rules.specs.Outcome.{fine}
 use Rattle.rules.specs.Writer.{sound}
-use Rattle.base_codes.specs.CodeMeaning.{codeMeant}
-use Rattle.base_quantities.specs.QuantityMeanings.{sumMeant}
-use Rattle.write_line.specs.DraftMeaning.{Sofar, draftOf}
-use Rattle.write_state.specs.WriterMeaning.{writerMeant}
-use Rattle.write_commit.proofs.CommitLaws.{kindsOf, draft-refused, draft-good, HasRoom, has_room, no_room, Asked, turn_of, not_sound, no-turn, no-draft, held_back, goes_in, refuses, writes}
+use Rattle.base_codes.specs.CodeMeaning.{code_meant}
+use Rattle.base_quantities.specs.QuantityMeanings.{sum_meant}
+use Rattle.write_line.specs.DraftMeaning.{Sofar, draft_of}
+use Rattle.write_state.specs.WriterMeaning.{writer_meant}
+use Rattle.write_commit.proofs.CommitLaws.{kinds_of, draft-refused, draft-good, HasRoom, has_room, no_room, Asked, turn_of, not_sound, no-turn, no-draft, held_back, goes_in, refuses, writes}
 use borrow.Author.Rules.{rules}
 use Rattle.write_commit.proofs.commit.Statement.{statement}
 use Rattle.write_commit.proofs.commit.Tie as tie
@@ -21,10 +21,10 @@ use Rattle.write_commit.proofs.commit.Tie as tie
 abbrev given : tie.Start → Asked
 given s =
     record {
-      writer = writerMeant s.args.w;
-      code = codeMeant s.args.code;
-      draft = draftOf s.args.line.now s.args.d;
-      sum = sumMeant s.args.sum;
+      writer = writer_meant s.args.w;
+      code = code_meant s.args.code;
+      draft = draft_of s.args.line.now s.args.d;
+      sum = sum_meant s.args.sum;
       items = s.args.items;
       room = length s.args.out.now;
     }
@@ -65,7 +65,7 @@ abbrev body : tie.After-front → Bytes
 body c = c.front.result.now
 
 abbrev sofar : tie.After-front → Sofar
-sofar c = record { kinds = kindsOf (at_body c).args.d.taken; bytes = body c }
+sofar c = record { kinds = kinds_of (at_body c).args.d.taken; bytes = body c }
 
 is-draft : (c : tie.After-front) → (given (at_body c)).draft ≡ fine (sofar c)
 is-draft c =

@@ -2,8 +2,8 @@
 use mathlib.Core.Path.{sym, ◌∙◌}
 use Rattle.rules.specs.Numbers.{Sum}
 use Rattle.rules.specs.Writer as rules
-use Rattle.base_quantities.specs.QuantityMeanings.{sumMeant}
-use Rattle.write_state.specs.WriterMeaning.{writerMeant}
+use Rattle.base_quantities.specs.QuantityMeanings.{sum_meant}
+use Rattle.write_state.specs.WriterMeaning.{writer_meant}
 use Rattle.write_commit.proofs.RoomLaws.{sum-beyond, sum_fits}
 use borrow.Author.Rules.{rules}
 use Rattle.write_commit.proofs.room_number.Statement.{statement}
@@ -14,10 +14,10 @@ abbrev start : tie.After-join → tie.Start
 start c = c.before.before.before.before
 
 abbrev writer : tie.After-join → rules.Writer
-writer c = writerMeant (start c).args.w
+writer c = writer_meant (start c).args.w
 
 abbrev sum : tie.After-join → Sum
-sum c = sumMeant (start c).args.sum
+sum c = sum_meant (start c).args.sum
 
 returns : tie.Need-returns
 returns c = let a = c.before.before in sum-beyond (writer a) (sum a) (start a).args.n (start a).args.room (sym c.enum_told.given.1 ∙ a.join.ensures)

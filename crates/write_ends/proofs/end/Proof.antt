@@ -1,9 +1,9 @@
 -- `end` meets its contract: its drafted line is committed. Assumes nothing.
 use mathlib.Core.Path.{◌∙◌}
-use Rattle.base_codes.specs.CodeMeaning.{codeMeant}
-use Rattle.base_totals.specs.SummaryMeaning.{summaryMeant}
+use Rattle.base_codes.specs.CodeMeaning.{code_meant}
+use Rattle.base_totals.specs.SummaryMeaning.{summary_meant}
 use Rattle.write_ends.proofs.EndLaws.{end-answers}
-use Rattle.write_state.specs.WriterMeaning.{writerMeant}
+use Rattle.write_state.specs.WriterMeaning.{writer_meant}
 use borrow.Author.Rules.{rules}
 use Rattle.write_ends.proofs.end.Statement.{statement}
 use Rattle.write_ends.proofs.end.Tie as tie
@@ -16,7 +16,7 @@ returns c =
     let counted = drafted.before.before in
     let s = counted.before.before in
     done.commit.ensures
-    ∙ end-answers (writerMeant s.args.w) (codeMeant s.args.code) (summaryMeant s.args.summary) s.args.count.0 counted.add.result.0 s.args.out.now _ _ _
+    ∙ end-answers (writer_meant s.args.w) (code_meant s.args.code) (summary_meant s.args.summary) s.args.count.0 counted.add.result.0 s.args.out.now _ _ _
     added.none.ensures counted.add.ensures drafted.trailer.ensures
 
 pub end-spec : {M : Type 1} → statement M

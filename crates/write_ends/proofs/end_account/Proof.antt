@@ -1,7 +1,7 @@
 -- `end_account` meets its contract: its drafted line is committed as the rules say. Assumes nothing.
 use mathlib.Core.Path.{◌∙◌}
 use Rattle.write_ends.proofs.EndLaws.{account-end-written}
-use Rattle.write_state.specs.WriterMeaning.{writerMeant}
+use Rattle.write_state.specs.WriterMeaning.{writer_meant}
 use borrow.Author.Rules.{rules}
 use Rattle.write_ends.proofs.end_account.Statement.{statement}
 use Rattle.write_ends.proofs.end_account.Tie as tie
@@ -14,7 +14,7 @@ returns c =
     let counted = drafted.before.before in
     let s = counted.before.before.before in
     done.commit.ensures
-    ∙ account-end-written (writerMeant s.args.w) s.args.out.now _ _ _ counted.add.result.0 added.none.ensures counted.add.ensures drafted.account-end.ensures
+    ∙ account-end-written (writer_meant s.args.w) s.args.out.now _ _ _ counted.add.result.0 added.none.ensures counted.add.ensures drafted.account-end.ensures
 
 pub end-account-spec : {M : Type 1} → statement M
 end-account-spec =

@@ -1,7 +1,7 @@
 -- `end_file` meets its contract: the line that `end` commits is the rules' line. Assumes nothing.
 use mathlib.Core.Path.{◌∙◌}
 use Rattle.write_ends.proofs.EndLaws.{file-end-written}
-use Rattle.write_state.specs.WriterMeaning.{writerMeant}
+use Rattle.write_state.specs.WriterMeaning.{writer_meant}
 use borrow.Author.Rules.{rules}
 use Rattle.write_ends.proofs.end_file.Statement.{statement}
 use Rattle.write_ends.proofs.end_file.Tie as tie
@@ -10,7 +10,7 @@ returns : tie.Need-returns
 returns c =
     let done = c.before.before in
     let s = done.before.before.before.before in
-    done.end.ensures ∙ file-end-written (writerMeant s.args.w) s.args.out.now
+    done.end.ensures ∙ file-end-written (writer_meant s.args.w) s.args.out.now
 
 pub end-file-spec : {M : Type 1} → statement M
 end-file-spec =

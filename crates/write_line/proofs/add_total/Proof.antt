@@ -2,7 +2,7 @@
 use native.Mathlib.Omega.{arith}
 use mathlib.Core.Path.{ap}
 use lib.ListN.{length}
-use Rattle.base_quantities.specs.QuantityMeanings.{sumMeant}
+use Rattle.base_quantities.specs.QuantityMeanings.{sum_meant}
 use Rattle.write_line.proofs.LineSpace.{number-bytes, total-short}
 use borrow.Author.Rules.{rules}
 use Rattle.write_line.proofs.add_total.Statement.{statement}
@@ -12,7 +12,7 @@ returns : tie.Need-returns
 returns c =
     let put = c.before.before.before.before.before in
     let space = put.before.before in
-    let short = total-short (sumMeant space.before.args.total) (omega arith) (omega arith) in
+    let short = total-short (sum_meant space.before.args.total) (omega arith) (omega arith) in
     rw (number-bytes put.put-total.ensures (omega (arith, short, ap length space.number-space.ensures))) at c.add.ensures
 
 pub add-total-spec : {M : Type 1} → statement M

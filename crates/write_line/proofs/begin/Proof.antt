@@ -1,7 +1,7 @@
 -- `begin` meets its contract: the code's bytes stand in front. Assumes nothing.
 use mathlib.Core.Path.{◌≡◌}
 use lib.ListN.{length}
-use Rattle.base_codes.specs.CodeMeaning.{codeMeant, bytesMeant}
+use Rattle.base_codes.specs.CodeMeaning.{code_meant, bytes_meant}
 use Rattle.write_line.proofs.LineSpace.{begin-put}
 use borrow.Author.Rules.{rules}
 use Rattle.write_line.proofs.begin.Statement.{statement}
@@ -14,7 +14,7 @@ returns : tie.Need-returns
 returns c =
     let code = c.before.before.before.before in
     let s = code.before in
-    begin-put s.args.line.now (codeMeant s.args.code) s.args.want (bytesMeant code.digits_of.result) _ (size c.before) code.digits_of.ensures c.put-at.ensures
+    begin-put s.args.line.now (code_meant s.args.code) s.args.want (bytes_meant code.digits_of.result) _ (size c.before) code.digits_of.ensures c.put-at.ensures
 
 pub begin-spec : {M : Type 1} → statement M
 begin-spec =

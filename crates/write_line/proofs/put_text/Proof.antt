@@ -3,7 +3,7 @@ use native.Mathlib.Omega.{arith}
 use mathlib.Core.Path.{◌≡◌, refl, sym, ◌∙◌}
 use mathlib.Core.Bool.{true}
 use borrow.Author.Tests.{not-true, not-false}
-use Rattle.rules.specs.Writer.{goodText}
+use Rattle.rules.specs.Writer.{good_text}
 use Rattle.write_line.proofs.LineSpace.{text-no-room, text-bad, text-put, text-slash}
 use borrow.Author.Rules.{rules}
 use Rattle.write_line.proofs.put_text.Statement.{statement}
@@ -16,7 +16,7 @@ start c = c.before.before.before
 abbrev good_start : tie.Else2 → tie.Start
 good_start c = start c.before.before
 
-is-good : (c : tie.Else2) → goodText (good_start c).args.t.now ≡ true
+is-good : (c : tie.Else2) → good_text (good_start c).args.t.now ≡ true
 is-good c = sym c.before.is-good-text.ensures ∙ not-false _ c.if2.false
 
 returns : tie.Need-returns

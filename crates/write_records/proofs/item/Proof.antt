@@ -1,11 +1,11 @@
 -- `item` meets its contract: the code and each field in turn. Assumes nothing.
-use Rattle.read_wanted.specs.Wants.{wantedOf}
+use Rattle.read_wanted.specs.Wants.{wanted_of}
 use borrow.Author.Rules.{rules}
 use Rattle.write_records.proofs.item.Statement.{statement}
 use Rattle.write_records.proofs.item.Tie as tie
 
 returns : tie.Need-returns
-unfolding wantedOf
+unfolding wanted_of
 returns c =
     let count = c.before.before in
     let amount = count.before.before in

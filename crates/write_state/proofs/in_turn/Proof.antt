@@ -3,29 +3,29 @@ use mathlib.Core.Path.{◌≡◌, sym, ◌∙◌}
 use mathlib.Core.Bool.{Bool, true, false}
 use borrow.Author.Tests.{not-true, not-false}
 use Rattle.rules.specs.Lines as lines
-use Rattle.rules.specs.Lines.{continuation, sameCode}
+use Rattle.rules.specs.Lines.{continuation, same_code}
 use Rattle.rules.specs.Writer as rules
-use Rattle.base_codes.specs.CodeMeaning.{codeMeant}
-use Rattle.write_state.specs.WriterMeaning.{phaseMeant}
+use Rattle.base_codes.specs.CodeMeaning.{code_meant}
+use Rattle.write_state.specs.WriterMeaning.{phase_meant}
 use Rattle.write_state.proofs.WriterLaws.{line-turn, no-item-turn, further-turn}
 use borrow.Author.Rules.{rules}
 use Rattle.write_state.proofs.in_turn.Statement.{statement}
 use Rattle.write_state.proofs.in_turn.Tie as tie
 
 abbrev code : tie.After-same-code → lines.Code
-code c = codeMeant c.before.before.args.code
+code c = code_meant c.before.before.args.code
 
 abbrev phase : tie.After-same-code → rules.Phase
-phase c = phaseMeant c.before.before.args.phase
+phase c = phase_meant c.before.before.args.phase
 
 abbrev items : tie.After-same-code → Bool
 items c = c.before.before.args.items
 
 -- the code is not 88, or it is
-abbrev is-line : (c : tie.Then1) → sameCode (code c.before) continuation ≡ false
+abbrev is-line : (c : tie.Then1) → same_code (code c.before) continuation ≡ false
 is-line c = sym c.before.same_code.ensures ∙ not-true _ c.if1.true
 
-abbrev is-item : (c : tie.Else1) → sameCode (code c.before) continuation ≡ true
+abbrev is-item : (c : tie.Else1) → same_code (code c.before) continuation ≡ true
 is-item c = sym c.before.same_code.ensures ∙ not-false _ c.if1.false
 
 returns : tie.Need-returns

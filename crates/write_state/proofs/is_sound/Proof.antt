@@ -8,15 +8,15 @@ use Rattle.rules.specs.Writer as rules
 use Rattle.rules.specs.Writer.{sound}
 use Rattle.rules.specs.Numbers.{magnitudes}
 use Rattle.rules.specs.Limits.{most}
-use Rattle.write_state.specs.WriterMeaning.{writerMeant}
-use Rattle.write_state.proofs.WriterLaws.{stops, goes_on, fileSum, groupSum, accountSum, fileCounts, groupCounts}
+use Rattle.write_state.specs.WriterMeaning.{writer_meant}
+use Rattle.write_state.proofs.WriterLaws.{stops, goes_on, file_sum, group_sum, account_sum, file_counts, group_counts}
 use borrow.Author.Rules.{rules}
 use Rattle.write_state.proofs.is_sound.Statement.{statement}
 use Rattle.write_state.proofs.is_sound.Tie as tie
 
 -- the state, at the places past the size, past the sums of file, group and account, and past the counts of the file
 abbrev given : tie.After-struct-known → rules.Writer
-given c = writerMeant c.before.before.before.before.before.args.w
+given c = writer_meant c.before.before.before.before.before.args.w
 
 abbrev past-size : tie.Else1 → rules.Writer
 past-size c = given c.before
@@ -34,23 +34,23 @@ abbrev past-file-counts : tie.Else5 → rules.Writer
 past-file-counts c = past-account c.before.before
 
 -- what is left there decides
-size-good : (c : tie.Else1) {t : Bool} → t ≡ fileSum (past-size c) → t ≡ sound (past-size c)
+size-good : (c : tie.Else1) {t : Bool} → t ≡ file_sum (past-size c) → t ≡ sound (past-size c)
 unfolding sound
 size-good c h = goes_on _ _ _ (le-leb _ _ c.if1.false) h
 
 file-within : (c : tie.Else2) → leb (magnitudes (past-file c).file.sum) most ≡ true
 file-within c = sym c.before.sum-within.ensures ∙ not-false _ c.if2.false
 
-file-good : (c : tie.Else2) {t : Bool} → t ≡ groupSum (past-file c) → t ≡ sound (past-file c)
+file-good : (c : tie.Else2) {t : Bool} → t ≡ group_sum (past-file c) → t ≡ sound (past-file c)
 file-good c h = size-good c.before.before (goes_on _ _ _ (file-within c) h)
 
-group-good : (c : tie.Else3) {t : Bool} → t ≡ accountSum (past-group c) → t ≡ sound (past-group c)
+group-good : (c : tie.Else3) {t : Bool} → t ≡ account_sum (past-group c) → t ≡ sound (past-group c)
 group-good c h = file-good c.before.before.before.before (goes_on _ _ _ (sym c.before.sum-within2.ensures ∙ not-false _ c.if3.false) h)
 
-account-good : (c : tie.Else4) {t : Bool} → t ≡ fileCounts (past-account c) → t ≡ sound (past-account c)
+account-good : (c : tie.Else4) {t : Bool} → t ≡ file_counts (past-account c) → t ≡ sound (past-account c)
 account-good c h = group-good c.before.before (goes_on _ _ _ (sym c.before.sum-within3.ensures ∙ not-false _ c.if4.false) h)
 
-file-counted : (c : tie.Else5) {t : Bool} → t ≡ groupCounts (past-file-counts c) → t ≡ sound (past-file-counts c)
+file-counted : (c : tie.Else5) {t : Bool} → t ≡ group_counts (past-file-counts c) → t ≡ sound (past-file-counts c)
 file-counted c h = account-good c.before.before (goes_on _ _ _ (sym c.before.counts-within.ensures ∙ not-false _ c.if5.false) h)
 
 returns : tie.Need-returns

@@ -1,14 +1,14 @@
 -- `c_reading::cutting::bai2_detail_of` meets its contract: what `part_details` answers, in figures. Assumes nothing.
 use borrow.Author.Rules.{rules}
 use mathlib.Core.Path.{ap}
-use Rattle.c_reading.specs.CAnswers.{detailFigures}
+use Rattle.c_reading.specs.CAnswers.{detail_figures}
 use Rattle.c_reading.proofs.cutting.bai2_detail_of.Statement.{statement}
 use Rattle.c_reading.proofs.cutting.bai2_detail_of.Tie as tie
 
 returns : tie.Need-returns
 returns c =
     let m = c.before.before in
-    rw (c.form_of.ensures, m.magnitude-of.ensures) (ap detailFigures m.before.before.before.detail.ensures.0)
+    rw (c.form_of.ensures, m.magnitude-of.ensures) (ap detail_figures m.before.before.before.detail.ensures.0)
 
 pub bai2-detail-of-spec : {M : Type 1} → statement M
 bai2-detail-of-spec = tie.close (tie.spec (λ c κs. search rules) (λ c κs. search rules) (λ c κs. search rules) returns)

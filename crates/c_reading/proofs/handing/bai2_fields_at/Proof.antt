@@ -1,7 +1,7 @@
 -- `c_reading::handing::bai2_fields_at` meets its contract. Assumes nothing.
 use mathlib.Core.Path.{sym, ap, ◌∙◌}
 use Rattle.part_fields.specs.declared.Fields.{Fields}
-use Rattle.part_fields.specs.FieldAnswers.{fieldsMeant}
+use Rattle.part_fields.specs.FieldAnswers.{fields_meant}
 use borrow.Author.Rules.{rules}
 use Rattle.c_reading.proofs.handing.bai2_fields_at.Statement.{statement}
 use Rattle.c_reading.proofs.handing.bai2_fields_at.Tie as tie
@@ -9,12 +9,12 @@ use Rattle.c_reading.proofs.handing.bai2_fields_at.Tie as tie
 returns : tie.Need-returns
 returns c =
     let f = c.before.before.before.before.before.before in
-    sym (ap (λ (x : Fields). fieldsMeant x f.fields_at.new.1.1.0) c.before.before.why.given.1) ∙ f.fields_at.ensures
+    sym (ap (λ (x : Fields). fields_meant x f.fields_at.new.1.1.0) c.before.before.why.given.1) ∙ f.fields_at.ensures
 
 returns-2 : tie.Need-returns-2
 returns-2 c =
     let f = c.before.before.before.before.before in
-    sym (ap (λ (x : Fields). fieldsMeant x f.fields_at.new.1.1.0) c.before.count.given.1) ∙ f.fields_at.ensures
+    sym (ap (λ (x : Fields). fields_meant x f.fields_at.new.1.1.0) c.before.count.given.1) ∙ f.fields_at.ensures
 
 pub bai2-fields-at-spec : {M : Type 1} → statement M
 bai2-fields-at-spec =

@@ -1,22 +1,22 @@
 -- `c_reading::handing::bai2_record_at` meets its contract. Assumes nothing.
 use Prim.Native.Nat.{ℕ}
 use mathlib.Core.Path.{◌≡◌, sym, ap, ◌∙◌}
-use Rattle.rules.specs.Outcome.{notRefused}
+use Rattle.rules.specs.Outcome.{not_refused}
 use Rattle.rules.specs.HandedOut.{RecordAnswer}
 use Rattle.part_records.specs.declared.Found.{Found}
-use Rattle.part_records.specs.RecordsFound.{recordMeant}
+use Rattle.part_records.specs.RecordsFound.{record_meant}
 use borrow.Author.Rules.{rules}
 use Rattle.c_reading.proofs.handing.bai2_record_at.Statement.{statement}
 use Rattle.c_reading.proofs.handing.bai2_record_at.Tie as tie
 
 returns : tie.Need-returns
-returns c = sym (ap recordMeant c.before.before.why.given.1) ∙ c.before.before.before.before.record-at.ensures.answer
+returns c = sym (ap record_meant c.before.before.why.given.1) ∙ c.before.before.before.before.record-at.ensures.answer
 
 returns-2 : tie.Need-returns-2
 returns-2 c =
     let k = c.before in
-    ap (λ (n : ℕ). record { refusal = notRefused; code = n; lines = k.before.code.given.0.1.0.0; len = k.before.code.given.0.1.1.0 }) c.number_of.ensures
-    ∙ sym (ap recordMeant k.before.code.given.1)
+    ap (λ (n : ℕ). record { refusal = not_refused; code = n; lines = k.before.code.given.0.1.0.0; len = k.before.code.given.0.1.1.0 }) c.number_of.ensures
+    ∙ sym (ap record_meant k.before.code.given.1)
     ∙ k.before.before.before.record-at.ensures.answer
 
 pub bai2-record-at-spec : {M : Type 1} → statement M

@@ -8,10 +8,10 @@ use borrow.Author.Tests.{not-true, not-false}
 use lib.ListN.{length, take, drop}
 use borrow.Author.Rules.{rules}
 use Rattle.rules.specs.Bytes.{Bytes}
-use Rattle.rules.specs.Limits.{longestLine}
+use Rattle.rules.specs.Limits.{longest_line}
 use Rattle.rules.specs.Outcome.{fine}
-use Rattle.rules.specs.Grammar.{isLength}
-use Rattle.rules.specs.Blocks.{toComma, length_at, afterCommas}
+use Rattle.rules.specs.Grammar.{is_length}
+use Rattle.rules.specs.Blocks.{to_comma, length_at, after_commas}
 use Rattle.base_digits.specs.NumbersRead.{value_of}
 use Rattle.read_blocks.specs.declared.length.Found.{Found}
 use Rattle.read_blocks.specs.declared.length.Found.TheVariants as found
@@ -31,7 +31,7 @@ abbrev file-of : Started → Bytes
 file-of c = c.before.before.before.args.file.now
 
 abbrev front_of : Started → Bytes
-front_of c = take longestLine (file-of c)
+front_of c = take longest_line (file-of c)
 
 started : (c : Started) (r : Found) → c.length-start.result ≡ r → StartIs r (front_of c)
 started c r e =
@@ -60,7 +60,7 @@ sought c r e =
     (subst (λ (x : Found). CommaIs x (start_of c).before.front.result.now (at_of c)) e c.next-comma.ensures)
 
 -- what stands after six commas is what stands there up to the next one
-after-six : (c : Sought) (o : Option Bytes) → toComma (drop (at_of c) (front_of (start_of c))) ≡ o → afterCommas (front_of (start_of c)) 6 0 ≡ length_at (at_of c) o
+after-six : (c : Sought) (o : Option Bytes) → to_comma (drop (at_of c) (front_of (start_of c))) ≡ o → after_commas (front_of (start_of c)) 6 0 ≡ length_at (at_of c) o
 after-six c o e =
     (started (start_of c) _ c.before.before.start.given.1).0
     ∙ after_last (drop (at_of c) (front_of (start_of c))) (at_of c)
@@ -93,7 +93,7 @@ length-of c = take (end_of c - at_of (sought-of c)) (drop (at_of (sought-of c)) 
 lent : (c : Ended) → take (end_of c - at_of (sought-of c)) (drop (at_of (sought-of c)) (start_of (sought-of c)).before.front.result.now) ≡ length-of c
 lent c = ap (λ (s : Bytes). take (end_of c - at_of (sought-of c)) (drop (at_of (sought-of c)) s)) (start_of (sought-of c)).before.front.ensures
 
-stands : (c : Ended) → afterCommas (front_of (start_of (sought-of c))) 6 0 ≡ length_at (at_of (sought-of c)) (some (length-of c))
+stands : (c : Ended) → after_commas (front_of (start_of (sought-of c))) 6 0 ≡ length_at (at_of (sought-of c)) (some (length-of c))
 stands c = after-six (sought-of c) (some (length-of c)) (ended c).0
 
 sub-l : tie.Need-overflow-sub-l
@@ -112,7 +112,7 @@ returns-3 c =
     let asked = c.before.before in
     let e = asked.before.before in
     let file = file-of (start_of (sought-of e)) in
-    let bad : isLength (length-of e) ≡ false = ap isLength (sym (lent e)) ∙ sym asked.is-length.ensures ∙ not-true asked.is-length.result c.before.if1.true in
+    let bad : is_length (length-of e) ≡ false = ap is_length (sym (lent e)) ∙ sym asked.is-length.ensures ∙ not-true asked.is-length.result c.before.if1.true in
     subst (λ (r : BlockLength). LengthIs r file) (sym c.wrong3.ensures) (length-bad file (at_of (sought-of e)) (length-of e) (stands e) bad)
 
 returns-4 : tie.Need-returns-4
@@ -121,7 +121,7 @@ returns-4 c =
     let e = asked.before.before in
     let file = file-of (start_of (sought-of e)) in
     let l = length-of e in
-    let good : isLength l ≡ true = ap isLength (sym (lent e)) ∙ sym asked.is-length.ensures ∙ not-false asked.is-length.result c.before.if1.false in
+    let good : is_length l ≡ true = ap is_length (sym (lent e)) ∙ sym asked.is-length.ensures ∙ not-false asked.is-length.result c.before.if1.false in
     let v = c.value.ensures.0 ∙ ap value_of (lent e) ∙ length-value l good in
     (length-good file (at_of (sought-of e)) l (stands e) good ∙ ap (λ (n : ℕ). fine n) (sym v), omega (arith, v, length-least l good))
 

@@ -5,7 +5,7 @@ use native.Mathlib.Omega.{arith}
 use lib.ListN.{length, drop}
 use borrow.Author.Rules.{rules}
 use Rattle.rules.specs.Bytes.{Bytes}
-use Rattle.rules.specs.Blocks.{afterCommas}
+use Rattle.rules.specs.Blocks.{after_commas}
 use Rattle.read_blocks.specs.declared.length.Found.{Found}
 use Rattle.read_blocks.specs.declared.length.Found.TheVariants as found
 use Rattle.read_blocks.specs.BlockAnswers.{CommaIs}
@@ -14,7 +14,7 @@ use Rattle.read_blocks.proofs.length.length_start.Statement.{statement}
 use Rattle.read_blocks.proofs.length.length_start.Tie as tie
 
 abbrev invariant-loop : tie.invariant-loop
-invariant-loop s at₀ left₀ at left = (at ≤ length s) × (left ≤ 6) × (afterCommas s 6 0 ≡ afterCommas (drop at s) left at)
+invariant-loop s at₀ left₀ at left = (at ≤ length s) × (left ≤ 6) × (after_commas s 6 0 ≡ after_commas (drop at s) left at)
 
 abbrev decreases-loop : tie.decreases-loop
 decreases-loop s at₀ left₀ at left = left
@@ -77,7 +77,7 @@ returns-2 c =
     let t = c.before in
     let s = t.before.before.args.s.now in
     let none : t.loop.left ≡ 0 = omega (arith, c.loop-test.false) in
-    (t.loop.invariant.2 ∙ ap (λ (n : ℕ). afterCommas (drop t.loop.at s) n t.loop.at) none, t.loop.invariant.0)
+    (t.loop.invariant.2 ∙ ap (λ (n : ℕ). after_commas (drop t.loop.at s) n t.loop.at) none, t.loop.invariant.0)
 
 pub length-start-spec : {M : Type 1} → statement M
 length-start-spec =

@@ -2,8 +2,8 @@
 use mathlib.Core.Path.{refl, ap, ◌∙◌}
 use mathlib.Core.Bool.{Bool, cond}
 use borrow.Author.Rules.{rules}
-use Rattle.rules.specs.Totals.{noSummary}
-use Rattle.base_totals.specs.SummaryMeaning.{summaryMeant}
+use Rattle.rules.specs.Totals.{no_summary}
+use Rattle.base_totals.specs.SummaryMeaning.{summary_meant}
 use Rattle.read_file.proofs.record.next_state.Statement.{statement}
 use Rattle.read_file.proofs.record.next_state.Tie as tie
 
@@ -14,8 +14,8 @@ returns c =
       expected = c.before.before.before.before.expected-after.ensures;
       limit = refl;
       file = refl;
-      group = c.before.before.while-open.ensures ∙ ap (λ (t : Bool). cond t (summaryMeant a.group) noSummary) c.before.before.before.group-open.ensures;
-      account = c.while-open2.ensures ∙ ap (λ (t : Bool). cond t (summaryMeant a.account) noSummary) c.before.account-open.ensures;
+      group = c.before.before.while-open.ensures ∙ ap (λ (t : Bool). cond t (summary_meant a.group) no_summary) c.before.before.before.group-open.ensures;
+      account = c.while-open2.ensures ∙ ap (λ (t : Bool). cond t (summary_meant a.account) no_summary) c.before.account-open.ensures;
     }
 
 pub next-state-spec : {M : Type 1} → statement M

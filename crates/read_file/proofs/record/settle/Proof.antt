@@ -7,23 +7,23 @@ use borrow.Author.Rules.{rules}
 use Rattle.rules.specs.Outcome.{Outcome, fine}
 use Rattle.rules.specs.Lines.{Code, Record}
 use Rattle.rules.specs.Totals.{adding, ◌⊞◌}
-use Rattle.rules.specs.Order.{groupOpen, accountOpen}
-use Rattle.rules.specs.Verdict.{ownLines}
+use Rattle.rules.specs.Order.{group_open, account_open}
+use Rattle.rules.specs.Verdict.{own_lines}
 use Rattle.rules.specs.Verdict as rules
-use Rattle.base_codes.specs.CodeMeaning.{codeMeant}
-use Rattle.base_quantities.specs.QuantityMeanings.{sumMeant}
+use Rattle.base_codes.specs.CodeMeaning.{code_meant}
+use Rattle.base_quantities.specs.QuantityMeanings.{sum_meant}
 use Rattle.base_totals.specs.declared.Summary.{Summary}
-use Rattle.base_totals.specs.SummaryMeaning.{summaryMeant, Small}
+use Rattle.base_totals.specs.SummaryMeaning.{summary_meant, Small}
 use Rattle.base_totals.proofs.SummaryLaws.{small-sum}
 use Rattle.read_kept.specs.declared.Kept.{Kept}
-use Rattle.read_lines.specs.Cuts.{linesBy}
-use Rattle.read_line_checks.specs.LineChecks.{checkedOf}
-use Rattle.read_trailers.specs.TrailerChecks.{balancedK}
+use Rattle.read_lines.specs.Cuts.{lines_by}
+use Rattle.read_line_checks.specs.LineChecks.{checked_of}
+use Rattle.read_trailers.specs.TrailerChecks.{balanced_k}
 use Rattle.read_trailers.proofs.TrailerPlaces.{balanced-most}
 use Rattle.read_file.specs.declared.state.State.{State}
-use Rattle.read_file.specs.FileMeanings.{stateMeant}
+use Rattle.read_file.specs.FileMeanings.{state_meant}
 use Rattle.read_file.specs.FileAnswers.{Settling}
-use Rattle.read_file.specs.RecordSteps.{limitK, thisK}
+use Rattle.read_file.specs.RecordSteps.{limit_k, this_k}
 use Rattle.read_file.proofs.SummaryBounds.{below-small, file-small, this-small, records-next, held_next}
 use Rattle.read_file.proofs.SettleLaws.{settle-long, settle-over, settle-wrong, settle-next}
 use Rattle.read_file.proofs.record.settle.Statement.{statement}
@@ -35,13 +35,13 @@ abbrev state-of : tie.Start → State
 state-of s = s.args.st
 
 abbrev before_of : tie.Start → rules.State
-before_of s = stateMeant (state-of s)
+before_of s = state_meant (state-of s)
 
 abbrev lines_of : tie.Start → Record
-lines_of s = linesBy s.args.cut s.args.rec.now
+lines_of s = lines_by s.args.cut s.args.rec.now
 
 abbrev code-of : tie.Start → Code
-code-of s = codeMeant s.args.code
+code-of s = code_meant s.args.code
 
 abbrev kept_of : tie.Start → Kept
 kept_of s = s.args.kept
@@ -55,21 +55,21 @@ abbrev start-of-own : Own → tie.Start
 start-of-own c = c.before.before.before
 
 abbrev OwnLines : tie.Start → Outcome (Unit {0})
-OwnLines s = ownLines (code-of s) (limitK (code-of s) (state-of s).limit (kept_of s)) (lines_of s)
+OwnLines s = own_lines (code-of s) (limit_k (code-of s) (state-of s).limit (kept_of s)) (lines_of s)
 
-own : (c : Own) → checkedOf c.own-lines.result ≡ OwnLines (start-of-own c)
+own : (c : Own) → checked_of c.own-lines.result ≡ OwnLines (start-of-own c)
 own c =
     let s = start-of-own c in
-    c.own-lines.ensures.0 ∙ ap (λ (n : ℕ). ownLines (code-of s) n (lines_of s)) c.before.limit-after.ensures
+    c.own-lines.ensures.0 ∙ ap (λ (n : ℕ). own_lines (code-of s) n (lines_of s)) c.before.limit-after.ensures
 
 own-fine : (c : tie.After-enum-told) → OwnLines (start-of-own c.before.before) ≡ fine tt
-own-fine c = sym (own c.before.before) ∙ ap checkedOf c.enum_told.given.1
+own-fine c = sym (own c.before.before) ∙ ap checked_of c.enum_told.given.1
 
 returns : tie.Need-returns
 returns c =
     let o = c.before.before.before in
     let s = start-of-own o in (
-      settle-long (before_of s) (lines_of s) (code-of s) (kept_of s) _ (sym (own o) ∙ ap checkedOf c.before.why.given.1),
+      settle-long (before_of s) (lines_of s) (code-of s) (kept_of s) _ (sym (own o) ∙ ap checked_of c.before.why.given.1),
       rw c.before.why.given.1 at o.own-lines.ensures.1,
     )
 
@@ -92,30 +92,30 @@ start_of c = start-of-own c.before.before.before.before.before.before.before
 abbrev this-of : Added → Summary
 this-of c = c.before.before.before.adding.result
 
-this-adds : (c : Added) → summaryMeant (this-of c) ≡ adding (code-of (start_of c)) (sumMeant (kept_of (start_of c)).sum) (start_of c).args.records.0
+this-adds : (c : Added) → summary_meant (this-of c) ≡ adding (code-of (start_of c)) (sum_meant (kept_of (start_of c)).sum) (start_of c).args.records.0
 this-adds c = c.before.before.before.adding.ensures
 
-this-is : (c : Added) → summaryMeant (this-of c) ≡ thisK (code-of (start_of c)) (length (lines_of (start_of c))) (kept_of (start_of c))
-unfolding thisK
+this-is : (c : Added) → summary_meant (this-of c) ≡ this_k (code-of (start_of c)) (length (lines_of (start_of c))) (kept_of (start_of c))
+unfolding this_k
 this-is c =
     let s = start_of c in
-    this-adds c ∙ ap (λ (n : ℕ). adding (code-of s) (sumMeant (kept_of s).sum) n) s.pre.count
+    this-adds c ∙ ap (λ (n : ℕ). adding (code-of s) (sum_meant (kept_of s).sum) n) s.pre.count
 
 small-this : (c : Added) → Small (this-of c)
 small-this c =
     let s = start_of c in
-    this-small (code-of s) (sumMeant (kept_of s).sum) s.args.records.0 (this-of c) (this-adds c) s.pre.some-line (omega (arith, s.pre.room)) (omega (arith, s.pre.sums))
+    this-small (code-of s) (sum_meant (kept_of s).sum) s.args.records.0 (this-of c) (this-adds c) s.pre.some-line (omega (arith, s.pre.room)) (omega (arith, s.pre.sums))
 
 small-file : (c : Added) → Small (state-of (start_of c)).file
 small-file c = let s = start_of c in file-small (state-of s) s.pre.held (omega (arith, s.pre.room))
 
-file-is : (c : Added) → summaryMeant c.before.before.add.result ≡ summaryMeant (state-of (start_of c)).file ⊞ summaryMeant (this-of c)
+file-is : (c : Added) → summary_meant c.before.before.add.result ≡ summary_meant (state-of (start_of c)).file ⊞ summary_meant (this-of c)
 file-is c = c.before.before.add.ensures ∙ small-sum _ _ (small-file c) (small-this c)
 
-group-is : (c : Added) → summaryMeant c.before.add2.result ≡ summaryMeant (state-of (start_of c)).group ⊞ summaryMeant (this-of c)
+group-is : (c : Added) → summary_meant c.before.add2.result ≡ summary_meant (state-of (start_of c)).group ⊞ summary_meant (this-of c)
 group-is c = c.before.add2.ensures ∙ small-sum _ _ (below-small _ _ (start_of c).requires.held.group (small-file c)) (small-this c)
 
-account-is : (c : Added) → summaryMeant c.add3.result ≡ summaryMeant (state-of (start_of c)).account ⊞ summaryMeant (this-of c)
+account-is : (c : Added) → summary_meant c.add3.result ≡ summary_meant (state-of (start_of c)).account ⊞ summary_meant (this-of c)
 account-is c = c.add3.ensures ∙ small-sum _ _ (below-small _ _ (start_of c).requires.held.account (small-file c)) (small-this c)
 
 -- ---- 14, 11, 12, 13
@@ -124,8 +124,8 @@ abbrev added : tie.After-balance → Added
 added c = c.before
 
 balance : (c : tie.After-balance)
-    → checkedOf c.balance.result
-    ≡ balancedK (code-of (start_of (added c))) (summaryMeant (added c).add3.result) (summaryMeant (added c).before.add2.result) (summaryMeant (added c).before.before.add.result) (kept_of (start_of (added c)))
+    → checked_of c.balance.result
+    ≡ balanced_k (code-of (start_of (added c))) (summary_meant (added c).add3.result) (summary_meant (added c).before.add2.result) (summary_meant (added c).before.before.add.result) (kept_of (start_of (added c)))
 balance c = c.balance.ensures
 
 returns-3 : tie.Need-returns-3
@@ -133,7 +133,7 @@ returns-3 c =
     let b = c.before.before.before in
     let t = added b in
     let s = start_of t in
-    let refuses = sym (balance b) ∙ ap checkedOf c.before.why2.given.1 in (
+    let refuses = sym (balance b) ∙ ap checked_of c.before.why2.given.1 in (
       settle-wrong (before_of s) (lines_of s) (code-of s) (kept_of s) (own-fine t.before.before.before.before.before) t.before.before.before.before.if1.left _ _ _ _
           (this-is t) (account-is t) (group-is t) (file-is t) _ refuses,
       balanced-most _ _ (kept_of s) s.pre.kept (code-of s) _ _ _ _ refuses,
@@ -148,14 +148,14 @@ returns-4 c =
     let s = start_of t in
     let next = c.next-state.ensures in
     let r = c.next-state.result in
-    let file : summaryMeant r.file ≡ summaryMeant t.before.before.add.result = ap summaryMeant next.file in
+    let file : summary_meant r.file ≡ summary_meant t.before.before.add.result = ap summary_meant next.file in
     let limit = next.limit ∙ t.before.before.before.before.before.before.before.before.limit-after.ensures in
-    let fits = sym (balance b) ∙ ap checkedOf c.before.enum-told2.given.1 in (
-      settle-next (before_of s) (lines_of s) (code-of s) (kept_of s) (own-fine t.before.before.before.before.before) t.before.before.before.before.if1.left _ _ _ (summaryMeant r.file)
+    let fits = sym (balance b) ∙ ap checked_of c.before.enum-told2.given.1 in (
+      settle-next (before_of s) (lines_of s) (code-of s) (kept_of s) (own-fine t.before.before.before.before.before) t.before.before.before.before.if1.left _ _ _ (summary_meant r.file)
           (this-is t) (account-is t) (group-is t) (file ∙ file-is t) (rw (sym file) at fits) _ _ _ _ next.expected limit next.group next.account,
-      held_next (this-of t) (code-of s) (sumMeant (kept_of s).sum) s.args.records.0 (this-adds t) (state-of s) r t.before.add2.result t.add3.result s.pre.held s.pre.some-line
-          s.pre.sums (file ∙ file-is t) (group-is t) (account-is t) (groupOpen (code-of s)) (accountOpen (code-of s)) next.group next.account,
-      records-next (this-of t) (code-of s) (sumMeant (kept_of s).sum) s.args.records.0 (this-adds t) (state-of s).file r.file (file ∙ file-is t),
+      held_next (this-of t) (code-of s) (sum_meant (kept_of s).sum) s.args.records.0 (this-adds t) (state-of s) r t.before.add2.result t.add3.result s.pre.held s.pre.some-line
+          s.pre.sums (file ∙ file-is t) (group-is t) (account-is t) (group_open (code-of s)) (account_open (code-of s)) next.group next.account,
+      records-next (this-of t) (code-of s) (sum_meant (kept_of s).sum) s.args.records.0 (this-adds t) (state-of s).file r.file (file ∙ file-is t),
     )
 
 pub settle-spec : {M : Type 1} → statement M

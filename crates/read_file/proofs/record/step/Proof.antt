@@ -13,20 +13,20 @@ use Rattle.rules.specs.Numbers.{magnitudes}
 use Rattle.rules.specs.Lines.{Code, Record}
 use Rattle.rules.specs.Grammar.{Kind, fields_of}
 use Rattle.rules.specs.Order.{among}
-use Rattle.rules.specs.Verdict.{step, inOrder}
+use Rattle.rules.specs.Verdict.{step, in_order}
 use Rattle.rules.specs.Verdict as rules
-use Rattle.base_codes.specs.CodeMeaning.{codeMeant}
-use Rattle.read_lines.specs.LineLengths.{firstRecord}
-use Rattle.read_lines.specs.Cuts.{linesBy}
+use Rattle.base_codes.specs.CodeMeaning.{code_meant}
+use Rattle.read_lines.specs.LineLengths.{first_record}
+use Rattle.read_lines.specs.Cuts.{lines_by}
 use Rattle.read_lines.proofs.OneRecord.{first-part-by}
 use Rattle.read_line_checks.specs.LineChecks.{Whole}
-use Rattle.read_kept.specs.KeepFields.{nothingKept, Within}
-use Rattle.read_wanted.specs.Wants.{wantedOf}
-use Rattle.read_walk.specs.WalkKept.{walkFrom}
+use Rattle.read_kept.specs.KeepFields.{nothing_kept, Within}
+use Rattle.read_wanted.specs.Wants.{wanted_of}
+use Rattle.read_walk.specs.WalkKept.{walk_from}
 use Rattle.read_walk.specs.declared.Walked.{Walked}
-use Rattle.read_walk.specs.WalkAnswers.{walkedOf, Bounds, Walks}
-use Rattle.read_file.specs.FileMeanings.{stateMeant}
-use Rattle.read_file.specs.RecordSteps.{settledK, stepK}
+use Rattle.read_walk.specs.WalkAnswers.{walked_of, Bounds, Walks}
+use Rattle.read_file.specs.FileMeanings.{state_meant}
+use Rattle.read_file.specs.RecordSteps.{settled_k, step_k}
 use Rattle.read_file.proofs.StepAgrees.{step_right}
 use Rattle.read_file.proofs.StepLaws.{order_is, step_lines, step-order, step-walk, step-settle}
 use Rattle.read_file.proofs.record.step.Statement.{statement}
@@ -38,12 +38,12 @@ abbrev rest_of : tie.Start → Bytes
 rest_of s = s.args.rest.now
 
 abbrev before_of : tie.Start → rules.State
-before_of s = stateMeant s.args.st
+before_of s = state_meant s.args.st
 
 abbrev record_of : tie.Start → Record
-record_of s = firstRecord (linesBy s.args.cut (rest_of s))
+record_of s = first_record (lines_by s.args.cut (rest_of s))
 
-right : (s : tie.Start) → step (before_of s) (record_of s) ≡ stepK (before_of s) (record_of s)
+right : (s : tie.Start) → step (before_of s) (record_of s) ≡ step_k (before_of s) (record_of s)
 right s = sym (step_right (before_of s) (record_of s) s.requires.0.bound)
 
 -- ---- 3, 4, 5
@@ -66,7 +66,7 @@ abbrev start_of : Good → tie.Start
 start_of c = c.before.before.before.before
 
 abbrev code-of : Good → Code
-code-of c = codeMeant c.code.given.0.0
+code-of c = code_meant c.code.given.0.0
 
 abbrev size_of : Good → ℕ
 size_of c = c.code.given.0.1.1.0
@@ -86,15 +86,15 @@ bytes-are c =
     let z : size_of c - 0 ≡ size_of c = omega arith in
     ap (λ (n : ℕ). take n (rest_of (start_of c))) z
 
-lines_are : (c : Good) → linesBy (start_of c).args.cut (bytes_of c) ≡ record_of (start_of c)
-lines_are c = ap (linesBy (start_of c).args.cut) (bytes-are c) ∙ first-part-by (start_of c).args.cut (rest_of (start_of c)) (size_of c) (whole c).extent (some_byte c)
+lines_are : (c : Good) → lines_by (start_of c).args.cut (bytes_of c) ≡ record_of (start_of c)
+lines_are c = ap (lines_by (start_of c).args.cut) (bytes-are c) ∙ first-part-by (start_of c).args.cut (rest_of (start_of c)) (size_of c) (whole c).extent (some_byte c)
 
 length-is : (c : Good) → length (bytes_of c) ≡ size_of c
 length-is c = length-take (size_of c - 0) (rest_of (start_of c)) ∙ omega (arith, (whole c).ranges)
 
 -- ---- 6
 
-order : (c : Good) → inOrder (before_of (start_of c)).expected (record_of (start_of c)) ≡ (check (among (code-of c) (before_of (start_of c)).expected) 6 0 >> fine (code-of c))
+order : (c : Good) → in_order (before_of (start_of c)).expected (record_of (start_of c)) ≡ (check (among (code-of c) (before_of (start_of c)).expected) 6 0 >> fine (code-of c))
 order c = order_is (start_of c).args.cut (before_of (start_of c)).expected (rest_of (start_of c)) (code-of c) (some_byte c) (whole c).code
 
 returns-3 : tie.Need-returns-3
@@ -124,11 +124,11 @@ part-rec-end c = (whole (good_of c.before.before)).fits
 abbrev Walking : Type 0
 Walking = tie.After-walk-record
 
-abbrev in_order : Walking → tie.Else1
-in_order c = c.before.before.before.before.before.before
+abbrev ordered : Walking → tie.Else1
+ordered c = c.before.before.before.before.before.before
 
 abbrev good : Walking → Good
-good c = good_of (in_order c)
+good c = good_of (ordered c)
 
 -- the magnitudes of the records before
 abbrev magnitudes-of : Walking → ℕ
@@ -139,10 +139,10 @@ walks c =
     subst (λ (bs : Bytes). Walks (start_of (good c)).args.cut bs c.before.first-want.result (magnitudes-of c) c.walk-record.result)
     (sym (bytes-are (good c))) c.walk-record.ensures
 
-walked : (c : Walking) → walkFrom (fields_of (code-of (good c))) (nothingKept (magnitudes-of c)) (record_of (start_of (good c))) ≡ walkedOf c.walk-record.result
+walked : (c : Walking) → walk_from (fields_of (code-of (good c))) (nothing_kept (magnitudes-of c)) (record_of (start_of (good c))) ≡ walked_of c.walk-record.result
 walked c =
-    ap (λ (ks : List Kind). walkFrom ks (nothingKept (magnitudes-of c)) (record_of (start_of (good c)))) (sym c.before.first-want.ensures)
-    ∙ ap (λ (ls : Record). walkFrom (wantedOf c.before.first-want.result) (nothingKept (magnitudes-of c)) ls) (sym (lines_are (good c)))
+    ap (λ (ks : List Kind). walk_from ks (nothing_kept (magnitudes-of c)) (record_of (start_of (good c)))) (sym c.before.first-want.ensures)
+    ∙ ap (λ (ls : Record). walk_from (wanted_of c.before.first-want.result) (nothing_kept (magnitudes-of c)) ls) (sym (lines_are (good c)))
     ∙ sym (walks c).answer
 
 -- the same bounds of the answer that a branch knows
@@ -159,7 +159,7 @@ returns-4 c =
     record {
       stops =
           right s
-          ∙ step-walk (before_of s) (record_of s) (whole g).good (code-of g) (order g) (allowed (in_order w)) _ (walked w ∙ ap walkedOf c.before.why2.given.1);
+          ∙ step-walk (before_of s) (record_of s) (whole g).good (code-of g) (order g) (allowed (ordered w)) _ (walked w ∙ ap walked_of c.before.why2.given.1);
       some_byte = some_byte g;
       within = omega (arith, (whole g).fits);
     }
@@ -176,14 +176,14 @@ within : (c : Kept-known) → Within (length (bytes_of (good (walk_of c)))) (mag
 within c = bounds (walk_of c) _ c.kept.given.1
 
 settled : (c : Kept-known)
-    → stepK (before_of (start_of (good (walk_of c)))) (record_of (start_of (good (walk_of c))))
-    ≡ settledK (before_of (start_of (good (walk_of c)))) (linesBy (start_of (good (walk_of c))).args.cut (bytes_of (good (walk_of c)))) (code-of (good (walk_of c))) c.kept.given.0.0
+    → step_k (before_of (start_of (good (walk_of c)))) (record_of (start_of (good (walk_of c))))
+    ≡ settled_k (before_of (start_of (good (walk_of c)))) (lines_by (start_of (good (walk_of c))).args.cut (bytes_of (good (walk_of c)))) (code-of (good (walk_of c))) c.kept.given.0.0
 settled c =
     let w = walk_of c in
     let g = good w in
     let s = start_of g in
-    step-settle (before_of s) (record_of s) (whole g).good (code-of g) (order g) (allowed (in_order w)) c.kept.given.0.0 (walked w ∙ ap walkedOf c.kept.given.1)
-    ∙ ap (λ (ls : Record). settledK (before_of s) ls (code-of g) c.kept.given.0.0) (sym (lines_are g))
+    step-settle (before_of s) (record_of s) (whole g).good (code-of g) (order g) (allowed (ordered w)) c.kept.given.0.0 (walked w ∙ ap walked_of c.kept.given.1)
+    ∙ ap (λ (ls : Record). settled_k (before_of s) ls (code-of g) c.kept.given.0.0) (sym (lines_are g))
 
 settle-requires : tie.Need-settle-requires
 settle-requires c κs =

@@ -3,11 +3,11 @@ use Prim.Native.Nat.{ℕ, ◌+◌, ◌≤◌}
 use mathlib.Core.Path.{◌≡◌, ap, sym, ◌∙◌}
 use lib.Dec.{ltb}
 use borrow.Author.Tests.{ltb-true, ltb-false}
-use Rattle.rules.specs.Amounts.{Amount, magnitudeOf}
+use Rattle.rules.specs.Amounts.{Amount, magnitude_of}
 use Rattle.rules.specs.Limits.{most}
-use Rattle.base_amounts.specs.AmountsRead.{amountMeant}
+use Rattle.base_amounts.specs.AmountsRead.{amount_meant}
 use Rattle.read_kept.specs.declared.Kept.{Kept}
-use Rattle.read_kept.specs.KeepFields.{amountsOf, withAmounts, addedTo}
+use Rattle.read_kept.specs.KeepFields.{amounts_of, with_amounts, added_to}
 use Rattle.read_kept.proofs.AddAmounts.{add-over, add-past, add-more}
 use borrow.Author.Rules.{rules}
 use Rattle.read_kept.proofs.Kept.add_amount.Statement.{statement}
@@ -21,33 +21,33 @@ abbrev kept_of : Asked → Kept
 kept_of c = c.before.before.before.before.before.args.self
 
 abbrev amount-of : Asked → Amount
-amount-of c = amountMeant c.before.before.amount-in.result
+amount-of c = amount_meant c.before.before.amount-in.result
 
 abbrev size-with : Asked → ℕ → ℕ
 size-with c n = (kept_of c).before.0 + ((kept_of c).sum.0 + (kept_of c).sum.1) + n
 
-answer-is : (c : Asked) → c.passes.result ≡ ltb most (size-with c (magnitudeOf (amount-of c)))
+answer-is : (c : Asked) → c.passes.result ≡ ltb most (size-with c (magnitude_of (amount-of c)))
 answer-is c = c.passes.ensures ∙ ap (λ (n : ℕ). ltb most (size-with c n)) c.before.magnitude-of.ensures
 
 returns : tie.Need-returns
-returns c = let k = c.before.before.args.self in ap (withAmounts k) (add-over _ (amountsOf k) _ _ c.if1.true)
+returns c = let k = c.before.before.args.self in ap (with_amounts k) (add-over _ (amounts_of k) _ _ c.if1.true)
 
 returns-2 : tie.Need-returns-2
 returns-2 c =
     let q = c.before in
     let x = q.before.before.before.before.before.args in
-    ap (withAmounts x.self) (add-past _ (amountsOf x.self) x.at.0 (amount-of q) q.before.before.before.if1.false (ltb-true most _ (sym (answer-is q) ∙ c.if2.true)))
-    ∙ ap (λ (a : Amount). addedTo x.self x.at.0 a) q.before.before.amount-in.ensures
+    ap (with_amounts x.self) (add-past _ (amounts_of x.self) x.at.0 (amount-of q) q.before.before.before.if1.false (ltb-true most _ (sym (answer-is q) ∙ c.if2.true)))
+    ∙ ap (λ (a : Amount). added_to x.self x.at.0 a) q.before.before.amount-in.ensures
 
 returns-3 : tie.Need-returns-3
 returns-3 c =
     let d = c.before.before.before in
     let q = d.before in
     let x = q.before.before.before.before.before.args in
-    let fits : size-with q (magnitudeOf (amount-of q)) ≤ most = ltb-false most _ (sym (answer-is q) ∙ d.if2.false) in
-    ap (withAmounts x.self)
-    (add-more _ (amountsOf x.self) x.at.0 (amount-of q) q.before.before.before.if1.false fits c.add.result c.before.adds.result c.before.adds.ensures c.add.ensures)
-    ∙ ap (λ (a : Amount). addedTo x.self x.at.0 a) q.before.before.amount-in.ensures
+    let fits : size-with q (magnitude_of (amount-of q)) ≤ most = ltb-false most _ (sym (answer-is q) ∙ d.if2.false) in
+    ap (with_amounts x.self)
+    (add-more _ (amounts_of x.self) x.at.0 (amount-of q) q.before.before.before.if1.false fits c.add.result c.before.adds.result c.before.adds.ensures c.add.ensures)
+    ∙ ap (λ (a : Amount). added_to x.self x.at.0 a) q.before.before.amount-in.ensures
 
 pub add-amount-spec : {M : Type 1} → statement M
 add-amount-spec =

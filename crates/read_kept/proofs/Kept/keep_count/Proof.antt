@@ -1,16 +1,16 @@
 -- `Kept::keep_count` meets its contract. Assumes nothing.
 use mathlib.Core.Path.{sym}
-use Rattle.read_kept.specs.KeepFields.{keepWith, keepRead}
+use Rattle.read_kept.specs.KeepFields.{keep_with, keep_read}
 use borrow.Author.Rules.{rules}
 use Rattle.read_kept.proofs.Kept.keep_count.Statement.{statement}
 use Rattle.read_kept.proofs.Kept.keep_count.Tie as tie
 
 returns : tie.Need-returns
-unfolding keepRead keepWith
+unfolding keep_read keep_with
 returns c = rw c.if1.true
 
 returns-2 : tie.Need-returns-2
-unfolding keepRead keepWith
+unfolding keep_read keep_with
 returns-2 c = rw (c.before.if1.false, sym c.value.ensures.0)
 
 pub keep-count-spec : {M : Type 1} → statement M

@@ -4,13 +4,13 @@ use mathlib.Core.Path.{◌≡◌, refl}
 use native.Mathlib.Omega.{arith}
 use lib.ListN.{length, drop, get_or}
 use borrow.Author.Rules.{rules}
-use Rattle.read_lines.specs.LineLengths.{run, stopsAt}
+use Rattle.read_lines.specs.LineLengths.{run, stops_at}
 use Rattle.read_lines.proofs.RunLengths.{run_none, run-stop, run_step, byte_low, byte_high, byte-good}
 use Rattle.read_lines.proofs.scan.end_by_bytes.Statement.{statement}
 use Rattle.read_lines.proofs.scan.end_by_bytes.Tie as tie
 
 abbrev invariant-loop : tie.invariant-loop
-invariant-loop s high i₀ i = (i ≤ length s + (i₀ - length s)) × (i₀ + run (stopsAt high) (drop i₀ s) ≡ i + run (stopsAt high) (drop i s))
+invariant-loop s high i₀ i = (i ≤ length s + (i₀ - length s)) × (i₀ + run (stops_at high) (drop i₀ s) ≡ i + run (stops_at high) (drop i s))
 
 abbrev decreases-loop : tie.decreases-loop
 decreases-loop s high i₀ i = length s - i
@@ -21,25 +21,25 @@ loop-holds c = (omega arith, refl)
 returns : tie.Need-returns invariant-loop decreases-loop
 returns c =
     let a = c.before.before.before.before.args in let i : ℕ = c.before.before.before.loop.i in
-    let h = run-stop (stopsAt a.high) a.s.now i (omega arith) (byte_low a.high (get_or a.s.now i 0) c.if1.true) in
+    let h = run-stop (stops_at a.high) a.s.now i (omega arith) (byte_low a.high (get_or a.s.now i 0) c.if1.true) in
     (omega arith, omega arith)
 
 returns-2 : tie.Need-returns-2 invariant-loop decreases-loop
 returns-2 c =
     let a = c.before.before.before.before.before.before.args in let i : ℕ = c.before.before.before.before.before.loop.i in
-    let h = run-stop (stopsAt a.high) a.s.now i (omega arith) (byte_high a.high (get_or a.s.now i 0) (omega arith) c.if2.true) in
+    let h = run-stop (stops_at a.high) a.s.now i (omega arith) (byte_high a.high (get_or a.s.now i 0) (omega arith) c.if2.true) in
     (omega arith, omega arith)
 
 loop-again : tie.Need-loop-preserved invariant-loop decreases-loop
 loop-again c =
     let a = c.before.before.before.before.before.before.args in let i : ℕ = c.before.before.before.before.before.loop.i in
-    let h = run_step (stopsAt a.high) a.s.now i (omega arith) (byte-good a.high (get_or a.s.now i 0) (omega arith) (omega arith)) in
+    let h = run_step (stops_at a.high) a.s.now i (omega arith) (byte-good a.high (get_or a.s.now i 0) (omega arith) (omega arith)) in
     (omega arith, omega arith)
 
 returns-3 : tie.Need-returns-3 invariant-loop decreases-loop
 returns-3 c =
     let a = c.before.before.args in
-    let h = run_none (stopsAt a.high) a.s.now c.before.loop.i (omega arith) in
+    let h = run_none (stops_at a.high) a.s.now c.before.loop.i (omega arith) in
     (omega arith, omega arith)
 
 pub end-by-bytes-spec : {M : Type 1} → statement M

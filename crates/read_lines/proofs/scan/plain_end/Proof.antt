@@ -4,13 +4,13 @@ use mathlib.Core.Path.{◌≡◌, refl}
 use native.Mathlib.Omega.{arith}
 use lib.ListN.{length, drop}
 use borrow.Author.Rules.{rules}
-use Rattle.read_lines.specs.LineLengths.{run, stopsAt}
+use Rattle.read_lines.specs.LineLengths.{run, stops_at}
 use Rattle.read_lines.proofs.RunLengths.{run_none}
 use Rattle.read_lines.proofs.scan.plain_end.Statement.{statement}
 use Rattle.read_lines.proofs.scan.plain_end.Tie as tie
 
 abbrev invariant-loop : tie.invariant-loop
-invariant-loop s high i₀ i = (i ≤ length s + (i₀ - length s)) × (i₀ + run (stopsAt high) (drop i₀ s) ≡ i + run (stopsAt high) (drop i s))
+invariant-loop s high i₀ i = (i ≤ length s + (i₀ - length s)) × (i₀ + run (stops_at high) (drop i₀ s) ≡ i + run (stops_at high) (drop i s))
 
 abbrev decreases-loop : tie.decreases-loop
 decreases-loop s high i₀ i = length s - i
@@ -33,7 +33,7 @@ loop-again c =
 
 returns-3 : tie.Need-returns-3 invariant-loop decreases-loop
 returns-3 c =
-    let a = c.before.before.before.args in let h = run_none (stopsAt a.high) a.s.now c.before.loop.i (omega arith) in
+    let a = c.before.before.before.args in let h = run_none (stops_at a.high) a.s.now c.before.loop.i (omega arith) in
     (omega arith, omega arith)
 
 pub plain-end-spec : {M : Type 1} → statement M

@@ -1,16 +1,16 @@
 -- `after_funds` meets its contract. Assumes nothing.
 use Rattle.rules.specs.Grammar.{fields_of}
-use Rattle.read_wanted.specs.Wants.{wantedOf, wantedAfter, references}
+use Rattle.read_wanted.specs.Wants.{wanted_of, wanted_after, references}
 use borrow.Author.Rules.{rules}
 use Rattle.read_wanted.proofs.want.after_funds.Statement.{statement}
 use Rattle.read_wanted.proofs.want.after_funds.Tie as tie
 
 returns : tie.Need-returns
-unfolding wantedOf wantedAfter references fields_of
+unfolding wanted_of wanted_after references fields_of
 returns c = rw c.enum_told.given.1
 
 returns-2 : tie.Need-returns-2
-unfolding wantedOf wantedAfter references fields_of
+unfolding wanted_of wanted_after references fields_of
 returns-2 c = rw c.enum-told2.given.1
 
 pub after-funds-spec : {M : Type 1} → statement M

@@ -1,6 +1,6 @@
 -- `days_in` meets its contract. Assumes nothing.
 use mathlib.Core.Path.{refl}
-use Rattle.rules.specs.Dates.{daysOf}
+use Rattle.rules.specs.Dates.{days_of}
 use Rattle.read_values.proofs.NumberValues.{days-leap, days-february, days-short, days-long}
 use Rattle.read_values.proofs.date.Date.days_in.Statement.{statement}
 use Rattle.read_values.proofs.date.Date.days_in.Tie as tie
@@ -12,19 +12,19 @@ returns-2 : tie.Need-returns-2
 returns-2 c = days-february _ _ c.before.if1.true c.if2.false
 
 returns-3 : tie.Need-returns-3
-unfolding daysOf
+unfolding days_of
 returns-3 c = days-short c.before.before.args.year _ 4 c.if3.true refl
 
 returns-4 : tie.Need-returns-4
-unfolding daysOf
+unfolding days_of
 returns-4 c = days-short c.before.before.before.args.year _ 6 c.if4.true refl
 
 returns-5 : tie.Need-returns-5
-unfolding daysOf
+unfolding days_of
 returns-5 c = days-short c.before.before.before.before.args.year _ 9 c.if5.true refl
 
 returns-6 : tie.Need-returns-6
-unfolding daysOf
+unfolding days_of
 returns-6 c = days-short c.before.before.before.before.before.args.year _ 11 c.if6.true refl
 
 returns-7 : tie.Need-returns-7
