@@ -2,8 +2,7 @@
      bench          16 MiB of each shape, then one shape from 1 to 16 MiB: the library's reader and the plain C reader;
                     each shape once more beside the reader of an older archive, where one is linked;
                     split and combine, each beside the library's own reading of the same files and a plain copy
-                    of as many bytes as the result has; handing out all records and fields, beside the library's reading;
-                    files of blocks: both readers, the library's reading of the same records as lines, their conversion
+                    of as many bytes as the result has; handing out all records and fields, beside the library's reading
      bench once N   1 MiB of the Nth shape, from 0 on, read once by each reader, for a tool that counts instructions; the
                     line printed has the shape's number of lines and its name. Past the last shape: nothing, and status 1
      bench file N   16 MiB of the Nth shape, as a file on standard output
@@ -13,7 +12,6 @@
 #define _POSIX_C_SOURCE 200809L
 #include <inttypes.h>
 #include <pthread.h>
-#include <stdbool.h>
 #include <stdio.h>
 #include <stdlib.h>
 #include <string.h>
@@ -41,7 +39,6 @@ typedef struct {
     uint64_t random; /* from which the next varied amount is made */
     unsigned long lines, group_lines, account_lines, accounts, groups;
     unsigned long receivers; /* the groups go to so many receivers in turn */
-    const char *record_length; /* L, as the header states it */
 } file;
 
 /* A 03 whose amounts are short, and one whose amounts have leading zeros up to 18 digits; each is worth nothing. */
@@ -137,8 +134,8 @@ static void add_account(file *f, const shape *s)
 /* A file of this shape of at most `size` bytes, as full as whole accounts make it, for so many receivers. */
 static void make_file(file *f, const shape *s, size_t size, unsigned long receivers)
 {
-    *f = (file){.bytes = f->bytes, .receivers = receivers, .record_length = f->record_length};
-    ADD(f, "01,122099999,123456789,040621,0200,1,%s,,2/\n", f->record_length);
+    *f = (file){.bytes = f->bytes, .receivers = receivers};
+    ADD(f, "01,122099999,123456789,040621,0200,1,,,2/\n");
     open_group(f);
     size_t start = f->length;
     add_account(f, s);
@@ -154,22 +151,9 @@ static void make_file(file *f, const shape *s, size_t size, unsigned long receiv
     ADD(f, "99,%0*lld,%0*lu,%0*lu/\n", s->amount_digits, f->total, s->count_digits, f->groups, s->count_digits, f->lines + 2);
 }
 
-/* The same records as blocks of so many bytes, filled with blanks. */
-static void make_blocks(file *f, const file *lines, size_t size)
-{
-    const char *end, *at = lines->bytes;
-    f->length = 0;
-    for (; (end = memchr(at, '\n', lines->length - (size_t)(at - lines->bytes))) != NULL; at = end + 1) {
-        memset(f->bytes + f->length, ' ', size);
-        memcpy(f->bytes + f->length, at, (size_t)(end - at));
-        f->length += size;
-    }
-}
-
 /* Something to be timed, and what it is done with. */
 typedef struct {
     const file *a, *b;               /* b: only for combine */
-    const file *lines;               /* a's records as lines, where a has blocks */
     const char *name;                /* only for split */
     uint8_t *out;
     size_t result; /* how many bytes, or fields, the last call gave */
@@ -241,39 +225,6 @@ static uint64_t hand_out(task *t)
             return r.number + f.number;
     }
     return 0;
-}
-
-/* The plain C reader of blocks. */
-static uint64_t plain_blocks(task *t)
-{
-    return oracle_read_blocks(BYTES(t->a)).number;
-}
-
-/* The library's reader of blocks. */
-static uint64_t library_blocks(task *t)
-{
-    return bai2_read_blocks(BYTES(t->a)).number;
-}
-
-/* The library's reader of lines, of the same records. */
-static uint64_t as_lines(task *t)
-{
-    return bai2_read(BYTES(t->lines)).number;
-}
-
-/* The library's conversion. */
-static uint64_t library_convert(task *t)
-{
-    bai2_answer answer = bai2_blocks_to_lines(BYTES(t->a), t->out, ROOM);
-    t->result = (size_t)answer.length;
-    return answer.number;
-}
-
-/* The least that it could do: the library's reading of blocks, and a copy of so many bytes. */
-static uint64_t blocks_and_copy(task *t)
-{
-    memcpy(t->out, t->a->bytes, t->result);
-    return bai2_read_blocks(BYTES(t->a)).number;
 }
 
 typedef uint64_t call(task *t);
@@ -378,22 +329,6 @@ static void measure_sizes(const shape *s, file *f)
     }
 }
 
-/* Files of blocks of this shape. */
-static void measure_blocks(const shape *s, file *a, file *lines, uint8_t *out)
-{
-    bool long_lines = strlen(s->rest) > 60;
-    size_t size = long_lines ? 4096 : 80;
-    lines->record_length = long_lines ? "4096" : "80";
-    make_file(lines, s, LARGEST / 5, EACH);
-    make_blocks(a, lines, size);
-    task t = {.a = a, .lines = lines, .out = out};
-    measure("blocks", s->name, &t, plain_blocks, library_blocks);
-    measure("cuts", s->name, &t, as_lines, library_blocks);
-    time_of(&t, library_convert);
-    measure("converts", s->name, &t, blocks_and_copy, library_convert);
-    lines->record_length = "";
-}
-
 /* All times, over two files and a slice for results. */
 static void measure_all(const shape *shapes, size_t count, file *a, file *b, uint8_t *out)
 {
@@ -402,8 +337,6 @@ static void measure_all(const shape *shapes, size_t count, file *a, file *b, uin
     measure_sizes(&shapes[1], a);
     for (size_t i = 0; i < 3; i++)
         measure_calls(&shapes[i], a, b, out);
-    for (size_t i = 0; i < 6; i++)
-        measure_blocks(&shapes[i], a, b, out);
 }
 
 /* One MiB of this shape, read once by each reader. */
@@ -442,7 +375,7 @@ int main(int argc, char **argv)
         {"accounts alone, 18 digits", ZERO_ACCOUNT, "", "", "", 1, 0, 0, 20, 18, 9},
     };
     const size_t count = sizeof shapes / sizeof *shapes;
-    file a = {.bytes = malloc(ROOM), .record_length = ""}, b = {.bytes = malloc(ROOM), .record_length = ""};
+    file a = {.bytes = malloc(ROOM)}, b = {.bytes = malloc(ROOM)};
     uint8_t *out = malloc(ROOM);
     if (a.bytes == NULL || b.bytes == NULL || out == NULL)
         return 1;

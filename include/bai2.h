@@ -35,7 +35,7 @@ enum {
 };
 
 /* Why a call is refused. The place is 0 for BAI2_EMPTY_FILE, for BAI2_FILE_TOO_LONG, from
-   BAI2_NO_ROOM to BAI2_WRONG_FIELD_GIVEN, and for BAI2_AMOUNTS_TOO_LARGE when combining or writing. */
+   BAI2_NO_ROOM on, and for BAI2_AMOUNTS_TOO_LARGE when combining or writing. */
 enum bai2_refusal {
     /* The file is empty. */
     BAI2_EMPTY_FILE = 1,
@@ -102,11 +102,7 @@ enum bai2_refusal {
 
     /* A field given to the writer does not have its form (below): the reader would refuse it, or it
        is a text that is longer than 76 bytes, begins with a slash or ends in a blank. */
-    BAI2_WRONG_FIELD_GIVEN = 20,
-
-    /* A file of blocks ends within a block: its length is no multiple of L; the place is the last whole
-       multiple. */
-    BAI2_BLOCK_CUT_SHORT = 21
+    BAI2_WRONG_FIELD_GIVEN = 20
 };
 
 /* ---- Reading ---- */
@@ -261,27 +257,6 @@ typedef struct {
 bai2_combined bai2_combine(const uint8_t *a, size_t a_length,
                            const uint8_t *b, size_t b_length,
                            uint8_t *out, size_t out_length);
-
-/* ---- Blocks ----
-   A file of blocks has no line ends: each of its lines is a block of exactly L bytes, filled with blanks,
-   and one block follows another. L is the record length that the header states; it stands between the
-   file's sixth and seventh comma. These two calls take files of blocks alone, and every other call takes
-   files of lines alone: parts, records, fields, splits and combinations of a file of blocks are those of
-   the lines that it is converted to.
-
-   Both refuse an empty file and one that is too long first. Then L: BAI2_WRONG_FIELD, at 0 where the
-   first 4,096 bytes hold no seventh comma or a slash, CR or LF comes before it, at L's start where L is
-   empty or no number from 48 to 4096 (1 to 4 digits). Then BAI2_BLOCK_CUT_SHORT. Then as bai2_read; a CR
-   or LF is a byte that is not allowed. */
-
-/* The verdict of a file of blocks; records are blocks. */
-bai2_summary bai2_read_blocks(const uint8_t *file, size_t file_length);
-
-/* The same file in lines: each block less its trailing blanks, ended by LF. bai2_read accepts the result,
-   with the summary that bai2_read_blocks gives. Refused as bai2_read_blocks, then by BAI2_RESULT_TOO_LONG
-   and BAI2_NO_ROOM. file_length + file_length / 48 is always room enough. */
-bai2_answer bai2_blocks_to_lines(const uint8_t *file, size_t file_length,
-                                 uint8_t *out, size_t out_length);
 
 /* ---- Writing ----
    Begin with bai2_writer_new, hand each call the writer that the call before handed back, and the

@@ -2,7 +2,6 @@
 #ifndef COMMANDS_H
 #define COMMANDS_H
 
-#include <stdbool.h>
 #include <stddef.h>
 
 #include "status.h"
@@ -10,14 +9,13 @@
 /* How show prints a file. */
 typedef enum { REPORT, AS_JSON, AS_CSV } output_format;
 
-/* A command's arguments: its operands in order, the file of -o, NULL where there is none, the format
-   asked for, and whether the files are files of blocks. */
+/* A command's arguments: its operands in order, the file of -o, NULL where there is none, and the format
+   asked for. */
 typedef struct {
     char **operands;
     size_t count;
     const char *out;
     output_format format;
-    bool blocks;
 } arguments;
 
 int summary_command(const arguments *a);
@@ -25,7 +23,6 @@ int show_command(const arguments *a);
 int screen_command(const arguments *a);
 int split_command(const arguments *a);
 int combine_command(const arguments *a);
-int blocks_command(const arguments *a);
 int check_command(const arguments *a);
 int explain_command(const arguments *a);
 int codes_command(const arguments *a);

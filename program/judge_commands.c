@@ -22,36 +22,26 @@ static void put_figures(bai2_summary s)
            s.accounts, s.details, s.records);
 }
 
-/* bai2 summary [--blocks] FILE: one line, the figures or the refusal's number and place; a refusal also in
-   words. */
+/* bai2 summary FILE: one line, the figures or the refusal's number and place; a refusal also in words. */
 int summary_command(const arguments *a)
 {
     input in;
     if (!load(&in, a->operands[0]))
         return REFUSED;
-    bai2_summary s = judge(in.file, a->blocks);
-    refused_file r = refuse(in.name, in.file, a->blocks, s.number, s.place);
+    bai2_summary s = bai2_read(in.file.bytes, in.file.length);
     if (s.number == 0)
         put_figures(s);
     else
         printf("refused %" PRIu64 " %" PRIu64 "\n", s.number, s.place);
     bool written = flush_standard_output();
     if (s.number != 0)
-        tell_refusal(stderr, &r);
+        tell_refusal(stderr, in.name, in.file, s.number, s.place);
     unload(&in);
     return !written ? TROUBLE : s.number == 0 ? GOOD : REFUSED;
 }
 
-/* Prints a refusal in the rest of a line, with what else the file may be. */
-static void put_refusal(const refused_file *r)
-{
-    const char *other = other_reading(r);
-    tell_refusal_briefly(stdout, r);
-    printf("%s%s\n", *other == '\0' ? "" : "; ", other);
-}
-
-/* Judges one file, of blocks or of lines, and prints its line; whether it was accepted. */
-static bool check_file(const char *path, bool blocks)
+/* Judges one file and prints its line; whether it was accepted. */
+static bool check_file(const char *path)
 {
     input in;
     bool readable = fetch(&in, path);
@@ -62,10 +52,9 @@ static bool check_file(const char *path, bool blocks)
         printf("can't be read: %s\n", strerror(why));
         return false;
     }
-    bai2_summary s = judge(in.file, blocks);
-    refused_file r = refuse(in.name, in.file, blocks, s.number, s.place);
+    bai2_summary s = bai2_read(in.file.bytes, in.file.length);
     if (s.number != 0)
-        put_refusal(&r);
+        tell_refusal_briefly(stdout, in.file, s.number, s.place);
     else
         put_figures(s);
     unload(&in);
@@ -84,7 +73,7 @@ static void wipe_progress(void)
     fputs("\r" WIPE_REST_OF_ROW, stderr);
 }
 
-/* bai2 check [--blocks] FILE..: a line for each file; refused where any is not accepted. */
+/* bai2 check FILE..: a line for each file; refused where any is not accepted. */
 int check_command(const arguments *a)
 {
     bool progress = a->count >= MANY && isatty(STDERR_FILENO);
@@ -92,7 +81,7 @@ int check_command(const arguments *a)
     for (size_t i = 0; i < a->count; i++) {
         if (progress)
             wipe_progress();
-        if (!check_file(a->operands[i], a->blocks))
+        if (!check_file(a->operands[i]))
             bad++;
         if (!flush_standard_output())
             return TROUBLE;

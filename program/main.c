@@ -19,20 +19,18 @@ typedef struct {
     const char *name;
     int (*run)(const arguments *a);
     size_t least, most;
-    enum { NO_OPTION, OUTPUT, BLOCKS, FORMAT } takes; /* -o; --blocks; --blocks, --json and --csv */
+    enum { NO_OPTION, OUTPUT, FORMAT } takes; /* -o; --json or --csv */
     const char *operands, *purpose;
 } command;
 
 static const command commands[] = {
-    {"summary", summary_command, 1, 1, BLOCKS, "FILE",
+    {"summary", summary_command, 1, 1, NO_OPTION, "FILE",
      "one line: ok and the figures, or refused NUMBER PLACE"},
     {"show", show_command, 1, 1, FORMAT, "[--json|--csv] FILE", "groups, accounts and details in columns"},
-    {"screen", screen_command, 1, 1, BLOCKS, "FILE", "the same as a tree to move about in"},
-    {"check", check_command, 1, (size_t)-1, BLOCKS, "FILE..", "a line for each file"},
+    {"screen", screen_command, 1, 1, NO_OPTION, "FILE", "the same as a tree to move about in"},
+    {"check", check_command, 1, (size_t)-1, NO_OPTION, "FILE..", "a line for each file"},
     {"split", split_command, 2, 2, OUTPUT, "[-o OUT] NAME FILE", "only the groups of one receiver"},
     {"combine", combine_command, 2, 2, OUTPUT, "[-o OUT] A B", "the groups of two files in one"},
-    {"blocks", blocks_command, 1, 1, OUTPUT, "[-o OUT] FILE",
-     "a file of blocks, without line ends, in lines"},
     {"explain", explain_command, 0, 1, NO_OPTION, "[NUMBER]", "what a refusal means, and what to do"},
     {"codes", codes_command, 0, (size_t)-1, NO_OPTION, "[CODE..]", "what type codes stand for"},
 };
@@ -45,12 +43,10 @@ static const struct option program_options[] = {
 };
 
 /* The options of commands, by what they take. */
-static const struct option command_options[][5] = {
+static const struct option command_options[][4] = {
     [NO_OPTION] = {{"help", no_argument, NULL, 'h'}},
     [OUTPUT] = {{"output", required_argument, NULL, 'o'}, {"help", no_argument, NULL, 'h'}},
-    [BLOCKS] = {{"blocks", no_argument, NULL, 'b'}, {"help", no_argument, NULL, 'h'}},
-    [FORMAT] = {{"json", no_argument, NULL, 'j'}, {"csv", no_argument, NULL, 'c'},
-                {"blocks", no_argument, NULL, 'b'}, {"help", no_argument, NULL, 'h'}},
+    [FORMAT] = {{"json", no_argument, NULL, 'j'}, {"csv", no_argument, NULL, 'c'}, {"help", no_argument, NULL, 'h'}},
 };
 
 /* What a command's arguments ask for. */
@@ -65,22 +61,15 @@ static void put_usage(FILE *to)
     for (size_t i = 0; i < COMMANDS; i++)
         fprintf(to, "  bai2 %-7s %-19s  %s\n", commands[i].name, commands[i].operands,
                 commands[i].purpose);
-    fputs("A FILE of - is standard input. summary, show, screen and check take --blocks for a file of blocks.\n"
-          "A COMMAND with --help tells its options. Status: 0 accepted, 1 refused or not readable, 2 wrong\n"
-          "usage, 3 the answer can't be written or shown. See bai2(1).\n",
+    fputs("A FILE of - is standard input. A COMMAND with --help tells its options. Status: 0 accepted,\n"
+          "1 refused or not readable, 2 wrong usage, 3 the answer can't be written or shown. See bai2(1).\n",
           to);
-}
-
-/* Whether the command takes files of blocks by an option. */
-static bool takes_blocks(const command *c)
-{
-    return c->takes == BLOCKS || c->takes == FORMAT;
 }
 
 /* Prints how one command is used. */
 static void put_command_usage(FILE *to, const command *c)
 {
-    fprintf(to, "usage: bai2 %s %s%s\n", c->name, takes_blocks(c) ? "[--blocks] " : "", c->operands);
+    fprintf(to, "usage: bai2 %s %s\n", c->name, c->operands);
 }
 
 /* Prints how one command is used, and what it is for. */
@@ -93,8 +82,6 @@ static void put_command_help(const command *c)
     if (c->takes == FORMAT)
         puts("  --json                a JSON object a line for each record and item, with all fields\n"
              "  --csv                 the same as comma-separated values, for a spreadsheet");
-    if (takes_blocks(c))
-        puts("  --blocks              FILE is a file of blocks, which has no line ends");
     puts("  -h, --help            says how the command is used");
 }
 
@@ -128,7 +115,6 @@ static request sort_arguments(const command *c, int argc, char **argv, arguments
         switch (getopt_long(argc, argv, letters, command_options[c->takes], NULL)) {
         case OPERAND: a->operands[a->count++] = optarg; break;
         case 'o': a->out = optarg; break;
-        case 'b': a->blocks = true; break;
         case 'j': good = take_format(c, a, AS_JSON); break;
         case 'c': good = take_format(c, a, AS_CSV); break;
         case 'h': return FOR_HELP;

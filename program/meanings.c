@@ -14,13 +14,12 @@ static const explanation explanations[REFUSALS + 1] = {
         "a line is too long",
         "A line has more than 4,096 bytes, or more than the record length that the 01 record gives "
         "in its sixth field. The place is the first byte too many.",
-        "A file without any line end may be one of blocks: 'bai2 blocks' makes lines of it. Fetch the "
-        "file again if its line ends were lost on the way. Otherwise ask the sender to carry long "
-        "records on in 88 lines, or to state the record length that it really uses."},
+        "Fetch the file again if its line ends were lost on the way. Otherwise ask the sender to "
+        "carry long records on in 88 lines, or to state the record length that it really uses."},
     [BAI2_BYTE_NOT_ALLOWED] = {
         "a byte that is not allowed",
         "A line holds a byte that is not a printable ASCII character: a tab, an accented letter or "
-        "a control character, for instance. In a file of blocks a line end is such a byte too.",
+        "a control character, for instance.",
         "Ask the sender to write plain ASCII. If the file passed through an editor or a converter, "
         "fetch the original again."},
     [BAI2_NO_RECORD_CODE] = {
@@ -41,7 +40,7 @@ static const explanation explanations[REFUSALS + 1] = {
         "A line ends inside a field, with no comma or slash after it; or something follows the "
         "slash that ends the line; or a piece of text is empty or begins with a slash.",
         "Look at the end of the line for a lost or a misplaced slash, and show the line to the "
-        "sender. A file without any line end may be one of blocks: 'bai2 blocks' makes lines of it."},
+        "sender."},
     [BAI2_WRONG_FIELD] = {
         "a wrong field",
         "A field has a value that may not stand there, is missing (the place is then the record's "
@@ -52,8 +51,7 @@ static const explanation explanations[REFUSALS + 1] = {
         "16: type, amount, funds, bank reference, customer reference, text. 49: total, records. "
         "98: total, accounts, records. 99: total, groups, records. Types 001 to 099 and 900 to 919 "
         "are status codes: they stand in a 03 alone, their amount may have a minus, and their item "
-        "count and funds are empty. Ask 'bai2 codes TYPE' about a type. A file of blocks must state its "
-        "record length, from 48 to 4096, before the 01 record's first slash. Show the line to the sender."},
+        "count and funds are empty. Ask 'bai2 codes TYPE' about a type. Show the line to the sender."},
     [BAI2_WRONG_VERSION] = {
         "not version 2",
         "The last field of the 01 record names the version of the format. Only version 2 is read.",
@@ -108,8 +106,7 @@ static const explanation explanations[REFUSALS + 1] = {
         "the result is not a file that can be read",
         "The result would be longer than 16,777,216 bytes; or a line of the second file's groups is "
         "longer than the record length that the first file's 01 record states.",
-        "Combine fewer files, or give the file with the greater record length first. A file of blocks "
-        "that would be too long in lines can still be judged: 'bai2 summary --blocks'."},
+        "Combine fewer files, or give the file with the greater record length first."},
     [BAI2_OUT_OF_TURN] = {
         "the writer was called out of turn",
         "A program asked for a record where it may not stand, a detail before its account for "
@@ -120,35 +117,7 @@ static const explanation explanations[REFUSALS + 1] = {
         "A program gave a field that a reader would refuse; or a text that is longer than 76 bytes, "
         "begins with a slash or ends in a blank.",
         "Mend the program: bai2.h says which form each field has."},
-    [BAI2_BLOCK_CUT_SHORT] = {
-        "the file ends within a block",
-        "A file of blocks has no line ends: each record fills blocks of exactly as many bytes as the 01 "
-        "record's sixth field says. The last block has fewer; the place is its first byte.",
-        "If little is left over, a line end for instance, a transfer may have added it: fetch the file "
-        "again in binary. Otherwise the transfer was cut short, or blanks at the end were lost: fetch it "
-        "again too. A file that has line ends is read without --blocks."},
 };
-
-/* Refusal 8 of a file of blocks: its length is not found, or it is found and no block can have it. */
-static const explanation no_lengths[] = {
-    {"the length of the blocks is not found",
-     "A file of blocks says how long they are between its sixth and seventh comma, in the 01 record's "
-     "sixth field, the record length. It has no seventh comma in its first 4,096 bytes, or a slash or a "
-     "line end comes before it.",
-     "Make sure that it is a BAI2 file, and one of blocks: a file that has line ends is read without "
-     "--blocks. If it is, ask the sender to state the record length in the 01 record's first block."},
-    {"the length of the blocks is empty or wrong",
-     "A file of blocks says how long they are between its sixth and seventh comma, in the 01 record's "
-     "sixth field, the record length: a number from 48 to 4096, of at most four digits.",
-     "A file that has line ends is read without --blocks. If it has none, ask the sender to state the "
-     "record length."},
-};
-
-/* The explanation of a file of blocks that is refused for their length, found or not. */
-explanation explain_no_length(bool found)
-{
-    return no_lengths[found ? 1 : 0];
-}
 
 /* The explanation of a refusal's number. */
 explanation explain(uint64_t number)

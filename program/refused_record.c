@@ -1,9 +1,6 @@
 /* What a refusal's place is in the file: its record and its field, as the library hands them out. */
 #include "refused_record.h"
 
-#include <stdlib.h>
-#include <string.h>
-
 #include "codes.h"
 #include "fields.h"
 
@@ -13,29 +10,6 @@ typedef struct {
     record_code code;
     size_t start, account, group;
 } passed_record;
-
-/* A file in lines, of which alone the library hands out records, and a place there. */
-typedef struct {
-    slice file;
-    size_t place;
-    uint8_t *memory; /* of a file of blocks; none of a file that has lines */
-} lined_file;
-
-/* The file in lines: a file of blocks has a line end put after each block. */
-static lined_file in_lines(cut_file f, size_t place)
-{
-    if (f.block == 0)
-        return (lined_file){.file = f.bytes, .place = place};
-    size_t blocks = (f.bytes.length + f.block - 1) / f.block;
-    uint8_t *memory = room_for(f.bytes.length + blocks, 1), *end = memory;
-    for (size_t i = 0; i < blocks; i++) {
-        slice block = part_of(f.bytes, i * f.block, f.block);
-        memcpy(end, block.bytes, block.length);
-        end[block.length] = '\n';
-        end += block.length + 1;
-    }
-    return (lined_file){{memory, f.bytes.length + blocks}, place + place / f.block, memory};
-}
 
 /* Finds the record that the byte at `place` stands in; false where the library hands out none. */
 static bool find_record(slice file, size_t place, passed_record *p)
@@ -58,21 +32,12 @@ static bool find_record(slice file, size_t place, passed_record *p)
 
 /* Where the account or the group starts that the trailer with this byte closes; the byte itself where
    it stands in no such trailer. */
-static size_t opening_in_lines(slice file, size_t place)
+size_t opening_of(slice file, size_t place)
 {
     passed_record p;
     if (!find_record(file, place, &p))
         return place;
     return p.code == ACCOUNT_TRAILER ? p.account : p.code == GROUP_TRAILER ? p.group : place;
-}
-
-/* The same in a file of lines or blocks. */
-size_t opening_of(cut_file file, size_t place)
-{
-    lined_file l = in_lines(file, place);
-    size_t opening = opening_in_lines(l.file, l.place);
-    free(l.memory);
-    return file.block == 0 ? opening : opening - opening / (file.block + 1);
 }
 
 /* The words for a field of this kind in a record of this code; none where sums and counts don't
@@ -116,21 +81,12 @@ static uint64_t kind_of(slice file, size_t record, size_t place)
     return kind;
 }
 
-/* The field in words that stands at this byte: an amount, a total or a count; nothing for any other. */
-static const char *field_in_lines(slice file, size_t place)
-{
-    passed_record p;
-    return find_record(file, place, &p) ? words_for(p.code, kind_of(file, p.start, place)) : "";
-}
-
 /* The field in words that a refusal of this number and place blames: an amount, a total or a count.
    Nothing for other refusals, whose place is no such field. */
-const char *refused_field(cut_file file, uint64_t number, size_t place)
+const char *refused_field(slice file, uint64_t number, size_t place)
 {
-    if (number < BAI2_AMOUNTS_TOO_LARGE || number > BAI2_SUM_TOO_LARGE)
+    passed_record p;
+    if (number < BAI2_AMOUNTS_TOO_LARGE || number > BAI2_SUM_TOO_LARGE || !find_record(file, place, &p))
         return "";
-    lined_file l = in_lines(file, place);
-    const char *words = field_in_lines(l.file, l.place);
-    free(l.memory);
-    return words;
+    return words_for(p.code, kind_of(file, p.start, place));
 }

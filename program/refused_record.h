@@ -2,9 +2,9 @@
 #ifndef REFUSED_RECORD_H
 #define REFUSED_RECORD_H
 
-#include "blocks.h"
+#include "bytes.h"
 
-size_t opening_of(cut_file file, size_t place);
-const char *refused_field(cut_file file, uint64_t number, size_t place);
+size_t opening_of(slice file, size_t place);
+const char *refused_field(slice file, uint64_t number, size_t place);
 
 #endif

@@ -3,7 +3,6 @@
 #define SCREEN_H
 
 #include "outline.h"
-#include "refusal.h"
 #include "tree.h"
 #include "view.h"
 
@@ -15,15 +14,17 @@ typedef struct {
 } tree_screen;
 
 typedef struct {
-    refused_file refused;
+    const char *name;
+    slice file;
+    uint64_t number;
+    size_t place;
     const char *field; /* the refused field in words, nothing where it is not known */
-    const char *other; /* what else the file may be, nothing where it does not show */
     size_t top;   /* where the first line on the canvas starts */
     size_t left;  /* how many bytes of each line are left of the canvas */
 } refusal_screen;
 
 view open_tree_view(tree_screen *s, const char *name, const outline *o);
 void close_tree_view(tree_screen *s);
-view open_refusal_view(refusal_screen *s, refused_file r);
+view open_refusal_view(refusal_screen *s, const char *name, slice file, uint64_t number, uint64_t place);
 
 #endif

@@ -1,4 +1,4 @@
-/* The commands that write a file: split, combine and blocks. */
+/* The commands that write a file: split and combine. */
 #include <stdlib.h>
 #include <string.h>
 
@@ -10,19 +10,6 @@
 #include "refusal.h"
 
 enum { RECEIVER_ROOM = 128 };
-
-/* Writes the result of a call that was accepted; how the command ends. */
-static int write_accepted(uint64_t number, const char *path, slice result)
-{
-    return number != 0 ? REFUSED : write_result(path, result) ? GOOD : TROUBLE;
-}
-
-/* Tells the refusal of a file that was read as one of blocks or of lines. */
-static void tell_input_refusal(const input *in, bool blocks, uint64_t number, uint64_t place)
-{
-    refused_file r = refuse(in->name, in->file, blocks, number, place);
-    tell_refusal(stderr, &r);
-}
 
 /* Says so where a result has no group at all; the result is right, but may surprise. */
 static void note_no_group(const char *name, const input *in, slice result)
@@ -39,7 +26,7 @@ static void tell_split_refusal(const char *name, const input *in, bai2_answer an
     if (answer.number == BAI2_NOT_A_NAME)
         tell_refusal_without_place(stderr, receiver, answer.number);
     else
-        tell_input_refusal(in, false, answer.number, answer.place);
+        tell_refusal(stderr, in->name, in->file, answer.number, answer.place);
 }
 
 /* bai2 split NAME FILE: the file with only the groups of that receiver. */
@@ -54,7 +41,7 @@ int split_command(const arguments *a)
     bai2_answer answer = bai2_split((const uint8_t *)name, strlen(name), in.file.bytes,
                                     in.file.length, out, room);
     slice result = {out, (size_t)answer.length};
-    int status = write_accepted(answer.number, a->out, result);
+    int status = answer.number != 0 ? REFUSED : write_result(a->out, result) ? GOOD : TROUBLE;
     if (status == REFUSED)
         tell_split_refusal(name, &in, answer);
     if (status == GOOD)
@@ -67,8 +54,9 @@ int split_command(const arguments *a)
 /* Tells why a combination was refused: one of the files, or the two together. */
 static void tell_combine_refusal(const input *first, const input *second, bai2_combined answer)
 {
+    const input *guilty = answer.file == 2 ? second : first;
     if (answer.file != 0)
-        tell_input_refusal(answer.file == 2 ? second : first, false, answer.number, answer.place);
+        tell_refusal(stderr, guilty->name, guilty->file, answer.number, answer.place);
     else
         tell_refusal_without_place(stderr, "the two files together", answer.number);
 }
@@ -81,7 +69,7 @@ static int combine(const input *first, const input *second, const char *path)
     bai2_combined answer = bai2_combine(first->file.bytes, first->file.length, second->file.bytes,
                                         second->file.length, out, room);
     slice result = {out, (size_t)answer.length};
-    int status = write_accepted(answer.number, path, result);
+    int status = answer.number != 0 ? REFUSED : write_result(path, result) ? GOOD : TROUBLE;
     if (status == REFUSED)
         tell_combine_refusal(first, second, answer);
     free(out);
@@ -104,21 +92,5 @@ int combine_command(const arguments *a)
         unload(&second);
     }
     unload(&first);
-    return status;
-}
-
-/* bai2 blocks FILE: the file of blocks as a file of lines. */
-int blocks_command(const arguments *a)
-{
-    input in;
-    uint8_t *lines;
-    if (!load(&in, a->operands[0]))
-        return REFUSED;
-    bai2_answer answer = lines_from_blocks(in.file, &lines);
-    int status = write_accepted(answer.number, a->out, (slice){lines, (size_t)answer.length});
-    if (status == REFUSED)
-        tell_input_refusal(&in, true, answer.number, answer.place);
-    free(lines);
-    unload(&in);
     return status;
 }

@@ -8,7 +8,6 @@ import sys
 PLAN, RULES, DECISIONS, PROMISES = "docs/ARCHITECTURE.md", "docs/RULES.md", "docs/DECISIONS.md", "docs/PROMISES.md"
 PAGES = ["README.md"] + sorted(glob.glob("docs/*.md"))
 OUTSIDE = {"std", "io", "os", "libc", "bytes"}  # crates of the kit
-REFUSALS = list(range(1, 22))  # their numbers
 CHECKS = {}
 
 
@@ -171,8 +170,8 @@ def header():
     named = {name: int(number) for name, number in re.findall(r"const (\w+): u64 = (\d+);", text_of("crates/base_refusals/src/lib.rt"))}
     limits = {name: int(n.replace("_", "")) for name, n in re.findall(r"const (LONGEST_\w+): usize = ([\d_]+);", text_of("crates/base_limits/src/lib.rt"))}
     told = {name: int(number) for name, number in re.findall(r"\bBAI2_(\w+) = (\d+)", text_of("include/bai2.h"))}
-    if sorted(named.values()) != REFUSALS:
-        yield f"base_refusals has not the numbers 1 to {REFUSALS[-1]}, each once"
+    if sorted(named.values()) != list(range(1, 21)):
+        yield "base_refusals has not the numbers 1 to 20, each once"
     for name, number in sorted({**named, **limits}.items()):
         if told.get(name) != number:
             yield f"{name} is {number}, and BAI2_{name} is {told.get(name)}"
@@ -188,10 +187,10 @@ def refusal_rows():
 
 @check
 def refusals():
-    """The table of refusals: each number once, with a definition, code, a sample and an edit that are there."""
+    """The table of refusals: 1 to 20, each with a definition, code, a sample and an edit that are there."""
     rows = refusal_rows()
-    if [row["number"] for row in rows] != [str(n) for n in REFUSALS]:
-        yield f"the table of refusals has not the numbers 1 to {REFUSALS[-1]}, each once"
+    if [row["number"] for row in rows] != [str(n) for n in range(1, 21)]:
+        yield "the table of refusals has not the numbers 1 to 20, each once"
     for row in rows:
         lacks = [lacks_citation(*cited) for cited in citations(row["definition"])] or ["no definition is cited"]
         lacks += [lacks_code(name) for name in quoted(row["code"])] or ["no code is cited"]
@@ -208,11 +207,8 @@ def lacks_sample(number, cell):
     if number == "14":
         return "" if cell.startswith("none") else "it can't have a sample"
     if sample.endswith(".bai"):
-        for crate in ("run_samples", "run_blocks"):
-            said = re.search(rf"^{re.escape(sample)}: refused {number} ", text_of(f"crates/{crate}/stdout"), re.M)
-            if said and os.path.isfile(f"crates/{crate}/data/{sample}"):
-                return ""
-        return f"{sample} is not a sample that is refused so"
+        said = re.search(rf"^{re.escape(sample)}: refused {number} ", text_of("crates/run_samples/stdout"), re.M)
+        return "" if said and os.path.isfile(f"crates/run_samples/data/{sample}") else f"{sample} is not a sample that is refused so"
     if sample in CRATES:
         said = re.search(rf": {number} 0\b", text_of(f"crates/{sample}/stdout"))
         return "" if said else f"{sample} prints no such answer"
@@ -236,8 +232,8 @@ def rules():
             if not list(citations(cells[-1])):
                 yield f"{RULES}: no definition is cited for: {cells[0]}"
     rows = table_with(RULES, "number", "place")
-    if [cells[0] for cells in rows] != [str(n) for n in REFUSALS]:
-        yield f"{RULES} has not the refusals 1 to {REFUSALS[-1]}, each once"
+    if [cells[0] for cells in rows] != [str(n) for n in range(1, 21)]:
+        yield f"{RULES} has not the refusals 1 to 20, each once"
     for page in PAGES:
         for cited in citations(prose_of(page)):
             why = lacks_citation(*cited)

@@ -123,18 +123,3 @@ large_file() {
         total = accounts * (1500 * details - 500); lines = accounts * (details + 2)
         printf "98,%d,%d,%d/\n99,%d,1,%d/\n", total, accounts, lines + 2, total, lines + 4 }'
 }
-
-# Lines from standard input as blocks of so many bytes each, filled with blanks, without line ends.
-in_blocks() {
-    LC_ALL=C awk -v length_of_each="$1" '{ printf "%-" length_of_each "s", $0 }'
-}
-
-# The file with this record length in its header.
-with_length() {
-    sed "1s/^\(01,\([^,]*,\)\{5\}\)[^,]*,/\1$1,/" "$2"
-}
-
-# The file of lines as a file of blocks of so many bytes: blocks_of LENGTH FILE.
-blocks_of() {
-    with_length "$1" "$2" | in_blocks "$1"
-}

@@ -1,4 +1,4 @@
-#!/usr/bin/env -S python3 -B
+#!/usr/bin/env python3
 """samples.py FOLDER: writes the samples of crate `run_samples` into FOLDER: data/, args and stdout.
 
 Each expected answer is worked out by hand from documents 01 and 02, in the comment above its sample.
@@ -7,19 +7,46 @@ they don't: a slip in counting can't stay. Nothing here reads BAI2; nothing here
 
 Left out: refusal 2 needs a file over 16 MiB (the harness builds it), 14 can't be reached (the bound
 of 10 is met first)."""
-from sample_files import DOC_000, DOC_000_GOOD, K1, check_place, lines, store, verdict, write_lists
+import os
+import sys
+
+if len(sys.argv) != 2:
+    sys.exit("usage: samples.py FOLDER")
+FOLDER = sys.argv[1]
+EXPECTED = []
 
 
-def accepted(name, data, *figures):
-    """Stores a sample that is accepted with these figures: total, groups, accounts, details, records."""
-    store(name, data, verdict(*figures))
+def store(name, data, answer):
+    """Writes one sample file and notes its expected answer."""
+    assert name + ":" not in [line.split(" ")[0] for line in EXPECTED], name
+    with open(os.path.join(FOLDER, "data", name), "wb") as sample:
+        sample.write(data)
+    EXPECTED.append(f"{name}: {answer}")
+
+
+def write_list(name, rows):
+    """Writes one of the two lists that the program is run with."""
+    with open(os.path.join(FOLDER, name), "w", encoding="ascii") as out:
+        out.write("\n".join(rows) + "\n")
+
+
+def accepted(name, data, total, groups, accounts, details, records):
+    """Stores a sample that is accepted with these figures."""
+    store(name, data, f"ok {total} {groups} {accounts} {details} {records}")
 
 
 def refused(name, data, number, place, found):
     """Stores a sample that is refused; `found` stands at the place, b"" where the file ends there."""
-    check_place(name, data, place, found)
+    assert data[place:].startswith(found) and (found or place == len(data)), (name, data[place:][:20])
     store(name, data, f"refused {number} {place}")
 
+
+def lines(*rows):
+    """The rows, each ended by LF."""
+    return b"".join(row + b"\n" for row in rows)
+
+
+os.makedirs(os.path.join(FOLDER, "data"), exist_ok=True)
 
 # K1, and where each of its lines starts:
 #   line 1 at   0 (42 bytes with its LF)    sender 3, receiver 13, date 23, time 30, number 35,
@@ -33,6 +60,15 @@ def refused(name, data, number, place, found):
 #   line 5 at 151 (11)                      total 154, records 159
 #   line 6 at 162 (13)                      total 165, accounts 170, records 172
 #   line 7 at 175 (13)                      total 178, groups 183, records 185; file length 188
+K1 = [
+    b"01,122099999,123456789,040621,0200,1,,,2/",
+    b"02,031001234,122099999,1,040620,2359,,2/",
+    b"03,0975312468,USD,010,-500,,/",
+    b"16,165,1500,1,DD1620,,DEALER PAYMENTS",
+    b"49,1000,3/",
+    b"98,1000,1,5/",
+    b"99,1000,1,7/",
+]
 
 
 def k1(**changed):
@@ -158,6 +194,39 @@ accepted("k04_result.bai", lines(*K1[:6], *K1[1:6], b"99,2000,2,12/"), 2000, 2, 
 
 # ---- Source document 000, appendix D ----
 
+DOC_000 = [
+    b"01,122099999,123456789,040621,0200,1,65,,2/",
+    b"02,031001234,122099999,1,040620,2359,,2/",
+    b"03,0123456789,,010,+4350000,,,040,2830000,,/",
+    b"88,072,1020000,,,074,500000,,/",
+    b"16,,115,450000,S,100000,200000,150000,,,/",
+    b"49,9150000,4/",
+    b"03,9876543210,,010,-500000,,,100,1000000,,,400,2000000,,,190/",
+    b"88,500000,,,110,1000000,,,072,500000,,,074,500000,,,040/",
+    b"88,-1500000,,/",
+    b"16,115,500000,S,,200000,300000,,,LOCK BOX NO.68751",
+    b"49,4000000,5/",
+    b"98,13150000,2,11/",
+    b"02,053003456,122099999,1,040620,2359,,2/",
+    b"03,4589761203,,010,10000000,,,040,5000000,,,074,4000000,,/",
+    b"88,400,50000000,,,100,60000000,,,110,20000000,,,072,1000000,,/",
+    b"16,218,20000000,V,040622,,SP4738,YRC065321/",
+    b"88,PROCEEDS OF LETTER OF CREDIT FROM THE ARAMCO OIL CO",
+    b"16,195,10000000,1,,,/",
+    b"49,180000000,6/",
+    b"98,180000000,1,8/",
+    b"02,071207890,122099999,1,040620,2359,,2/",
+    b"03,0975312468,,010,500000,,,190,70000000,4,0,110/",
+    b"88,70000000,15,D,3,0,20000000,1,30000000,3,20000000/",
+    b"49,140500000,3/",
+    b"98,140500000,1,5/",
+    b"02,071207890,122099999,3,040620,2359,,2/",
+    b"03,7890654321,,010,800000,,,040,6000000,,,110,5000000/",
+    b"88,4,/",
+    b"49,11800000,3/",
+    b"98,11800000,1,5/",
+    b"99,345450000,4,31/",
+]
 # As printed: the first 16 has a comma too many, so its type is empty. Line 1 is 43 + 1 bytes, line 2
 # 40 + 1, line 3 44 + 1, line 4 30 + 1: the 16 starts at 44 + 41 + 45 + 31 = 161, its type at 164.
 refused("doc000_printed.bai", lines(*DOC_000), 8, 164, b",115,450000")
@@ -166,6 +235,7 @@ refused("doc000_printed.bai", lines(*DOC_000), 8, 164, b",115,450000")
 refused("doc000_printed_blanks.bai", lines(*[row + b" " for row in DOC_000]), 8, 168, b",115,450000")
 # Without that comma: groups 13150000 + 180000000 + 140500000 + 11800000 = 345450000; four groups;
 # accounts 2 + 1 + 1 + 1; details 1 + 1 + 2; lines 1 + 11 + 8 + 5 + 5 + 1 = 31.
+DOC_000_GOOD = [row.replace(b"16,,115", b"16,115") for row in DOC_000]
 accepted("doc000_corrected.bai", lines(*DOC_000_GOOD), 345450000, 4, 5, 4, 31)
 accepted("doc000_corrected_crlf.bai", lines(*DOC_000_GOOD).replace(b"\n", b"\r\n"),
          345450000, 4, 5, 4, 31)
@@ -964,4 +1034,6 @@ refused("second_account.bai", lines(*K1[:5], K1[2], b"49,500,2/", b"98,1500,2,7/
 accepted("two_accounts.bai", lines(*K1[:5], K1[2], b"49,-500,2/", b"98,500,2,7/", b"99,500,1,9/"),
          500, 1, 2, 1, 9)
 
-write_lists()
+write_list("stdout", EXPECTED)
+write_list("args", [line.split(":")[0] for line in EXPECTED])
+print(f"{len(EXPECTED)} samples", file=sys.stderr)

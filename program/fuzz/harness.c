@@ -1,12 +1,11 @@
 /* The fuzzer's entry: everything the program does with a file, on the given bytes and once more with
-   its trailers mended, so that changed files are accepted too, and with its lines made into blocks; and
-   the writer's calls, chosen by the bytes. Any broken promise aborts. */
+   its trailers mended, so that changed files are accepted too; and the writer's calls, chosen by the
+   bytes. Any broken promise aborts. */
 #include <stdlib.h>
 #include <string.h>
 
 #include "agree.h"
 #include "bai2.h"
-#include "block.h"
 #include "export.h"
 #include "mend.h"
 #include "outline.h"
@@ -47,21 +46,8 @@ static void press_and_draw(const view *v, FILE *to, size_t which)
     v->draw(v->state, &c);
 }
 
-/* A refusal can be told and shown, in the row that it stands in, with its field where it is one of sums
-   and counts. */
-static void try_telling(refused_file r, FILE *to)
-{
-    refusal_screen screen;
-    line l = refused_row(&r);
-    bool of_sums = r.number >= BAI2_AMOUNTS_TOO_LARGE && r.number <= BAI2_SUM_TOO_LARGE;
-    must_hold(of_sums == (*refused_field(r.file, r.number, r.place) != '\0'));
-    must_hold(l.start <= r.place && r.place <= l.next);
-    tell_refusal(to, &r);
-    view v = open_refusal_view(&screen, r);
-    press_and_draw(&v, to, r.file.bytes.length);
-}
-
-/* A refused file: every call says so alike, and the refusal can be told. */
+/* A refused file: every call says so alike, and the refusal can be told and shown, with its field where
+   it is one of sums and counts. */
 static void try_refused(slice file, bai2_summary s, FILE *to)
 {
     must_hold(s.place <= file.length && s.total == 0 && s.records == 0);
@@ -71,7 +57,12 @@ static void try_refused(slice file, bai2_summary s, FILE *to)
     must_hold(d.number == s.number && d.place == s.place && d.text_length == 0);
     bai2_item i = bai2_item_of(file.bytes, file.length, 0, 0, 0);
     must_hold(i.number == s.number && i.place == s.place && i.amount_form == BAI2_AMOUNT_EMPTY);
-    try_telling(refuse("file", file, false, s.number, s.place), to);
+    bool of_sums = s.number >= BAI2_AMOUNTS_TOO_LARGE && s.number <= BAI2_SUM_TOO_LARGE;
+    must_hold(of_sums == (*refused_field(file, s.number, (size_t)s.place) != '\0'));
+    tell_refusal(to, "file", file, s.number, s.place);
+    refusal_screen screen;
+    view v = open_refusal_view(&screen, "file", file, s.number, s.place);
+    press_and_draw(&v, to, file.length);
 }
 
 /* A split for this receiver: accepted, with some of the groups, and unchanged by a second split. */
@@ -158,26 +149,7 @@ static void try_file(slice file)
         try_accepted(file, s, nowhere());
 }
 
-/* Tries the bytes as a file of blocks: its lines say what it says, or its refusal can be told. */
-static void try_blocks(slice file)
-{
-    bai2_summary s = judge(file, true);
-    must_hold(block_calls_agree(file, s));
-    if (s.number != 0)
-        try_telling(refuse("file", file, true, s.number, s.place), nowhere());
-}
-
-/* Tries the lines made into blocks, which say what the lines say. */
-static void try_in_blocks(slice lines)
-{
-    slice blocks = blocks_of(lines);
-    bai2_summary s = judge(lines, false);
-    try_blocks(blocks);
-    must_hold(s.number != 0 || blocks.length == 0 || same_summary(s, judge(blocks, true)));
-    free((void *)(uintptr_t)blocks.bytes);
-}
-
-/* Tries the bytes as they are, with mended trailers, both also in blocks, and as calls of the writer. */
+/* Tries the bytes as they are, with mended trailers, and as calls of the writer. */
 int LLVMFuzzerTestOneInput(const uint8_t *data, size_t size)
 {
     if (size > LONGEST_INPUT)
@@ -186,9 +158,6 @@ int LLVMFuzzerTestOneInput(const uint8_t *data, size_t size)
     slice mended = mend(file);
     try_file(file);
     try_file(mended);
-    try_blocks(file);
-    try_in_blocks(file);
-    try_in_blocks(mended);
     must_hold(writer_keeps_promises(file));
     free((void *)(uintptr_t)mended.bytes);
     return 0;

@@ -1,10 +1,10 @@
 /* The harness: asks the oracle and the library the same about generated files, and about type codes.
-     compare read|customised|split|combine|parts|writer|amounts|records|blocks|codes N SEED [CORPUS]
+     compare read|customised|split|combine|parts|writer|amounts|records|codes N SEED [CORPUS]
      compare big [CORPUS]
      compare files FILE...
    At the first difference it prints one line, keeps the input in the folder CORPUS, and ends with
    status 1. Otherwise the last line says how many files, details and items, starts of records or
-   numbers were asked about, or how many calls were made. */
+   numbers were asked about. */
 #include <inttypes.h>
 #include <stdio.h>
 #include <stdlib.h>
@@ -12,7 +12,7 @@
 
 #include "compare.h"
 
-enum { HUGE = 1 << 22, LONGEST_TRAILER = 64 /* no fresh 99 has more bytes */ };
+enum { NUMBERS = 21, HUGE = 1 << 22, LONGEST_TRAILER = 64 /* no fresh 99 has more bytes */ };
 
 static guarded file_memory[2], name_memory;
 static buffer made;
@@ -254,28 +254,10 @@ static int compare_records(uint64_t count, uint64_t seed, const char *corpus)
     return 0;
 }
 
-/* Compares at least N calls on generated files of blocks; a good one must be accepted. */
-static int compare_blocks(uint64_t count, uint64_t seed, const char *corpus)
-{
-    uint64_t calls = 0;
-    for (uint64_t i = 0; calls < count; i++) {
-        dice d = dice_for("blocks", seed, i, corpus);
-        bool good = generate_blocks(&d, &made);
-        slice file = lend(&file_memory[0], made.bytes, made.length);
-        name_inputs(file, (slice){0});
-        bai2_summary s = ask_blocks(&d, file, &calls);
-        must_hold("a good file of blocks is accepted", !good || s.number == 0);
-    }
-    print_blocks();
-    printf("compare blocks: %" PRIu64 " calls, 0 differences\n", calls);
-    return 0;
-}
-
 /* Compares a file that a path names. */
 static void compare_file(const char *path, uint64_t index)
 {
     uint8_t block[4096];
-    uint64_t calls = 0;
     FILE *file = fopen(path, "rb");
     if (file == NULL) {
         perror(path);
@@ -293,7 +275,6 @@ static void compare_file(const char *path, uint64_t index)
     for (int i = 0; i < 30; i++)
         ask_split(some_name(&d), lent, ample(lent.length));
     ask_combine(lent, lent, 2 * ample(lent.length));
-    ask_blocks(&d, lent, &calls);
 }
 
 /* Compares the files that the paths name. */
@@ -308,8 +289,7 @@ static int compare_files(int count, char **paths)
 /* Says how to call the program. */
 static int usage(void)
 {
-    fputs("usage: compare read|customised|split|combine|parts|writer|amounts|records|blocks|codes N SEED "
-          "[CORPUS]\n"
+    fputs("usage: compare read|customised|split|combine|parts|writer|amounts|records|codes N SEED [CORPUS]\n"
           "       compare big [CORPUS]\n"
           "       compare files FILE...\n", stderr);
     return 2;
@@ -337,8 +317,6 @@ int main(int count, char **arguments)
         return compare_amounts(asked, seed, corpus);
     if (strcmp(arguments[1], "records") == 0)
         return compare_records(asked, seed, corpus);
-    if (strcmp(arguments[1], "blocks") == 0)
-        return compare_blocks(asked, seed, corpus);
     if (strcmp(arguments[1], "codes") == 0)
         return compare_codes(asked, seed);
     for (size_t i = 0; i < sizeof modes / sizeof *modes; i++)

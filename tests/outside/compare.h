@@ -9,7 +9,6 @@
 enum {
     LONGEST_FILE = 16777216,
     LONGEST_OUTPUT = 8 * LONGEST_FILE, /* bytes; those that are never asked for cost nothing */
-    NUMBERS = 22,  /* of refusals, 0 is accepted */
     FRINGE = 64,   /* bytes in front of and after an output slice that must stay as they were */
     PATTERN = 0xA5 /* what output slices hold before a call */
 };
@@ -26,8 +25,6 @@ typedef struct {
     __typeof__(bai2_code_of) *code_of;
     __typeof__(bai2_split) *split;
     __typeof__(bai2_combine) *combine;
-    __typeof__(bai2_read_blocks) *read_blocks;
-    __typeof__(bai2_blocks_to_lines) *blocks_to_lines;
     __typeof__(bai2_writer_new) *writer_new;
     __typeof__(bai2_write_header) *write_header;
     __typeof__(bai2_write_group) *write_group;
@@ -68,8 +65,6 @@ bai2_item ask_item(slice file, uint64_t group, uint64_t account, uint64_t item);
 void ask_all_parts(dice *d, slice file);
 bai2_answer ask_split(slice name, slice file, size_t out_length);
 bai2_combined ask_combine(slice a, slice b, size_t out_length);
-bai2_summary ask_read_blocks(slice file);
-bai2_answer ask_conversion(slice file, size_t out_length);
 const uint8_t *last_result(void);
 bai2_record ask_record(slice file, uint64_t start);
 bai2_fields ask_fields(slice file, uint64_t start, size_t out_length);
@@ -80,14 +75,12 @@ typedef struct {
     uint64_t details, items;
 } told;
 
-/* compare_amounts.c, compare_records.c, compare_blocks.c, compare_codes.c, compare_writer.c, compare_big.c */
+/* compare_amounts.c, compare_records.c, compare_codes.c, compare_writer.c, compare_big.c */
 told ask_amounts(dice *d, slice file);
 void print_forms(void);
 uint64_t ask_starts(dice *d, slice file, bai2_summary verdict, uint64_t *numbers);
 void print_kinds(void);
 void print_types(void);
-bai2_summary ask_blocks(dice *d, slice file, uint64_t *calls);
-void print_blocks(void);
 int compare_codes(uint64_t count, uint64_t seed);
 void compare_writer(dice *d, uint64_t *numbers);
 uint64_t compare_big(void);

@@ -14,7 +14,6 @@
 const side oracle = {
     oracle_read, oracle_group, oracle_account, oracle_detail_of, oracle_item_of, oracle_record_at,
     oracle_fields_at, oracle_code_of, oracle_split, oracle_combine,
-    oracle_read_blocks, oracle_blocks_to_lines,
     oracle_writer_new, oracle_write_header, oracle_write_group, oracle_write_account,
     oracle_write_item, oracle_write_detail, oracle_write_end_account, oracle_write_end_group,
     oracle_write_end_file};
@@ -22,7 +21,6 @@ const side oracle = {
 const side library = {
     bai2_read, bai2_group, bai2_account, bai2_detail_of, bai2_item_of, bai2_record_at,
     bai2_fields_at, bai2_code_of, bai2_split, bai2_combine,
-    bai2_read_blocks, bai2_blocks_to_lines,
     bai2_writer_new, bai2_write_header, bai2_write_group, bai2_write_account,
     bai2_write_item, bai2_write_detail, bai2_write_end_account, bai2_write_end_group,
     bai2_write_end_file};
@@ -266,7 +264,7 @@ static void same_outputs(const char *call, const uint8_t *one, const uint8_t *ot
 
 static const uint8_t *result;
 
-/* Where the oracle's last split, combination, lines or fields stand. */
+/* Where the oracle's last split, combination or fields stand. */
 const uint8_t *last_result(void)
 {
     return result;
@@ -295,30 +293,6 @@ bai2_combined ask_combine(slice a, slice b, size_t out_length)
     bai2_combined other = library.combine(a.bytes, a.length, b.bytes, b.length, other_out, out_length);
     SAME("combine", one, other);
     same_outputs("combine", one_out, other_out, out_length, (size_t)one.length);
-    result = one_out;
-    return one;
-}
-
-/* Asks both to read a file of blocks; the oracle's answer. */
-bai2_summary ask_read_blocks(slice file)
-{
-    bai2_summary one = oracle.read_blocks(file.bytes, file.length);
-    bai2_summary other = library.read_blocks(file.bytes, file.length);
-    SAME("read blocks", one, other);
-    return one;
-}
-
-/* Asks both to convert a file of blocks to lines, into so many bytes; none are NULL. The oracle's answer. */
-bai2_answer ask_conversion(slice file, size_t out_length)
-{
-    uint8_t *one_out, *other_out;
-    fresh_outputs(out_length, &one_out, &other_out);
-    bai2_answer one =
-        oracle.blocks_to_lines(file.bytes, file.length, out_length == 0 ? NULL : one_out, out_length);
-    bai2_answer other =
-        library.blocks_to_lines(file.bytes, file.length, out_length == 0 ? NULL : other_out, out_length);
-    SAME("blocks to lines", one, other);
-    same_outputs("blocks to lines", one_out, other_out, out_length, (size_t)one.length);
     result = one_out;
     return one;
 }

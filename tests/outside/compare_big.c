@@ -1,5 +1,5 @@
-/* Files at the bound of 16,777,216 bytes: lines, records, groups and blocks of every size that fits; and
-   records beyond it, which are handed out all the same. */
+/* Files at the bound of 16,777,216 bytes: lines, records and groups of every size that fits; and records
+   beyond it, which are handed out all the same. */
 #include <inttypes.h>
 #include <stdio.h>
 #include <string.h>
@@ -53,13 +53,12 @@ static void add_trailers(buffer *b, size_t details, size_t lines)
     add_row(b, "99,%zu,1,%zu/\n", details, lines + 6);
 }
 
-/* A good file of exactly `length` bytes under that header with so many details; each line is as long as
-   it must be. */
-static void make_under(const char *first, buffer *b, size_t length, size_t details)
+/* A good file of exactly `length` bytes with so many details; each line is as long as it must be. */
+static void make_exact(buffer *b, size_t length, size_t details)
 {
     buffer trailers = {0};
     clear(b);
-    add_text(b, first);
+    add_text(b, header);
     add_text(b, group);
     add_trailers(&trailers, details, details);
     size_t left = length - b->length - trailers.length;
@@ -73,12 +72,6 @@ static void make_under(const char *first, buffer *b, size_t length, size_t detai
     }
     add_bytes(b, trailers.bytes, trailers.length);
     release(&trailers);
-}
-
-/* The same under the header without an L. */
-static void make_exact(buffer *b, size_t length, size_t details)
-{
-    make_under(header, b, length, details);
 }
 
 /* Bytes that are no file. */
@@ -290,71 +283,6 @@ static void many_groups(buffer *b)
               ask_split(name, file, LONGEST_FILE).length > (sizeof one - 1) * groups / 2);
 }
 
-/* Reads a file of blocks and holds the answer against the one that was worked out. */
-static slice read_blocks_as(const char *what, const buffer *b, uint64_t number, uint64_t place)
-{
-    slice file = lent(0, b);
-    asked++;
-    name_inputs(file, (slice){0});
-    bai2_summary s = ask_read_blocks(file);
-    printf("%s: %" PRIu64 " %" PRIu64 "\n", what, s.number, s.place);
-    must_hold(what, s.number == number && s.place == place);
-    return file;
-}
-
-/* The refusal of a conversion into so many bytes. */
-static uint64_t conversion(slice file, size_t out_length)
-{
-    return ask_conversion(file, out_length).number;
-}
-
-/* Blocks of L bytes, under a header that says so, up to the bound: their lines are those that they were
-   made of. Then one byte more, and one less. */
-static void full_blocks(const char *what, buffer *b, const char *first, size_t limit, size_t length)
-{
-    buffer lines = {0};
-    make_under(first, &lines, length, LONGEST_FILE / limit - 6);
-    fill_blocks(b, &lines, limit);
-    slice file = read_blocks_as(what, b, 0, 0);
-    must_hold("they are up to the bound", b->length == LONGEST_FILE);
-    must_hold("they become their lines", ask_conversion(file, length).length == length);
-    must_hold("byte for byte", memcmp(last_result(), lines.bytes, length) == 0);
-    must_hold("one byte short is 15", conversion(file, length - 1) == 15);
-    add_byte(b, ' ');
-    file = read_blocks_as("one byte more", b, 2, 0);
-    must_hold("its conversion", conversion(file, FRINGE) == 2);
-    b->length -= 2;
-    file = read_blocks_as("one byte less", b, 21, LONGEST_FILE - limit);
-    must_hold("its conversion", conversion(file, FRINGE) == 21);
-    release(&lines);
-}
-
-/* Blocks at the bound, and blocks whose lines are at it: their LFs make them longer than the blocks. */
-static void big_blocks(buffer *b)
-{
-    static const char short_header[] = "01,SENDER,RECEIVER,040621,0200,1,48,,2/\n";
-    buffer lines = {0};
-    full_blocks("262,144 blocks of 64 bytes", b, "01,SENDER,RECEIVER,040621,0200,1,64,,2/\n", 64, 9000000);
-    full_blocks("4,096 blocks of 4,096 bytes", b, "01,SENDER,RECEIVER,040621,0200,1,4096,,2/\n", 4096, 16700000);
-    make_under(short_header, &lines, LONGEST_FILE, 342500);
-    fill_blocks(b, &lines, 48);
-    slice file = read_blocks_as("342,506 blocks of 48 bytes", b, 0, 0);
-    must_hold("their lines are up to the bound", ask_conversion(file, LONGEST_FILE).length == LONGEST_FILE);
-    must_hold("byte for byte", memcmp(last_result(), lines.bytes, LONGEST_FILE) == 0);
-    must_hold("one byte short is 15", conversion(file, LONGEST_FILE - 1) == 15);
-    make_under(short_header, &lines, LONGEST_FILE + 1, 342500);
-    fill_blocks(b, &lines, 48);
-    file = read_blocks_as("one byte more of a text", b, 0, 0);
-    must_hold("their lines are over the bound", conversion(file, LONGEST_FILE + 100) == 18);
-    must_hold("18 comes before 15", conversion(file, 0) == 18);
-    make_under(short_header, &lines, 17126577, 349519);
-    fill_blocks(b, &lines, 48);
-    file = read_blocks_as("349,525 blocks of 48 bytes, all details full", b, 0, 0);
-    must_hold("their lines are far over it", conversion(file, 2 * LONGEST_FILE) == 18);
-    must_hold("18 comes before 15", conversion(file, 100) == 18);
-    release(&lines);
-}
-
 /* Writers that have written almost all they may. */
 static void big_writers(void)
 {
@@ -393,7 +321,6 @@ uint64_t compare_big(void)
     big_combinations(&b);
     big_parts(&b);
     many_groups(&b);
-    big_blocks(&b);
     big_writers();
     release(&b);
     return asked;

@@ -8,7 +8,7 @@ enum { LONGEST_FILE = 16777216 };
 #define NAME_76 "0123456789 123456789 123456789 123456789 123456789 123456789 123456789 12345"
 
 /* Takes bytes out of a file and puts others in their place. */
-void replace(buffer *b, size_t at, size_t out_length, const void *in, size_t in_length)
+static void replace(buffer *b, size_t at, size_t out_length, const uint8_t *in, size_t in_length)
 {
     buffer tail = {0};
     add_bytes(&tail, b->bytes + at + out_length, b->length - at - out_length);
@@ -36,7 +36,7 @@ static size_t some_line(dice *d, const buffer *b)
 }
 
 /* Where the line that starts here ends, its LF included. */
-size_t line_end(const buffer *b, size_t at)
+static size_t line_end(const buffer *b, size_t at)
 {
     const uint8_t *lf = memchr(b->bytes + at, '\n', b->length - at);
     return lf == NULL ? b->length : (size_t)(lf - b->bytes) + 1;
@@ -52,7 +52,7 @@ static size_t some_digit(dice *d, const buffer *b)
 }
 
 /* Changes one byte. */
-void change_byte(dice *d, buffer *b)
+static void change_byte(dice *d, buffer *b)
 {
     size_t at = (size_t)roll(d, b->length);
     if (chance(d, 300))
@@ -62,20 +62,20 @@ void change_byte(dice *d, buffer *b)
 }
 
 /* Takes a byte out. */
-void delete_byte(dice *d, buffer *b)
+static void delete_byte(dice *d, buffer *b)
 {
     replace(b, (size_t)roll(d, b->length), 1, NULL, 0);
 }
 
 /* Puts a byte in. */
-void insert_byte(dice *d, buffer *b)
+static void insert_byte(dice *d, buffer *b)
 {
     uint8_t byte = telling_byte(d);
     replace(b, (size_t)roll(d, b->length + 1), 0, &byte, 1);
 }
 
 /* Makes a digit another one. */
-void change_digit(dice *d, buffer *b)
+static void change_digit(dice *d, buffer *b)
 {
     size_t at = some_digit(d, b);
     if (at < b->length)
@@ -140,7 +140,7 @@ static void insert_line(dice *d, buffer *b)
         at = 0;
     if (chance(d, 200))
         at = b->length;
-    replace(b, at, 0, row, strlen(row));
+    replace(b, at, 0, (const uint8_t *)row, strlen(row));
 }
 
 /* Puts a CR in front of a line's end, or somewhere. */
@@ -149,7 +149,7 @@ static void insert_cr(dice *d, buffer *b)
     size_t at = line_end(b, some_line(d, b)) - 1;
     if (chance(d, 200))
         at = (size_t)roll(d, b->length + 1);
-    replace(b, at, 0, "\r", 1);
+    replace(b, at, 0, (const uint8_t *)"\r", 1);
 }
 
 /* Makes a line 4,096 or 4,097 bytes long with blanks at its end. */
@@ -206,7 +206,7 @@ static void damage_field(dice *d, buffer *b)
         start--;
     while (end < b->length && !ends_field(b->bytes[end]))
         end++;
-    replace(b, start, end - start, field, strlen(field));
+    replace(b, start, end - start, (const uint8_t *)field, strlen(field));
 }
 
 /* Puts other fields in the place of some of a file's: about one for two lines. */

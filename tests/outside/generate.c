@@ -25,7 +25,6 @@ typedef struct {
     buffer *out;
     size_t limit; /* the longest line allowed */
     bool limit_given;
-    size_t longest_name;
     size_t line_start, fields; /* of the line in the making */
     unsigned breaks, crlfs, blanks, large; /* of a thousand: 88s, CR LFs, blanks after slashes, amounts */
     uint64_t budget; /* magnitudes that may still come */
@@ -174,23 +173,14 @@ static void put_number(maker *m, const char *sign, uint64_t value, int longest)
     put_digits(m, sign, value, width);
 }
 
-/* Whether a name may fill the line but for a comma before it and the slash after it: now and then, in a
-   file of blocks. */
-static bool may_fill_line(maker *m)
-{
-    return m->dice->limit != 0 && room(m) > 2 && room(m) - 2 <= m->longest_name && chance(m->dice, 400);
-}
-
 /* Adds a name of a length that the limit allows. */
 static void put_name(maker *m, size_t shortest)
 {
     buffer name = {0};
-    size_t longest = m->longest_name;
-    size_t length = chance(m->dice, 50) ? longest : between(m->dice, 1, longest < 12 ? longest : 12);
+    size_t longest = m->limit - 4 < 76 ? m->limit - 4 : 76;
+    size_t length = chance(m->dice, 50) ? longest : between(m->dice, 1, 12);
     if (chance(m->dice, 100))
         length = shortest;
-    if (may_fill_line(m))
-        length = room(m) - 2;
     if (slips(m, LONG_NAME))
         length = 77;
     if (slips(m, EMPTY_NAME))
@@ -484,7 +474,7 @@ static void put_piece(maker *m)
     static const char bytes[] = "ABCDEFGHIJKLMNOPQRSTUVWXYZ abc ,,//,88,16,49/0123456789~.-+";
     size_t longest = room(m);
     size_t length = between(m->dice, 1, longest < 30 ? longest : 30);
-    if (chance(m->dice, m->dice->limit != 0 ? 200 : 20))
+    if (chance(m->dice, 20))
         length = longest;
     if (slips(m, BAD_TEXT)) {
         add_text(m->out, PICK(m->dice, "/A", "//", "", " ", "   ", "/ /", "/,"));
@@ -627,22 +617,9 @@ static void put_limit(maker *m)
     }
 }
 
-/* Has the header's fields up to the block size stand in its first line, by names that are short enough:
-   the others take 42 bytes at most. */
-static void keep_in_line(maker *m)
-{
-    size_t longest = (m->limit - 42) / 2;
-    m->breaks = 0;
-    if (longest < m->longest_name)
-        m->longest_name = longest;
-}
-
 /* Adds the 01. */
 static void put_header(maker *m)
 {
-    const maker style = *m;
-    if (m->dice->limit != 0)
-        keep_in_line(m);
     start_line(m, "01");
     put_name(m, 1);
     put_name(m, 1);
@@ -654,8 +631,6 @@ static void put_header(maker *m)
         put(m, "");
     else
         put_number(m, "", roll(m->dice, 1000), 9);
-    m->breaks = style.breaks;
-    m->longest_name = style.longest_name;
     put(m, slips(m, BAD_VERSION) ? PICK(m->dice, "3", "1", "", "02", "2 ", " 2", "22") : "2");
     end_by_slash(m);
 }
@@ -669,11 +644,6 @@ static maker new_maker(dice *d, buffer *out)
     m.limit_given = chance(d, 400);
     if (m.limit_given)
         m.limit = chance(d, 800) ? limits[roll(d, 8)] : between(d, 48, 4096);
-    if (d->limit != 0) {
-        m.limit_given = true;
-        m.limit = d->limit;
-    }
-    m.longest_name = m.limit - 4 < 76 ? m.limit - 4 : 76;
     m.breaks = per_thousand[roll(d, 5)];
     m.crlfs = per_thousand[roll(d, 5)];
     m.blanks = per_thousand[roll(d, 4)];
@@ -682,18 +652,10 @@ static maker new_maker(dice *d, buffer *out)
     return m;
 }
 
-/* How many sizes a file may have of a hundred, from small to large; large blocks ask for small ones. */
-static uint64_t sizes_of(const dice *d)
-{
-    if (d->amounts || d->limit > 200)
-        return 45;
-    return d->limit != 0 ? 90 : 100;
-}
-
 /* Adds the file's groups: mostly few, now and then many. */
 static void put_groups(maker *m)
 {
-    size_t size = roll(m->dice, sizes_of(m->dice));
+    size_t size = roll(m->dice, m->dice->amounts ? 45 : 100);
     size_t most_groups = size < 40 ? 1 : size < 90 ? 4 : size < 99 ? 8 : 30;
     size_t most_accounts = size < 40 ? 2 : size < 90 ? 3 : size < 99 ? 6 : 12;
     size_t most_details = size < 40 ? 2 : size < 90 ? 3 : size < 99 ? 10 : 20;

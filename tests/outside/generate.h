@@ -12,7 +12,6 @@ typedef struct {
     uint64_t state;
     bool customised; /* most types of the files are of 890 to 930, some of 900 to 999 */
     bool amounts;    /* the files are small, and most of their amounts and counts of a form to tell apart */
-    size_t limit;    /* the L that the files give, in their first line, to be made files of blocks; 0: any L */
 } dice;
 
 dice dice_of(uint64_t seed);
@@ -38,12 +37,6 @@ void generate_good(dice *d, buffer *out);
 /* Any file: good, with a slip, or damaged. True where it is surely good. */
 bool generate_any(dice *d, buffer *out);
 
-/* Any file of blocks: good, with a slip, damaged, or of lines after all. True where it is surely good. */
-bool generate_blocks(dice *d, buffer *out);
-
-/* Makes a file of blocks of a file of lines, each filled with blanks to a whole number of blocks. */
-void fill_blocks(buffer *out, const buffer *lines, size_t limit);
-
 /* A receiver's name from those that the generated groups carry, not the empty one. */
 void generate_receiver(dice *d, buffer *out);
 
@@ -53,14 +46,8 @@ void generate_name(dice *d, buffer *out, size_t length);
 /* Puts other fields in the place of some of a file's. */
 void damage_fields(dice *d, buffer *file);
 
-/* What generate.c, damage.c and blocks.c share. */
+/* What generate.c and damage.c share. */
 void generate_with_slip(dice *d, buffer *out);
 void damage(dice *d, buffer *file);
-void replace(buffer *b, size_t at, size_t out_length, const void *in, size_t in_length);
-size_t line_end(const buffer *b, size_t at);
-void change_byte(dice *d, buffer *b);
-void change_digit(dice *d, buffer *b);
-void delete_byte(dice *d, buffer *b);
-void insert_byte(dice *d, buffer *b);
 
 #endif

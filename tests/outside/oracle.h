@@ -33,11 +33,6 @@ bai2_combined oracle_combine(const uint8_t *a, size_t a_length,
                              const uint8_t *b, size_t b_length,
                              uint8_t *out, size_t out_length);
 
-bai2_summary oracle_read_blocks(const uint8_t *file, size_t file_length);
-
-bai2_answer oracle_blocks_to_lines(const uint8_t *file, size_t file_length,
-                                   uint8_t *out, size_t out_length);
-
 bai2_writer oracle_writer_new(void);
 
 bai2_written oracle_write_header(bai2_writer writer,

@@ -10,8 +10,6 @@
 #include "bai2.h"
 
 enum {
-    LONGEST_LINE = 4096,
-    SHORTEST_LIMIT = 48, /* the smallest L that a header may give */
     LONGEST_NAME = 76,
     LONGEST_AMOUNT = 18, /* digits */
     LONGEST_COUNT = 9    /* digits */
@@ -76,12 +74,6 @@ static inline bool is_optional_number(slice field, size_t longest)
 {
     uint64_t value;
     return field.length == 0 || is_number(field, longest, &value);
-}
-
-/* Whether the field is an L of 1 to 4 digits; its value goes to `limit`. */
-static inline bool is_limit(slice field, uint64_t *limit)
-{
-    return is_number(field, 4, limit) && *limit >= SHORTEST_LIMIT && *limit <= LONGEST_LINE;
 }
 
 /* Whether a name's length is right; `shortest` is 0 for the names that may be empty. */

@@ -1,5 +1,6 @@
 /* Records and fields handed out (document 01, "Lines and records" and "Fields"), from any place of any
    bytes: refusals 5, 7, 8, 9, 15 and 17. */
+#include "oracle_lines.h"
 #include "oracle_walk.h"
 
 /* Judges a start: 17 where no byte is there, 5 where the line there has no code. */

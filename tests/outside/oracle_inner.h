@@ -7,6 +7,8 @@
 
 enum {
     LONGEST_FILE = 16777216,
+    LONGEST_LINE = 4096,
+    SHORTEST_LIMIT = 48, /* the smallest L that a header may give */
     LONGEST_TRAILER = 64 /* room enough for a fresh 49, 98 or 99 */
 };
 
@@ -49,7 +51,7 @@ typedef struct {
     uint64_t count;
 } posting;
 
-/* One line of a file, or one block: its bytes without the line end, and where the next one starts. */
+/* One line of a file: its bytes without the line end, and where the next one starts. */
 typedef struct {
     size_t start, end, next;
 } line;
@@ -58,7 +60,6 @@ typedef struct {
 typedef struct {
     record_code code;
     size_t start, end;   /* its bytes, line ends included */
-    size_t block;        /* the size of the file's blocks, or 0 */
     uint64_t lines;
     size_t longest_line; /* without its end */
     uint64_t limit;      /* 01: L, or 0 where it gives none */
@@ -78,7 +79,6 @@ typedef struct {
 typedef struct {
     const uint8_t *file;
     size_t length;
-    size_t block; /* the size of its blocks; 0: it has lines */
     size_t next;  /* where the next record starts */
     size_t limit; /* the longest line allowed: L once known, else 4,096 */
     file_phase phase;
@@ -92,7 +92,6 @@ typedef struct {
 line oracle_line_at(const uint8_t *file, size_t length, size_t start);
 reader oracle_open(const uint8_t *file, size_t length);
 bool oracle_next_record(reader *r, record *rec);
-bai2_summary oracle_read_all(reader r);
 bool oracle_in_turn(file_phase phase, record_code code, file_phase *next);
 uint64_t oracle_magnitudes(const tally *t);
 int64_t oracle_sum(const tally *t);

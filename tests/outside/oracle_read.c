@@ -73,9 +73,9 @@ static refusal check_line(const reader *r, line l)
 static refusal find_record(const reader *r, record *rec)
 {
     size_t at = r->next;
-    *rec = (record){.start = at, .block = r->block, .asked = r->asked};
+    *rec = (record){.start = at, .asked = r->asked};
     do {
-        line l = line_or_block_at(r->file, r->length, at, r->block);
+        line l = oracle_line_at(r->file, r->length, at);
         refusal fault = check_line(r, l);
         if (fault.number != 0)
             return fault;
@@ -109,7 +109,7 @@ bool oracle_in_turn(file_phase phase, record_code code, file_phase *next)
 static refusal check_header_lines(const reader *r, const record *rec)
 {
     for (size_t at = rec->start; at < rec->end;) {
-        line l = line_or_block_at(r->file, rec->end, at, r->block);
+        line l = oracle_line_at(r->file, rec->end, at);
         if (l.end - l.start > rec->limit)
             return (refusal){3, l.start + rec->limit};
         at = l.next;
@@ -212,9 +212,10 @@ bool oracle_next_record(reader *r, record *rec)
     return r->refusal.number == 0;
 }
 
-/* Reads on to the end: the verdict on a file, and an accepted file's summary. */
-bai2_summary oracle_read_all(reader r)
+/* The verdict on a file, and an accepted file's summary. */
+bai2_summary oracle_read(const uint8_t *file, size_t file_length)
 {
+    reader r = oracle_open(file, file_length);
     record rec;
     while (oracle_next_record(&r, &rec))
         continue;
@@ -222,10 +223,4 @@ bai2_summary oracle_read_all(reader r)
         return (bai2_summary){.number = r.refusal.number, .place = r.refusal.place};
     return (bai2_summary){0, 0, oracle_sum(&r.whole), r.whole.groups, r.whole.accounts,
                           r.whole.details, r.whole.lines};
-}
-
-/* The verdict on a file of lines. */
-bai2_summary oracle_read(const uint8_t *file, size_t file_length)
-{
-    return oracle_read_all(oracle_open(file, file_length));
 }

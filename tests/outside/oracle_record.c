@@ -7,7 +7,7 @@ refusal oracle_walk_fields(const uint8_t *file, uint64_t magnitudes, record *rec
     walk w = {.file = file, .rec = rec, .wanted = first_field(rec->code),
               .magnitudes = magnitudes};
     for (size_t at = rec->start; at < rec->end;) {
-        line l = line_or_block_at(file, rec->end, at, rec->block);
+        line l = oracle_line_at(file, rec->end, at);
         refusal fault = walk_line(&w, l, NULL);
         if (fault.number != 0)
             return fault;

@@ -4,7 +4,7 @@
 #ifndef ORACLE_WALK_H
 #define ORACLE_WALK_H
 
-#include "oracle_lines.h"
+#include "oracle_inner.h"
 
 /* Which field is wanted next. */
 typedef enum {
@@ -98,7 +98,7 @@ static bool take_limit(walk *w, slice field)
     uint64_t limit;
     if (field.length == 0)
         return true;
-    if (!is_limit(field, &limit))
+    if (!is_number(field, 4, &limit) || limit < SHORTEST_LIMIT || limit > LONGEST_LINE)
         return false;
     w->rec->limit = limit;
     return true;
@@ -335,6 +335,14 @@ static want take_field(walk *w, slice field)
     case DETAIL: return detail_field(w, field);
     default: return trailer_field(w, field);
     }
+}
+
+/* Where the blanks at the end of file[start..end) begin. */
+static size_t trimmed(const uint8_t *file, size_t start, size_t end)
+{
+    while (end > start && file[end - 1] == ' ')
+        end--;
+    return end;
 }
 
 /* Judges a line from the text's place on: no text, or one piece. */

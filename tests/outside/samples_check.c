@@ -1,6 +1,5 @@
 /* Asks the oracle about every sample file and holds the answers against the expected ones.
-   Usage: samples_check lines|blocks FOLDER, where FOLDER/stdout has the answers and FOLDER/data the files; of
-   blocks also the lines that they are converted to */
+   Usage: samples_check FOLDER, where FOLDER/stdout has the answers and FOLDER/data the files */
 #include <inttypes.h>
 #include <stdio.h>
 #include <stdlib.h>
@@ -8,9 +7,9 @@
 
 #include "oracle.h"
 
-enum { LONGEST_SAMPLE = 1 << 20, LONGEST_ROW = 512, ROOM = 131072 };
+enum { LONGEST_SAMPLE = 1 << 20, LONGEST_ROW = 512 };
 
-static uint8_t sample[LONGEST_SAMPLE], converted[ROOM], expected_lines[ROOM];
+static uint8_t sample[LONGEST_SAMPLE];
 
 /* Reads a whole sample; answers its length, or ends the program. */
 static size_t load(const char *folder, const char *name)
@@ -27,52 +26,21 @@ static size_t load(const char *folder, const char *name)
     return length;
 }
 
-/* Writes the verdict of a reader as the list has it. */
-static void verdict_for(__typeof__(bai2_read) *read, size_t length, char *answer)
+/* Writes the answer as the list has it. */
+static void answer_for(size_t length, char *answer, size_t room)
 {
-    bai2_summary s = read(sample, length);
+    bai2_summary s = oracle_read(sample, length);
     if (s.number != 0)
-        snprintf(answer, LONGEST_ROW, "refused %" PRIu64 " %" PRIu64, s.number, s.place);
+        snprintf(answer, room, "refused %" PRIu64 " %" PRIu64, s.number, s.place);
     else
-        snprintf(answer, LONGEST_ROW, "ok %" PRId64 " %" PRIu64 " %" PRIu64 " %" PRIu64 " %" PRIu64,
+        snprintf(answer, room, "ok %" PRId64 " %" PRIu64 " %" PRIu64 " %" PRIu64 " %" PRIu64,
                  s.total, s.groups, s.accounts, s.details, s.records);
 }
 
-/* Whether the oracle says what is expected. */
-static int same(const char *what, const char *expected, const char *answer)
-{
-    if (strcmp(answer, expected) == 0)
-        return 1;
-    printf("%s: expected '%s', the oracle says '%s'\n", what, expected, answer);
-    return 0;
-}
-
-/* Whether the sample becomes the lines that come next in the list, of the length that the row's last number
-   gives. */
-static int lines_hold(const char *name, const char *row, size_t length, FILE *list)
+/* Checks one row `NAME: ANSWER`; answers whether the oracle says the same. */
+static int row_holds(const char *folder, char *row)
 {
     char answer[LONGEST_ROW];
-    const char *last = strrchr(row, ' ');
-    size_t wanted = last == NULL ? 0 : strtoull(last, NULL, 10);
-    if (wanted > ROOM || fread(expected_lines, 1, wanted, list) != wanted) {
-        printf("%s: the list ends in its lines\n", name);
-        return 0;
-    }
-    bai2_answer a = oracle_blocks_to_lines(sample, length, converted, ROOM);
-    snprintf(answer, sizeof answer, "%" PRIu64 " %" PRIu64 " %" PRIu64, a.number, a.place, a.length);
-    if (!same(name, row, answer))
-        return 0;
-    if (memcmp(converted, expected_lines, wanted) == 0)
-        return 1;
-    printf("%s: expected other lines\n", name);
-    return 0;
-}
-
-/* Checks a row `NAME: VERDICT`; of a file of blocks also the row after it, `NAME in lines: ANSWER`, and the
-   lines. Answers whether the oracle says the same. */
-static int row_holds(const char *folder, int blocks, char *row, FILE *list)
-{
-    char answer[LONGEST_ROW], next[LONGEST_ROW];
     row[strcspn(row, "\n")] = '\0';
     char *colon = strstr(row, ": ");
     if (colon == NULL) {
@@ -80,18 +48,12 @@ static int row_holds(const char *folder, int blocks, char *row, FILE *list)
         return 0;
     }
     *colon = '\0';
-    size_t length = load(folder, row);
-    verdict_for(blocks ? oracle_read_blocks : oracle_read, length, answer);
-    int holds = same(row, colon + 2, answer);
-    if (!blocks)
-        return holds;
-    if (fgets(next, sizeof next, list) == NULL || (colon = strstr(next, " in lines: ")) == NULL
-        || strncmp(row, next, (size_t)(colon - next)) != 0) {
-        printf("%s: its lines are not in the list\n", row);
-        return 0;
-    }
-    next[strcspn(next, "\n")] = '\0';
-    return lines_hold(row, colon + strlen(" in lines: "), length, list) && holds;
+    const char *expected = colon + 2;
+    answer_for(load(folder, row), answer, sizeof answer);
+    if (strcmp(answer, expected) == 0)
+        return 1;
+    printf("%s: expected '%s', the oracle says '%s'\n", row, expected, answer);
+    return 0;
 }
 
 /* Checks every row of the folder's list. */
@@ -99,22 +61,21 @@ int main(int count, char **arguments)
 {
     char path[2 * LONGEST_ROW], row[LONGEST_ROW];
     unsigned samples = 0, wrong = 0;
-    if (count != 3) {
-        fprintf(stderr, "usage: samples_check lines|blocks FOLDER\n");
+    if (count != 2) {
+        fprintf(stderr, "usage: samples_check FOLDER\n");
         return 2;
     }
-    int blocks = strcmp(arguments[1], "blocks") == 0;
-    snprintf(path, sizeof path, "%s/stdout", arguments[2]);
-    FILE *list = fopen(path, "r");
-    if (list == NULL) {
+    snprintf(path, sizeof path, "%s/stdout", arguments[1]);
+    FILE *expected = fopen(path, "r");
+    if (expected == NULL) {
         perror(path);
         return 2;
     }
-    while (fgets(row, sizeof row, list) != NULL) {
+    while (fgets(row, sizeof row, expected) != NULL) {
         samples++;
-        wrong += !row_holds(arguments[2], blocks, row, list);
+        wrong += !row_holds(arguments[1], row);
     }
-    fclose(list);
-    printf("samples of %s: %u files, %u differences\n", arguments[1], samples, wrong);
+    fclose(expected);
+    printf("samples: %u files, %u differences\n", samples, wrong);
     return wrong != 0;
 }

@@ -5,10 +5,7 @@
    BUG_PLACE_IN_RECORD, BUG_FAULT_IN_RECORD, BUG_NO_ROOM_WRITES, BUG_START_CUT; of type codes
    BUG_LEVEL_CHANGED, BUG_CODE_CUT; of customised ones BUG_900_NO_STATUS; of a detail's amount
    BUG_DETAIL_PLUS_LOST, BUG_DETAIL_EMPTY_AS_0; of items BUG_MINUS_AS_PLUS, BUG_PLUS_AS_UNSIGNED,
-   BUG_EMPTY_AS_0, BUG_MINUS_0_AS_UNSIGNED, BUG_FORM_OF_SECOND, BUG_COUNT_0_AS_NONE, BUG_ITEM_CUT; of
-   reading blocks BUG_BLOCK_CUT, BUG_CR_ENDS_BLOCK, BUG_BLANK_BLOCK_PASSED, BUG_MULTIPLE_ON,
-   BUG_FIFTH_COMMA, BUG_CUT_SHORT_FIRST, BUG_SLASH_AT_L; of converting them BUG_RECORD_CUT,
-   BUG_BLANKS_KEPT, BUG_LF_MISSING, BUG_ROOM_FIRST, BUG_REFUSED_WRITES.
+   BUG_EMPTY_AS_0, BUG_MINUS_0_AS_UNSIGNED, BUG_FORM_OF_SECOND, BUG_COUNT_0_AS_NONE, BUG_ITEM_CUT.
    With STAND_IN defined as a weak attribute it answers only the calls that the library lacks. */
 #include <stdlib.h>
 #include <string.h>
@@ -31,27 +28,6 @@ static size_t next_line(const uint8_t *file, size_t length, size_t at, const cha
 }
 #endif
 
-#if defined BUG_BLOCK_CUT || defined BUG_CR_ENDS_BLOCK
-#define BLOCKS_CHANGED
-#endif
-
-#if defined BUG_RECORD_CUT || defined BUG_BLANKS_KEPT || defined BUG_LF_MISSING
-#define LINES_CHANGED
-#endif
-
-#if defined BUG_900_NO_STATUS || defined BLOCKS_CHANGED
-/* A copy of a file, to be freed. */
-static uint8_t *copy_of(const uint8_t *file, size_t length)
-{
-    uint8_t *copy = malloc(length + 1);
-    if (copy == NULL)
-        exit(2);
-    for (size_t i = 0; i < length; i++)
-        copy[i] = file[i];
-    return copy;
-}
-#endif
-
 #ifdef BUG_900_NO_STATUS
 /* Makes types of 900 to 919 that stand after so many commas of a line with that code 920 to 929. */
 static void raise_types(uint8_t *file, size_t length, const char *code, int commas)
@@ -67,7 +43,11 @@ static void raise_types(uint8_t *file, size_t length, const char *code, int comm
 /* The verdict where 900 to 919, in a 16 and as a 03's first type, are details and summaries. */
 static bai2_summary read_without_status(const uint8_t *file, size_t length)
 {
-    uint8_t *copy = copy_of(file, length);
+    uint8_t *copy = malloc(length + 1);
+    if (copy == NULL)
+        exit(2);
+    for (size_t i = 0; i < length; i++)
+        copy[i] = file[i];
     raise_types(copy, length, "16,", 1);
     raise_types(copy, length, "03,", 3);
     bai2_summary s = oracle_read(copy, length);
@@ -246,151 +226,6 @@ STAND_IN bai2_combined bai2_combine(const uint8_t *a, size_t a_length,
                            uint8_t *out, size_t out_length)
 {
     return oracle_combine(a, a_length, b, b_length, out, out_length);
-}
-
-#if defined BLOCKS_CHANGED || defined LINES_CHANGED || defined BUG_MULTIPLE_ON || defined BUG_FIFTH_COMMA \
-    || defined BUG_CUT_SHORT_FIRST || defined BUG_SLASH_AT_L
-/* Where the field after so many commas starts; the file's length where there are fewer. */
-static inline size_t after_commas(const uint8_t *file, size_t length, int commas)
-{
-    size_t at = 0;
-    for (; commas > 0 && at < length; at++)
-        commas -= file[at] == ',';
-    return at;
-}
-
-/* The number in the field after so many commas, which has its end. */
-static inline size_t number_after(const uint8_t *file, size_t length, int commas)
-{
-    return strtoull((const char *)file + after_commas(file, length, commas), NULL, 10);
-}
-#endif
-
-#ifdef BLOCKS_CHANGED
-/* Whether L is there and good, by the verdict. */
-static int has_limit(const uint8_t *file, size_t length, bai2_summary s)
-{
-    if (s.number == 8)
-        return s.place != 0 && s.place != after_commas(file, length, 6);
-    return s.number != 1 && s.number != 2;
-}
-
-/* Whether the last byte of a block is passed as a blank, with the bug. */
-static int is_passed(uint8_t byte)
-{
-#ifdef BUG_BLOCK_CUT
-    return byte != ' ';
-#else
-    return byte == '\r' || byte == '\n';
-#endif
-}
-
-/* The verdict on a file whose blocks have such last bytes made blanks. */
-static bai2_summary read_changed_blocks(const uint8_t *file, size_t length)
-{
-    size_t limit = number_after(file, length, 6);
-    uint8_t *copy = copy_of(file, length);
-    for (size_t last = limit - 1; last < length; last += limit)
-        if (is_passed(copy[last]))
-            copy[last] = ' ';
-    bai2_summary s = oracle_read_blocks(copy, length);
-    free(copy);
-    return s;
-}
-#endif
-
-#ifdef BUG_BLANK_BLOCK_PASSED
-/* Where the blanks at the file's end start. */
-static size_t last_blanks(const uint8_t *file, size_t length)
-{
-    while (length > 0 && file[length - 1] == ' ')
-        length--;
-    return length;
-}
-#endif
-
-/* As the oracle, with a bug where one is planted. */
-STAND_IN bai2_summary bai2_read_blocks(const uint8_t *file, size_t file_length)
-{
-    bai2_summary s = oracle_read_blocks(file, file_length);
-#ifdef BLOCKS_CHANGED
-    if (has_limit(file, file_length, s))
-        s = read_changed_blocks(file, file_length);
-#endif
-#ifdef BUG_BLANK_BLOCK_PASSED
-    if (s.number == 5 && s.place >= last_blanks(file, file_length))
-        s = oracle_read_blocks(file, s.place);
-#endif
-#ifdef BUG_MULTIPLE_ON
-    if (s.number == 21)
-        s.place += number_after(file, file_length, 6);
-#endif
-#ifdef BUG_FIFTH_COMMA
-    if (s.number == 0 && number_after(file, file_length, 5) != number_after(file, file_length, 6))
-        s = (bai2_summary){.number = 8, .place = after_commas(file, file_length, 5)};
-#endif
-#ifdef BUG_CUT_SHORT_FIRST
-    size_t place = after_commas(file, file_length, 6);
-    size_t limit = s.number == 8 && s.place == place ? number_after(file, file_length, 6) : 0;
-    if (limit != 0 && file_length % limit != 0)
-        s = (bai2_summary){.number = 21, .place = file_length - file_length % limit};
-#endif
-#ifdef BUG_SLASH_AT_L
-    if (s.number == 8 && s.place == 0 && after_commas(file, file_length, 6) < file_length)
-        s.place = after_commas(file, file_length, 6);
-#endif
-    return s;
-}
-
-#ifdef LINES_CHANGED
-/* An accepted file in lines, with the bug. */
-static bai2_answer put_changed_lines(const uint8_t *file, size_t length, uint8_t *out, size_t out_length)
-{
-    size_t limit = number_after(file, length, 6), done = 0;
-    uint8_t *lines = malloc(length + length / limit);
-    if (lines == NULL)
-        exit(2);
-    for (size_t at = 0; at < length; at += limit) {
-        size_t end = limit;
-#ifndef BUG_BLANKS_KEPT
-        while (file[at + end - 1] == ' ')
-            end--;
-#endif
-#ifdef BUG_RECORD_CUT
-        end -= end == limit;
-#endif
-        memcpy(lines + done, file + at, end);
-        done += end;
-        lines[done++] = '\n';
-    }
-#ifdef BUG_LF_MISSING
-    done--;
-#endif
-    if (done <= out_length)
-        memcpy(out, lines, done);
-    free(lines);
-    return done <= out_length ? (bai2_answer){.length = done} : (bai2_answer){.number = 15};
-}
-#endif
-
-/* As the oracle, with a bug where one is planted. */
-STAND_IN bai2_answer bai2_blocks_to_lines(const uint8_t *file, size_t file_length,
-                                 uint8_t *out, size_t out_length)
-{
-#ifdef LINES_CHANGED
-    if (oracle_blocks_to_lines(file, file_length, NULL, 0).number == 15)
-        return put_changed_lines(file, file_length, out, out_length);
-#endif
-    bai2_answer a = oracle_blocks_to_lines(file, file_length, out, out_length);
-#ifdef BUG_ROOM_FIRST
-    if (a.number == 18 && out_length < file_length)
-        a.number = 15;
-#endif
-#ifdef BUG_REFUSED_WRITES
-    if (a.number != 0 && out_length > 0)
-        out[0] = 0;
-#endif
-    return a;
 }
 
 /* As the oracle. */

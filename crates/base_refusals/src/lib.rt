@@ -47,5 +47,3 @@ pub const RESULT_TOO_LONG: u64 = 18;
 pub const OUT_OF_TURN: u64 = 19;
 
 pub const WRONG_FIELD_GIVEN: u64 = 20;
-
-pub const BLOCK_CUT_SHORT: u64 = 21;

@@ -2,18 +2,30 @@
 ghost use Rattle.std.specs.Prelude.{◌≡◌};
 ghost use Rattle.rules.specs.Split.{split};
 ghost use Rattle.rules.specs.Combine.{combine};
-ghost use Rattle.c_figures.specs.CFigures.{answer_figures};
-ghost use Rattle.c_joining.specs.CJoined.{combine_meant};
+ghost use Rattle.c_joining.specs.CJoined.{split_meant, combine_meant};
 
-use c_figures::Bai2Answer;
+// What splitting a file answers.
+#[repr(C)]
+#[derive(Drop)]
+pub struct Bai2Answer {
+    pub number: u64,
+    pub place: u64,
+    pub length: u64,
+}
 
 // The file with one receiver's groups alone, at the front of out.
 #[unsafe(no_mangle)]
 pub extern "C" fn bai2_split(name: &[u8], file: &[u8], out: &mut [u8]) -> Bai2Answer
-    ensures { answer_figures result out.new ≡ split name.now file.now out.old }
+    ensures { split_meant result out.new ≡ split name.now file.now out.old }
 {
     let r = join_split::split(name, file, out);
-    c_figures::answer_of(r.refusal, r.length)
+    let refusal = r.refusal;
+    let place = refusal.place;
+    Bai2Answer {
+        number: refusal.number,
+        place: place.0 as u64,
+        length: r.length as u64,
+    }
 }
 
 // What combining two files answers; file: the one that the reader refused, 1 or 2, or 0.

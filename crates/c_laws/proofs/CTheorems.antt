@@ -17,8 +17,8 @@ use Rattle.c_writer.specs.WriterFigures.{figures_of, numbers_of, numbers_after, 
 use Rattle.c_writer.specs.declared.Bai2Writer.{Bai2Writer}
 use Rattle.c_writer.specs.declared.Bai2Written.{Bai2Written}
 use Rattle.c_writer.proofs.WriterStateLaws.{numbers-back, calls-from-c}
-use Rattle.c_figures.specs.CFigures.{SummaryFigures, summary_figures, read_meant}
-use Rattle.c_figures.specs.declared.Bai2Summary.{Bai2Summary}
+use Rattle.c_reading.specs.CAnswers.{SummaryFigures, summary_figures, read_meant}
+use Rattle.c_reading.specs.declared.Bai2Summary.{Bai2Summary}
 use Rattle.c_laws.specs.CWords.{Reached, new, next, OwnSummary, written, ReadsOwn, CReadsBack}
 
 -- ---- calls from C are a session of the rules

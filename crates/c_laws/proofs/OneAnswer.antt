@@ -12,15 +12,13 @@ use Rattle.rules.specs.Bytes.{Bytes}
 use Rattle.rules.specs.Outcome.{Outcome, refused, fine, ◌>>=◌}
 use Rattle.rules.specs.Outcome as outcome
 use Rattle.rules.specs.Totals as totals
-use Rattle.rules.specs.Lines.{records_of}
-use Rattle.rules.specs.Verdict.{start, run, judge}
+use Rattle.rules.specs.Verdict.{judge}
 use Rattle.rules.specs.Parts.{header_in, groups_in, size_of_all}
 use Rattle.rules.specs.CodeList.{is_status, is_summary, Entry, unlisted, NA, CR, DB, entry_of}
 use Rattle.rules.specs.Amounts.{Amount, empty, unsigned, with_plus, with_minus}
 use Rattle.rules.specs.Answers as rules
 use Rattle.rules.specs.Combine as combine
 use Rattle.rules.specs.Split.{split}
-use Rattle.rules.specs.Blocks.{block_length, judge_blocks, blocks_to_lines}
 use Rattle.rules.specs.Writer as writing
 use Rattle.rules.specs.HandedOut.{record_at, RecordAnswer, record_answer, FieldsAnswer, fields_of_record}
 use Rattle.laws.specs.LawWords.{Left}
@@ -39,14 +37,9 @@ use Rattle.read_file.specs.declared.Judged.{Judged}
 use Rattle.read_file.specs.declared.Judged.TheVariants as judged
 use Rattle.base_totals.specs.SummaryMeaning.{summary_meant}
 use Rattle.read_file.specs.FileMeanings.{verdict_meant}
-use Rattle.read_lines.specs.Cuts.{lines_by}
-use Rattle.read_file.specs.FileAnswers.{judge_by, last_start, JudgedBy, JudgedIs}
-use Rattle.read_blocks.specs.declared.JudgedBlocks.{JudgedBlocks}
-use Rattle.read_blocks.specs.declared.JudgedBlocks.TheVariants as blocks
-use Rattle.read_blocks.specs.BlockAnswers.{BlocksAre}
-use Rattle.read_blocks.proofs.BlockLaws.{judged-cut}
-use Rattle.join_answer.specs.declared.Answer.{Answer}
-use Rattle.join_answer.specs.AnswerMeaning.{answer_meant}
+use Rattle.read_file.specs.FileAnswers.{JudgedIs}
+use Rattle.join_split.specs.declared.Answer.{Answer}
+use Rattle.join_split.specs.SplitAnswers.{answer_meant}
 use Rattle.join_combine.specs.declared.Combined.{Combined}
 use Rattle.join_combine.specs.CombineAnswers.{combined_meant}
 use Rattle.part_groups.specs.declared.Part.{Part}
@@ -75,8 +68,8 @@ use Rattle.write_state.specs.declared.Writer.{Writer}
 use Rattle.write_state.specs.declared.Written.{Written}
 use Rattle.write_state.specs.WriterMeaning.{phase_meant, writer_meant, written_meant}
 use Rattle.c_items.specs.declared.Bai2Item.{Bai2Item}
-use Rattle.c_figures.specs.declared.Bai2Summary.{Bai2Summary}
-use Rattle.c_figures.specs.declared.Bai2Answer.{Bai2Answer}
+use Rattle.c_reading.specs.declared.Bai2Summary.{Bai2Summary}
+use Rattle.c_joining.specs.declared.Bai2Answer.{Bai2Answer}
 use Rattle.c_joining.specs.declared.Bai2Combined.{Bai2Combined}
 use Rattle.c_reading.specs.declared.cutting.Bai2Part.{Bai2Part}
 use Rattle.c_reading.specs.declared.cutting.Bai2Detail.{Bai2Detail}
@@ -85,10 +78,9 @@ use Rattle.c_reading.specs.declared.handing.Bai2Fields.{Bai2Fields}
 use Rattle.c_naming.specs.declared.Bai2Code.{Bai2Code}
 use Rattle.c_writer.specs.declared.Bai2Writer.{Bai2Writer}
 use Rattle.c_writer.specs.declared.Bai2Written.{Bai2Written}
-use Rattle.c_figures.specs.CFigures.{SummaryFigures, summary_figures, read_meant, answer_figures}
-use Rattle.c_reading.specs.CAnswers.{part_meant, record_figures, fields_figures}
+use Rattle.c_reading.specs.CAnswers.{SummaryFigures, summary_figures, read_meant, part_meant, record_figures, fields_figures}
 use Rattle.c_naming.specs.CNamed.{code_meant}
-use Rattle.c_joining.specs.CJoined.{combine_meant}
+use Rattle.c_joining.specs.CJoined.{split_meant, combine_meant}
 use Rattle.c_writer.specs.WriterFigures.{numbers_of, Reply, replied, reply_to}
 
 -- the code's refusal that stands for one of the rules
@@ -143,23 +135,9 @@ judged-says file (judged.Refused why) e = rw e
 pub judged-one : (file : Bytes) (v w : Judged) → JudgedIs v file → JudgedIs w file → v ≡ w
 judged-one file v w x y = one_answer judged_meant judged_of same-judged (known file) v w (judged-says file v x) (judged-says file w y)
 
--- the same by either cut; read_file::judge_lines
-abbrev known_by : ℕ → Bytes → Outcome Known
-known_by cut file =
-    judge_by cut file
-    >>= λ s. run 0 start (records_of (lines_by cut file))
-    >>= λ t. fine (record { summary = s; limit = t.limit; last = last_start 0 0 (records_of (lines_by cut file)) })
-
-judged-by-says : (cut : ℕ) (file : Bytes) (v : Judged) → JudgedBy v cut file → judged_meant v ≡ known_by cut file
-judged-by-says cut file (judged.Accepted g) good = rw (good.accepts, good.runs, good.limit, good.last)
-judged-by-says cut file (judged.Refused why) e = rw e
-
-pub judged-by-one : (cut : ℕ) (file : Bytes) (v w : Judged) → JudgedBy v cut file → JudgedBy w cut file → v ≡ w
-judged-by-one cut file v w x y = one_answer judged_meant judged_of same-judged (known_by cut file) v w (judged-by-says cut file v x) (judged-by-says cut file w y)
-
--- a verdict's figures
-c-verdict-one : (o : Outcome totals.Summary) (r s : Bai2Summary) → read_meant r ≡ summary_figures o → read_meant s ≡ summary_figures o → r ≡ s
-c-verdict-one o =
+-- bai2_read
+pub c-read-one : (file : Bytes) (r s : Bai2Summary) → read_meant r ≡ summary_figures (judge file) → read_meant s ≡ summary_figures (judge file) → r ≡ s
+c-read-one file =
     one_answer read_meant
     (λ (m : SummaryFigures). record {
       number = m.refusal.number;
@@ -170,84 +148,25 @@ c-verdict-one o =
       details = m.details;
       records = m.records;
     })
-    (λ r. refl) (summary_figures o)
-
--- bai2_read
-pub c-read-one : (file : Bytes) (r s : Bai2Summary) → read_meant r ≡ summary_figures (judge file) → read_meant s ≡ summary_figures (judge file) → r ≡ s
-c-read-one file = c-verdict-one (judge file)
+    (λ r. refl) (summary_figures (judge file))
 
 -- ---- splitting
-
--- an answer of the code, and of C, with what the output slice holds
-file-one : (m : combine.Answer) (x y : Left Answer) → answer_meant x.answer x.slice ≡ m → answer_meant y.answer y.slice ≡ m → x ≡ y
-file-one m =
-    one_answer (λ (x : Left Answer). answer_meant x.answer x.slice)
-    (λ (a : combine.Answer). record { answer = record { refusal = refusal_from a.refusal; length = a.len }; slice = a.output })
-    (λ x. refl) m
-
-c-file-one : (m : combine.Answer) (x y : Left Bai2Answer) → answer_figures x.answer x.slice ≡ m → answer_figures y.answer y.slice ≡ m → x ≡ y
-c-file-one m =
-    one_answer (λ (x : Left Bai2Answer). answer_figures x.answer x.slice)
-    (λ (a : combine.Answer). record { answer = record { number = a.refusal.number; place = a.refusal.place; length = a.len }; slice = a.output })
-    (λ x. refl) m
 
 -- join_split::split
 pub split_one : (name file before : Bytes) (x y : Left Answer)
     → answer_meant x.answer x.slice ≡ split name file before → answer_meant y.answer y.slice ≡ split name file before → x ≡ y
-split_one name file before = file-one (split name file before)
+split_one name file before =
+    one_answer (λ (x : Left Answer). answer_meant x.answer x.slice)
+    (λ (m : combine.Answer). record { answer = record { refusal = refusal_from m.refusal; length = m.len }; slice = m.output })
+    (λ x. refl) (split name file before)
 
 -- bai2_split
 pub c-split-one : (name file before : Bytes) (x y : Left Bai2Answer)
-    → answer_figures x.answer x.slice ≡ split name file before → answer_figures y.answer y.slice ≡ split name file before → x ≡ y
-c-split-one name file before = c-file-one (split name file before)
-
--- ---- blocks
-
--- what is known of an accepted file of blocks: its summary, and how many bytes a block has
-record KnownBlocks : Type 0 where
-  summary : totals.Summary
-  size : ℕ
-
-abbrev blocks_meant : JudgedBlocks → Outcome KnownBlocks
-blocks_meant (blocks.Accepted s n) = fine (record { summary = summary_meant s; size = n })
-blocks_meant (blocks.Refused why) = refused (refusal_meant why)
-
-abbrev blocks_from : Outcome KnownBlocks → JudgedBlocks
-blocks_from (fine k) = blocks.Accepted (summary_of k.summary) k.size
-blocks_from (refused why) = blocks.Refused (refusal_from why)
-
-same_blocks : (v : JudgedBlocks) → blocks_from (blocks_meant v) ≡ v
-same_blocks (blocks.Accepted s n) = refl
-same_blocks (blocks.Refused why) = refl
-
-abbrev known_blocks : Bytes → Outcome KnownBlocks
-known_blocks file = judge_blocks file >>= λ s. block_length file >>= λ n. fine (record { summary = s; size = n })
-
-blocks-say : (file : Bytes) (v : JudgedBlocks) → BlocksAre v file → blocks_meant v ≡ known_blocks file
-blocks-say file (blocks.Accepted s n) (good, accepts) = rw (judged-cut file _ good.cuts ∙ accepts, good.given)
-blocks-say file (blocks.Refused why) e = rw e
-
--- read_blocks::judge_blocks
-pub judged-blocks-one : (file : Bytes) (v w : JudgedBlocks) → BlocksAre v file → BlocksAre w file → v ≡ w
-judged-blocks-one file v w x y = one_answer blocks_meant blocks_from same_blocks (known_blocks file) v w (blocks-say file v x) (blocks-say file w y)
-
--- read_blocks::read_blocks
-pub read-blocks-one : (file : Bytes) (v w : Verdict) → verdict_meant v ≡ judge_blocks file → verdict_meant w ≡ judge_blocks file → v ≡ w
-read-blocks-one file = one_answer verdict_meant verdict_of same-verdict (judge_blocks file)
-
--- join_lines::blocks_to_lines
-pub lines-one : (file before : Bytes) (x y : Left Answer)
-    → answer_meant x.answer x.slice ≡ blocks_to_lines file before → answer_meant y.answer y.slice ≡ blocks_to_lines file before → x ≡ y
-lines-one file before = file-one (blocks_to_lines file before)
-
--- bai2_read_blocks
-pub c-read-blocks-one : (file : Bytes) (r s : Bai2Summary) → read_meant r ≡ summary_figures (judge_blocks file) → read_meant s ≡ summary_figures (judge_blocks file) → r ≡ s
-c-read-blocks-one file = c-verdict-one (judge_blocks file)
-
--- bai2_blocks_to_lines
-pub c-lines-one : (file before : Bytes) (x y : Left Bai2Answer)
-    → answer_figures x.answer x.slice ≡ blocks_to_lines file before → answer_figures y.answer y.slice ≡ blocks_to_lines file before → x ≡ y
-c-lines-one file before = c-file-one (blocks_to_lines file before)
+    → split_meant x.answer x.slice ≡ split name file before → split_meant y.answer y.slice ≡ split name file before → x ≡ y
+c-split-one name file before =
+    one_answer (λ (x : Left Bai2Answer). split_meant x.answer x.slice)
+    (λ (m : combine.Answer). record { answer = record { number = m.refusal.number; place = m.refusal.place; length = m.len }; slice = m.output })
+    (λ x. refl) (split name file before)
 
 -- ---- combining
 

@@ -9,8 +9,8 @@ use Rattle.c_writer.specs.WriterFigures.{summary_of, numbers_of, replied, reply_
 use Rattle.c_writer.specs.declared.Figures.{Figures}
 use Rattle.c_writer.specs.declared.Bai2Writer.{Bai2Writer}
 use Rattle.c_writer.specs.declared.Bai2Written.{Bai2Written}
-use Rattle.c_figures.specs.CFigures.{summary_figures, read_meant}
-use Rattle.c_figures.specs.declared.Bai2Summary.{Bai2Summary}
+use Rattle.c_reading.specs.CAnswers.{summary_figures, read_meant}
+use Rattle.c_reading.specs.declared.Bai2Summary.{Bai2Summary}
 
 -- where calls can lead, the numbers and the slice: first what `bai2_writer_new` answers, with any slice; then what any call answers and leaves, accepted or
 -- refused, that was handed the numbers and the slice that the one before left

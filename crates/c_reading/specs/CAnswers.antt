@@ -1,13 +1,51 @@
--- What the calls that hand out answer C, in the rules' terms: the same numbers, figure by figure; where refused, every figure but number and place is 0.
+-- What the reading calls answer C, in the rules' terms: the same numbers, figure by figure; where refused, every figure but number and place is 0.
 -- Assumes nothing.
-use Rattle.std.specs.Prelude.{ℕ, List}
+use Rattle.std.specs.Prelude.{ℕ, List, ℤ}
+use Rattle.rules.specs.Outcome.{Refusal, Outcome, or_else, refusal_of}
+use Rattle.rules.specs.Numbers.{as_integer}
 use Rattle.rules.specs.Amounts.{magnitude_of}
+use Rattle.rules.specs.Totals.{Summary, no_summary}
 use Rattle.rules.specs.Answers as rules
 use Rattle.rules.specs.HandedOut as handed
+use Rattle.c_reading.specs.declared.Bai2Summary.{Bai2Summary}
 use Rattle.c_reading.specs.declared.cutting.Bai2Part.{Bai2Part}
 use Rattle.c_reading.specs.declared.cutting.Bai2Detail.{Bai2Detail}
 use Rattle.c_reading.specs.declared.handing.Bai2Record.{Bai2Record}
 use Rattle.c_reading.specs.declared.handing.Bai2Fields.{Bai2Fields}
+
+-- ---- reading
+
+-- a verdict: its refusal, 0 and 0 where there is none; the total as one signed number; and the counts
+pub record SummaryFigures : Type 0 where
+  pub refusal : Refusal
+  pub total : ℤ
+  pub groups : ℕ
+  pub accounts : ℕ
+  pub details : ℕ
+  pub records : ℕ
+
+unfoldable pub summary_figures : Outcome Summary → SummaryFigures
+summary_figures o =
+    let s = or_else o no_summary in
+    record {
+      refusal = refusal_of o;
+      total = as_integer s.sum;
+      groups = s.groups;
+      accounts = s.accounts;
+      details = s.details;
+      records = s.records;
+    }
+
+abbrev pub read_meant : Bai2Summary → SummaryFigures
+read_meant r =
+    record {
+      refusal = record { number = r.number; place = r.place };
+      total = r.total;
+      groups = r.groups;
+      accounts = r.accounts;
+      details = r.details;
+      records = r.records;
+    }
 
 -- ---- parts
 

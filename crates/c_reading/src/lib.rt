@@ -1,18 +1,76 @@
 // The calls for C that read: numbers and byte slices in, numbers out. include/bai2.h declares them.
-ghost use Rattle.std.specs.Prelude.{◌≡◌};
+ghost use Rattle.std.specs.Prelude.{◌≡◌, ◌+◌, ◌≤◌};
+ghost use Rattle.rules.specs.Numbers.{as_integer};
+ghost use Rattle.rules.specs.Limits.{most};
 ghost use Rattle.rules.specs.Verdict.{judge};
-ghost use Rattle.c_figures.specs.CFigures.{summary_figures, read_meant};
+ghost use Rattle.base_quantities.specs.QuantityMeanings.{sum_meant};
+ghost use Rattle.c_reading.specs.CAnswers.{summary_figures, read_meant};
 
-use c_figures::Bai2Summary;
+use base_quantities::Units;
+use read_file::Verdict;
 
 pub mod cutting;
 pub mod handing;
+
+// What reading a file answers.
+#[repr(C)]
+#[derive(Drop)]
+pub struct Bai2Summary {
+    pub number: u64,
+    pub place: u64,
+    pub total: i64,
+    pub groups: u64,
+    pub accounts: u64,
+    pub details: u64,
+    pub records: u64,
+}
+
+// A sum as one signed number.
+fn total_of(sum: Units) -> i64
+    requires { sum.0 + sum.1 ≤ most }
+    ensures { result ≡ as_integer (sum_meant sum) }
+{
+    let pluses = sum.0;
+    let minuses = sum.1;
+    if pluses < minuses {
+        return -((minuses - pluses) as i64);
+    }
+    (pluses - minuses) as i64
+}
 
 // A file's summary, or its refusal.
 #[unsafe(no_mangle)]
 pub extern "C" fn bai2_read(file: &[u8]) -> Bai2Summary
     ensures { read_meant result ≡ summary_figures (judge file.now) }
 {
-    let verdict = read_file::read(file);
-    c_figures::summary_of(verdict)
+    match read_file::read(file) {
+        Verdict::Accepted(s) => {
+            let total = s.total;
+            let groups = s.groups;
+            let accounts = s.accounts;
+            let details = s.details;
+            let records = s.records;
+            return Bai2Summary {
+                number: 0,
+                place: 0,
+                total: total_of(total),
+                groups: groups.0,
+                accounts: accounts.0,
+                details: details.0,
+                records: records.0,
+            };
+        }
+        Verdict::Refused(why) => {
+            let place = why.place;
+            return Bai2Summary {
+                number: why.number,
+                place: place.0 as u64,
+                total: 0,
+                groups: 0,
+                accounts: 0,
+                details: 0,
+                records: 0,
+            };
+        }
+    }
 }

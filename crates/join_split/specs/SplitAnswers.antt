@@ -10,9 +10,15 @@ use Rattle.rules.specs.Parts.{header_in, groups_in}
 use Rattle.rules.specs.Combine as rules
 use Rattle.rules.specs.Combine.{summary_of_all, fresh_trailer, with_trailer, concat, fitting, answered}
 use Rattle.rules.specs.Split.{groups_for}
+use Rattle.base_refusals.specs.RefusalMeaning.{refusal_meant}
 use Rattle.base_numerals.specs.PutBytes.{Put}
 use Rattle.read_lines.specs.LineLengths.{first_record}
 use Rattle.join_trailer.specs.declared.Trailer.{Trailer}
+use Rattle.join_split.specs.declared.Answer.{Answer}
+
+-- an answer, with what the output slice holds
+abbrev pub answer_meant : Answer → Bytes → rules.Answer
+answer_meant r out = record { refusal = refusal_meant r.refusal; which = 0; len = r.length; output = out }
 
 -- the reader accepts the file
 abbrev pub Accepts : Bytes → Type 0

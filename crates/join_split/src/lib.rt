@@ -1,25 +1,44 @@
 // A file split for one receiver: measured first, then written.
 ghost use Rattle.std.specs.Prelude.{◌≡◌, ◌≤◌, length};
+ghost use Rattle.rules.specs.Bytes.{Bytes};
+ghost use Rattle.rules.specs.Outcome.{refused};
+ghost use Rattle.rules.specs.Combine.{answered};
 ghost use Rattle.rules.specs.Split as rules;
+ghost use Rattle.base_refusals.specs.RefusalMeaning.{refusal_meant};
 ghost use Rattle.base_numerals.specs.PutBytes.{Put};
-ghost use Rattle.join_answer.specs.AnswerMeaning.{answer_meant};
-ghost use Rattle.join_split.specs.SplitAnswers.{Accepts, Opens, RestIs, split_result, misfit_of, split_fitting};
+ghost use Rattle.join_split.specs.SplitAnswers.{answer_meant, Accepts, Opens, RestIs, split_result, misfit_of, split_fitting};
 
 use base_limits::LONGEST_FILE;
 use base_quantities::{Place, Records};
 use base_refusals::{NO_ROOM, NOT_A_NAME, RESULT_TOO_LONG, Refusal};
-use join_answer::Answer;
 use join_trailer::Trailer;
 use read_file::Verdict;
 
 // No fresh 99 of a file is longer.
 const MOST_LAST: usize = 64;
 
+// The refusal, by number 0 at place 0 where there is none; and the result's length, or 0.
+#[derive(Drop)]
+pub struct Answer {
+    pub refusal: Refusal,
+    pub length: usize,
+}
+
 // What stands after the header of a split: so many bytes of groups, and a 99.
 #[derive(Drop)]
 struct Rest {
     bytes: usize,
     last: Trailer,
+}
+
+// Refused, with nothing written.
+fn refused(why: Refusal) -> Answer
+    ensures { (out : Bytes) → answer_meant result out ≡ answered (refused (refusal_meant why)) 0 out }
+{
+    Answer {
+        refusal: why,
+        length: 0,
+    }
 }
 
 // The name may be asked for.
@@ -98,7 +117,7 @@ fn split_accepted(name: &[u8], file: &[u8], out: &mut [u8]) -> Answer
     let header = read_lines::record_end(file, Place(0)).0;
     let number = misfit(name, file, header, out.len());
     if number != 0 {
-        return join_answer::refused(Refusal {
+        return refused(Refusal {
             number,
             place: Place(0),
         });
@@ -117,13 +136,13 @@ pub fn split(name: &[u8], file: &[u8], out: &mut [u8]) -> Answer
     ensures { answer_meant result out.new ≡ rules.split name.now file.now out.old }
 {
     if !is_asked(name) {
-        return join_answer::refused(Refusal {
+        return refused(Refusal {
             number: NOT_A_NAME,
             place: Place(0),
         });
     }
     match read_file::read(file) {
-        Verdict::Refused(why) => join_answer::refused(why),
+        Verdict::Refused(why) => refused(why),
         Verdict::Accepted(_) => split_accepted(name, file, out),
     }
 }

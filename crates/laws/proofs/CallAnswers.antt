@@ -26,7 +26,7 @@ use Rattle.laws.proofs.Refusals.{By, bind-by, then_by, check-by, checked-by, las
 -- ---- what a fine outcome says
 
 -- what fits is the result itself, and it is not too long
-pub fitting-says : (all : Bytes) (room : ℕ) (out : Bytes) → fitting all room ≡ fine out → (all ≡ out) × (length out ≤ longest_file)
+fitting-says : (all : Bytes) (room : ℕ) (out : Bytes) → fitting all room ≡ fine out → (all ≡ out) × (length out ≤ longest_file)
 unfolding fitting
 fitting-says all room out h =
     let e : all ≡ out = fine-same all out (then-fine (has_room (length all) room) _ out h) in
@@ -82,7 +82,7 @@ split-says name file room out h =
 -- ---- an answer that is no refusal
 
 -- no call refuses by 0
-abbrev pub numbered : ℕ → Bool
+abbrev numbered : ℕ → Bool
 numbered n = leb 1 n
 
 reader-numbered : {A : Type 0} (o : Outcome A) → By by_reader o → By numbered o
@@ -111,7 +111,7 @@ split-numbered name file room =
     (then_by numbered (judge file) _ (reader-numbered (judge file) (judge-by file))
     (fitting-numbered (with_trailer (header_in file ++ concat (groups_for name (groups_in file)))) room))
 
-pub answer-fine : (o : Outcome Bytes) (which : ℕ) (before : Bytes) → By numbered o → NotRefused (answered o which before) → o ≡ fine (written (answered o which before))
+answer-fine : (o : Outcome Bytes) (which : ℕ) (before : Bytes) → By numbered o → NotRefused (answered o which before) → o ≡ fine (written (answered o which before))
 unfolding answered
 answer-fine (refused why) which before k h = absurd (omega (arith, leb→le 1 why.number k))
 answer-fine (fine out) which before k h = ap (λ (bs : Bytes). fine bs) (sym (take-append_seam out (drop (length out) before)))

@@ -141,9 +141,9 @@ module _ (a b out : Bytes) (c : Combined a b out) where
 
 -- ---- split
 
-lines_of : (g : List Record) (gs : List (List Record)) → concat (concat (g ∷ gs)) ≡ concat g ++ concat (concat gs)
+lines-of : (g : List Record) (gs : List (List Record)) → concat (concat (g ∷ gs)) ≡ concat g ++ concat (concat gs)
 unfolding concat
-lines_of g gs = concat-append g (concat gs)
+lines-of g gs = concat-append g (concat gs)
 
 sum_of : (g : List Record) (gs : List (List Record)) → summary_of_all (concat (g ∷ gs)) ≡ summary_of_all g ⊞ summary_of_all (concat gs)
 unfolding concat
@@ -161,14 +161,14 @@ pub record Fewer (limit : ℕ) (gs hs : List (List Record)) : Type 0 where
 
 module _ (limit : ℕ) (g : List Record) (gs hs : List (List Record)) (f : Fewer limit gs hs) where
   lines-apart : T (lines_within limit (concat (concat (g ∷ gs)))) → T (lines_within limit (concat g ++ concat (concat gs)))
-  lines-apart w = subst (λ (ls : List Line). T (lines_within limit ls)) (lines_of g gs) w
+  lines-apart w = subst (λ (ls : List Line). T (lines_within limit ls)) (lines-of g gs) w
 
   fewer-next : (t : Bool) → Fewer limit (g ∷ gs) (cond t (g ∷ hs) hs)
   unfolding ◌⊞◌
   fewer-next true =
       record {
         lines-within = λ w.
-            subst (λ (ls : List Line). T (lines_within limit ls)) (sym (lines_of g hs))
+            subst (λ (ls : List Line). T (lines_within limit ls)) (sym (lines-of g hs))
             (within_both limit (concat g) (concat (concat hs)) (within-left limit (concat g) (concat (concat gs)) (lines-apart w))
             (f.lines-within (within-right limit (concat g) (concat (concat gs)) (lines-apart w))));
         no_more = rw (sum_of g gs, sum_of g hs) (omega (arith, f.no_more));

@@ -118,18 +118,18 @@ module _ (v g n : Bytes) (cv : T (clean v)) (cg : T (clean g)) (cn : T (clean n)
   walk-three sv sg sn = rw (three-cells, sv, sg, sn)
 
 -- allowed bytes end no line
-pub allowed-in-line : (b : ℕ) → T (allowed b) → T (not (eqb b LF)) × T (not (eqb b CR))
+allowed-in-line : (b : ℕ) → T (allowed b) → T (not (eqb b LF)) × T (not (eqb b CR))
 allowed-in-line b h =
     let lo = leb→le 0x20 b (and_left (leb 0x20 b) (leb b 0x7E) h) in
     (rw (ne_eqb b LF (omega arith)) tt, rw (ne_eqb b CR (omega arith)) tt)
 
-pub allowed-no-cr : (bs : Bytes) → T (all allowed bs) → T (no_cr bs)
+allowed-no-cr : (bs : Bytes) → T (all allowed bs) → T (no_cr bs)
 unfolding all no_cr
 allowed-no-cr [] h = tt
 allowed-no-cr (b ∷ []) h = (allowed-in-line b (and_left (allowed b) true h)).1
 allowed-no-cr (b ∷ c ∷ bs) h = allowed-no-cr (c ∷ bs) (and_right (allowed b) (all allowed (c ∷ bs)) h)
 
-pub all-allowed : (p : ℕ) (bs : Bytes) → T (all allowed bs) → all_allowed p bs ≡ fine tt
+all-allowed : (p : ℕ) (bs : Bytes) → T (all allowed bs) → all_allowed p bs ≡ fine tt
 unfolding all all_allowed
 all-allowed p [] h = refl
 all-allowed p (b ∷ bs) h = rw (check-true (allowed b) 4 p (and_left (allowed b) (all allowed bs) h)) (all-allowed (suc p) bs (and_right (allowed b) (all allowed bs) h))

@@ -9,7 +9,7 @@ use lib.Dec.{T, leb, leb→le, eqb, le→leb}
 use lib.ListN.{length}
 use Rattle.rules.specs.Bytes.{Bytes, is_empty, between, allowed, trimmed}
 use Rattle.rules.specs.Outcome.{Outcome, refused, fine, ◌>>=◌, ◌>>◌, check, or_refused, moved}
-use Rattle.rules.specs.Lines.{Line, size_of, Code, file_header, group_header, account_header, detail, account_trailer, group_trailer, file_trailer, continuation, same_code, code_of, Record, record_size, lines_of, records_of}
+use Rattle.rules.specs.Lines.{Line, size_of, Code, file_header, group_header, account_header, detail, account_trailer, group_trailer, file_trailer, continuation, same_code, code_of, Record, record_size, file_records}
 use Rattle.rules.specs.Cells.{Mark, at_comma, at_slash, at_line_end, Cell, mark_place, cells_of, leading_blanks}
 use Rattle.rules.specs.Numbers.{number, magnitudes, within_most, equals}
 use Rattle.rules.specs.Amounts.{amount_in, amount_adds}
@@ -18,9 +18,9 @@ use Rattle.rules.specs.Grammar.{Kind, Judged, bad, good, and_then, take_next, ne
 use Rattle.rules.specs.Records.{Field, Walk, walk_after, taken, past_slash, taken_to, walk_cells, walk_lines, walk_record, the}
 use Rattle.rules.specs.Totals.{Summary, no_summary, ◌⊞◌, amount_of, sum_of, adding, of_record, bounded_from, right_total, right_count, right_records, sum_within, balanced}
 use Rattle.rules.specs.Order.{among, ended, group_open}
-use Rattle.rules.specs.Verdict.{State, start, not_longer, all_allowed, coded, good_line, good_lines, none_longer, in_order, limit_after, own_lines, Reading, read_record, state_after, settled, step, run, judge_lines, judge}
+use Rattle.rules.specs.Verdict.{State, start, not_longer, all_allowed, coded, good_line, good_lines, none_longer, in_order, limit_after, own_lines, Reading, read_record, state_after, settled, step, run, judge}
 use Rattle.rules.proofs.Tests.{both, and_left, and_right, is_true}
-use Rattle.rules.proofs.Binds.{moved-fine, from-bind, then-fine, fine-same}
+use Rattle.rules.proofs.Binds.{moved-fine}
 use Rattle.rules.proofs.RunLaws.{within}
 use Rattle.rules.proofs.Accepted.{stepped}
 use Rattle.laws.proofs.FieldValues.{Says, judged-says}
@@ -46,7 +46,7 @@ module _ (test : ℕ → Bool) where
   pub checked-by : {A : Type 0} (t : Bool) (n p : ℕ) (r : Outcome A) → T (test n) → By test r → By test (check t n p >> r)
   checked-by t n p r h k = then_by (check t n p) r (check-by t n p h) k
 
-  pub or-by : {A : Type 0} (o : Option A) (n p : ℕ) → T (test n) → By test (or_refused o n p)
+  or-by : {A : Type 0} (o : Option A) (n p : ℕ) → T (test n) → By test (or_refused o n p)
   or-by none n p h = h
   or-by (some a) n p h = tt
 
@@ -250,32 +250,10 @@ run_by p s (r ∷ rs) b =
     bind-by by_reader (moved p (step s r)) _ (moved_by by_reader p (step s r) (bind-by by_reader (read_record s r) _ (read_by s r) (λ x e. settled-by s r x b)))
     (λ next e. run_by (p + record_size r) next rs (step-bounded s next r b (moved-fine p (step s r) next e)))
 
--- of lines, however they were cut
-pub lines-judged-by : (size : ℕ) (ls : List Line) → By by_reader (judge_lines size ls)
-unfolding judge_lines
-lines-judged-by size ls =
-    bind-by by_reader (run 0 start (records_of ls)) _ (run_by 0 start (records_of ls) (record { in-file = omega arith; in_group = omega arith })) (λ s e.
-    checked-by by_reader (ended s.expected) 6 size _ tt tt)
-
 pub judge-by : (file : Bytes) → By by_reader (judge file)
 unfolding judge
 judge-by file =
     checked-by by_reader (not (is_empty file)) 1 0 _ tt
-    (checked-by by_reader (leb (length file) longest_file) 2 0 _ tt (lines-judged-by (length file) (lines_of file)))
-
--- ---- the magnitudes of accepted lines, however they were cut, are within the largest
-
-run-bounded : (p : ℕ) (s t : State) (rs : List Record) → Bounded s → run p s rs ≡ fine t → Bounded t
-unfolding run
-run-bounded p s t [] b h = subst Bounded (fine-same s t h) b
-run-bounded p s t (r ∷ rs) b h =
-    from-bind (moved p (step s r)) _ t h (λ next e rest.
-    run-bounded (p + record_size r) next t rs (step-bounded s next r b (moved-fine p (step s r) next e)) rest)
-
-pub lines-bounded : (size : ℕ) (ls : List Line) (s : Summary) → judge_lines size ls ≡ fine s → magnitudes s.sum ≤ most
-unfolding judge_lines
-lines-bounded size ls s h =
-    from-bind (run 0 start (records_of ls)) _ s h (λ t runs rest.
-    let b = run-bounded 0 start t (records_of ls) (record { in-file = omega arith; in_group = omega arith }) runs in
-    let e : t.file ≡ s = fine-same t.file s (then-fine (check (ended t.expected) 6 size) _ s rest) in
-    rw (← e) b.in-file)
+    (checked-by by_reader (leb (length file) longest_file) 2 0 _ tt
+    (bind-by by_reader (run 0 start (file_records file)) _ (run_by 0 start (file_records file) (record { in-file = omega arith; in_group = omega arith })) (λ s e.
+    checked-by by_reader (ended s.expected) 6 (length file) _ tt tt)))

@@ -28,7 +28,7 @@ use Rattle.laws.proofs.FieldValues.{simple, Says, judged-says}
 -- ---- an invariant of the walk
 
 -- a field that was read
-abbrev pub field : Kind → ℕ → Bytes → Field
+abbrev field : Kind → ℕ → Bytes → Field
 field k p bs = record { kind = k; place = p; bytes = bs }
 
 -- I holds of what is wanted and of the fields read, and a good field keeps it

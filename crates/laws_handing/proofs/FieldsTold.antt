@@ -126,14 +126,14 @@ walk-sure c (l ∷ ls) h =
     (bind-sure size size (walk_cells first (cells_of 0 l)) _ (line-sure 0 l first) (λ next m. lines-sure (0 + size_of l) ls next m))
     (λ w m. checked-sure length (may_lack w.wanted) 8 w.last_slash _ (omega arith) m)
 
-abbrev lines_of : CodedRecord → ℕ
-lines_of x = length x.lines
+abbrev lines-of : CodedRecord → ℕ
+lines-of x = length x.lines
 
-coded-sure : (o : Option Code) (p : ℕ) (l : Line) (ls : List Line) → Sure lines_of (or_refused o 5 p >>= λ c. fine (record { code = c; lines = l ∷ ls }))
+coded-sure : (o : Option Code) (p : ℕ) (l : Line) (ls : List Line) → Sure lines-of (or_refused o 5 p >>= λ c. fine (record { code = c; lines = l ∷ ls }))
 coded-sure none p l ls = omega arith
 coded-sure (some c) p l ls = omega arith
 
-first-sure : (p : ℕ) (rs : List Record) → Sure lines_of (first_coded p rs)
+first-sure : (p : ℕ) (rs : List Record) → Sure lines-of (first_coded p rs)
 unfolding first_coded coded
 first-sure p [] = omega arith
 first-sure p ([] ∷ rs) = omega arith
@@ -144,7 +144,7 @@ first-sure p ((l ∷ ls) ∷ rs) = coded-sure (code_of l) p l ls
 at-sure : (file : Bytes) (start : ℕ) → Sure length (fields_at file start)
 unfolding fields_at record_at
 at-sure file start =
-    bind-sure lines_of length (first_coded start (file_records (drop start file))) _ (first-sure start (file_records (drop start file))) (λ x m.
+    bind-sure lines-of length (first_coded start (file_records (drop start file))) _ (first-sure start (file_records (drop start file))) (λ x m.
     moved-sure length start (walk_record x.code x.lines) (walk-sure x.code x.lines m))
 
 out-sure : (file : Bytes) (start room : ℕ) → Sure length (fields_out file start room)

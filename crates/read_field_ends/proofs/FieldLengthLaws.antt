@@ -117,9 +117,6 @@ unfolding trimmed
 trim-front [] = refl
 trim-front (b ∷ s) = trim-front-step b s (trimmed s) refl (trim-front s)
 
-pub trim-most : (s : Bytes) → length (trimmed s) ≤ length s
-trim-most s = omega (arith, ap length (trim-front s), length-take (length (trimmed s)) s)
-
 -- ---- how far a field goes, case by case, and what a caller knows of it
 
 module _ (s : Bytes) (n : ℕ) where

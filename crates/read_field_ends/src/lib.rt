@@ -43,7 +43,7 @@ pub fn blanks_len(f: &[u8]) -> usize
 }
 
 // How many bytes are left without the trailing blanks.
-pub fn trimmed_len(f: &[u8]) -> usize
+fn trimmed_len(f: &[u8]) -> usize
     ensures { result ≡ length (trimmed f.now) }
 {
     let mut n = f.len();

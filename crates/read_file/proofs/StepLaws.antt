@@ -8,23 +8,22 @@ use lib.ListN.{length}
 use Rattle.rules.specs.Bytes.{Bytes}
 use Rattle.rules.specs.Outcome.{Refusal, refused, refuse, fine, ◌>>◌, check}
 use Rattle.rules.specs.Numbers.{magnitudes}
-use Rattle.rules.specs.Lines.{Code, Record, code_of}
+use Rattle.rules.specs.Lines.{Code, Record, lines_of, code_of}
 use Rattle.rules.specs.Grammar.{fields_of}
 use Rattle.rules.specs.Order.{among}
 use Rattle.rules.specs.Verdict.{State, good_lines, coded, in_order}
-use Rattle.read_lines.specs.LineLengths.{first_record}
-use Rattle.read_lines.specs.Cuts.{lines_by, first_by}
-use Rattle.read_lines.proofs.CutLaws.{first_by_lem}
+use Rattle.read_lines.specs.LineLengths.{first_line, first_record}
+use Rattle.read_lines.proofs.LineLengthLaws.{first_of}
 use Rattle.read_kept.specs.declared.Kept.{Kept}
 use Rattle.read_kept.specs.KeepFields.{nothing_kept}
 use Rattle.read_walk.specs.WalkKept.{walk_from}
 use Rattle.read_file.specs.RecordSteps.{settled_k, step_k}
 
 -- the first record's code in its order
-pub order_is : (cut : ℕ) (cs : List Code) (rest : Bytes) (c : Code) → 0 < length rest → code_of (first_by cut rest) ≡ some c
-    → in_order cs (first_record (lines_by cut rest)) ≡ (check (among c cs) 6 0 >> fine c)
+pub order_is : (cs : List Code) (rest : Bytes) (c : Code) → 0 < length rest → code_of (first_line rest) ≡ some c
+    → in_order cs (first_record (lines_of rest)) ≡ (check (among c cs) 6 0 >> fine c)
 unfolding in_order coded first_record
-order_is cut cs rest c h e = rw (first_by_lem cut rest h) (rw e)
+order_is cs rest c h e = rw (first_of rest h) (rw e)
 
 module _ (s : State) (r : Record) where
   pub step_lines : (why : Refusal) → good_lines 0 s.limit r ≡ refused why → step_k s r ≡ refused why

@@ -2,7 +2,7 @@
 ghost use Rattle.std.specs.Prelude.{◌≡◌};
 ghost use Rattle.rules.specs.Verdict.{judge};
 ghost use Rattle.read_file.specs.FileMeanings.{verdict_meant};
-ghost use Rattle.read_file.specs.FileAnswers.{EndIs, JudgedBy, JudgedIs};
+ghost use Rattle.read_file.specs.FileAnswers.{EndIs, JudgedIs};
 
 use crate::record::Stepped;
 use crate::state::State;
@@ -55,9 +55,9 @@ fn at_end(st: State, last: Place, length: usize) -> Judged
     })
 }
 
-// A file's verdict, its lines by this cut, with what is known of a file that is accepted.
-pub fn judge_lines(cut: usize, file: &[u8]) -> Judged
-    ensures { JudgedBy result cut file.now }
+// A file's verdict, with what is known of a file that is accepted.
+pub fn judge_file(file: &[u8]) -> Judged
+    ensures { JudgedIs result file.now }
 {
     if file.len() == 0 {
         return Judged::Refused(Refusal {
@@ -75,7 +75,7 @@ pub fn judge_lines(cut: usize, file: &[u8]) -> Judged
     let mut last: usize = 0;
     let mut at: usize = 0;
     loop {
-        match record::step(cut, st, &file[at..]) {
+        match record::step(st, &file[at..]) {
             Stepped::End => return at_end(st, Place(last), file.len()),
             Stepped::Refused(why) => {
                 let in_record = why.place;
@@ -92,13 +92,6 @@ pub fn judge_lines(cut: usize, file: &[u8]) -> Judged
             }
         }
     }
-}
-
-// A file's verdict, with what is known of a file that is accepted.
-pub fn judge_file(file: &[u8]) -> Judged
-    ensures { JudgedIs result file.now }
-{
-    judge_lines(0, file)
 }
 
 // A file's verdict.

@@ -1,10 +1,10 @@
 // One record, in document 01's order: 3, 4, 5; 6; 7, 8, 9; the header's own lines against L; 10; 14, 11, 12, 13.
 ghost use Rattle.std.specs.Prelude.{◌≡◌, ◌+◌, ◌≤◌, length};
+ghost use Rattle.rules.specs.Lines.{lines_of};
 ghost use Rattle.rules.specs.Verdict.{own_lines};
 ghost use Rattle.rules.specs.Limits.{longest_file};
 ghost use Rattle.base_codes.specs.CodeMeaning.{code_meant};
 ghost use Rattle.base_totals.specs.SummaryMeaning.{summary_meant};
-ghost use Rattle.read_lines.specs.Cuts.{lines_by};
 ghost use Rattle.read_line_checks.specs.LineChecks.{checked_of, place_within};
 ghost use Rattle.read_file.specs.RecordSteps.{limit_k};
 ghost use Rattle.read_file.specs.FileAnswers.{NextIs, Settling, SettledIs, StepIs};
@@ -49,11 +49,11 @@ fn limit_after(code: Code, limit: usize, kept: Kept) -> usize
 }
 
 // 3, of the header's own lines against L.
-fn own_lines(cut: usize, code: Code, limit: usize, rec: &[u8]) -> Checked
-    ensures { (checked_of result ≡ own_lines (code_meant code) limit (lines_by cut rec.now)) × place_within result (length rec.now) }
+fn own_lines(code: Code, limit: usize, rec: &[u8]) -> Checked
+    ensures { (checked_of result ≡ own_lines (code_meant code) limit (lines_of rec.now)) × place_within result (length rec.now) }
 {
     if base_codes::same_code(code, Code::FileHeader) {
-        return read_line_checks::none_longer_by(cut, rec, limit);
+        return read_line_checks::none_longer(rec, limit);
     }
     Checked::Fine
 }
@@ -72,12 +72,12 @@ fn next_state(code: Code, limit: usize, file: Summary, group: Summary, account: 
 }
 
 // After the fields of a record with so many lines: its header's own lines, 10, then a trailer's 14, 11, 12, 13.
-fn settle(cut: usize, st: State, rec: &[u8], code: Code, records: Records, kept: Kept) -> Settled
-    requires { Settling cut st rec.now records.0 kept }
-    ensures { SettledIs result cut st rec.now (code_meant code) records.0 kept }
+fn settle(st: State, rec: &[u8], code: Code, records: Records, kept: Kept) -> Settled
+    requires { Settling st rec.now records.0 kept }
+    ensures { SettledIs result st rec.now (code_meant code) records.0 kept }
 {
     let limit = limit_after(code, st.limit, kept);
-    match own_lines(cut, code, limit, rec) {
+    match own_lines(code, limit, rec) {
         Checked::Refused(why) => return Settled::Refused(why),
         Checked::Fine => {}
     }
@@ -99,12 +99,12 @@ fn settle(cut: usize, st: State, rec: &[u8], code: Code, records: Records, kept:
     Settled::Next(next_state(code, limit, file, group, account))
 }
 
-// The record in front of the rest of the file, its lines by this cut.
-pub(crate) fn step(cut: usize, st: State, rest: &[u8]) -> Stepped
+// The record in front of the rest of the file.
+pub(crate) fn step(st: State, rest: &[u8]) -> Stepped
     requires { (Held st) × (st.file.records.0 + length rest.now ≤ longest_file) }
-    ensures { StepIs result cut st rest.now }
+    ensures { StepIs result st rest.now }
 {
-    match read_line_checks::scan_record(cut, rest, st.limit) {
+    match read_line_checks::scan_record(rest, st.limit) {
         Scanned::End => return Stepped::End,
         Scanned::Refused(why) => return Stepped::Refused(why),
         Scanned::Record(code, records, size) => {
@@ -119,9 +119,9 @@ pub(crate) fn step(cut: usize, st: State, rest: &[u8]) -> Stepped
             let total = file.total;
             let rec = &rest[0..size];
             let before = Magnitude(total.0 + total.1);
-            match read_walk::walk_record(cut, rest, size, want::first_want(code), before) {
+            match read_walk::walk_record(rest, size, want::first_want(code), before) {
                 Walked::Refused(why) => return Stepped::Refused(why),
-                Walked::Done(kept) => match settle(cut, st, rec, code, records, kept) {
+                Walked::Done(kept) => match settle(st, rec, code, records, kept) {
                     Settled::Refused(why) => return Stepped::Refused(why),
                     Settled::Next(next) => return Stepped::Next(next, size),
                 },

@@ -3,7 +3,7 @@ use Rattle.std.specs.Prelude.{ℕ, ◌+◌, ◌≤◌, ◌<◌, ◌≡◌, lengt
 use Rattle.std.proofs.Math.Option.{some}
 use Rattle.rules.specs.Bytes.{Bytes}
 use Rattle.rules.specs.Outcome.{Refusal, Outcome, refused, fine}
-use Rattle.rules.specs.Lines.{code_of, record_size}
+use Rattle.rules.specs.Lines.{lines_of, code_of, record_size}
 use Rattle.rules.specs.Lines as rules
 use Rattle.rules.specs.Verdict.{coded, good_line, good_lines}
 use Rattle.base_codes.specs.CodeMeaning.{code_meant}
@@ -16,9 +16,7 @@ use Rattle.read_line_checks.specs.declared.GoodLine.{GoodLine}
 use Rattle.read_line_checks.specs.declared.GoodLine.TheVariants as good
 use Rattle.read_line_checks.specs.declared.Scanned.{Scanned}
 use Rattle.read_line_checks.specs.declared.Scanned.TheVariants as scanned
-use Rattle.read_lines.specs.LineLengths.{first_record}
-use Rattle.read_lines.specs.Cuts.{lines_by, first_by}
-use Rattle.read_cuts.specs.Reaches.{near_body, near_len, near_line}
+use Rattle.read_lines.specs.LineLengths.{first_line, body_len, line_len, first_record}
 
 -- checks that say nothing but fine
 abbrev pub checked_of : Checked → Outcome (Unit {0})
@@ -30,34 +28,34 @@ abbrev pub place_within : Checked → ℕ → Type 0
 place_within checked.Fine n = Unit {0}
 place_within (checked.Refused why) n = why.place.0 ≤ n
 
--- 3, 4 of the line that starts at p, with these bytes from there on for it to reach: refused; or 5 alone is left, and where it ends without its end
-abbrev pub CleanIs : Clean → ℕ → ℕ → ℕ → Bytes → Type 0
-CleanIs (clean.Refused why) cut p limit xs = (good_line p limit (near_line cut xs) ≡ refused (refusal_meant why)) × (why.place.0 ≤ p + length xs)
-CleanIs (clean.Ends e) cut p limit xs = (good_line p limit (near_line cut xs) ≡ coded p (near_line cut xs)) × (e.0 ≡ p + near_body cut xs)
+-- 3, 4 of the line that starts at p, with these bytes from there on: refused; or 5 alone is left, and where it ends without its end
+abbrev pub CleanIs : Clean → ℕ → ℕ → Bytes → Type 0
+CleanIs (clean.Refused why) p limit xs = (good_line p limit (first_line xs) ≡ refused (refusal_meant why)) × (why.place.0 ≤ p + length xs)
+CleanIs (clean.Ends e) p limit xs = (good_line p limit (first_line xs) ≡ coded p (first_line xs)) × (e.0 ≡ p + body_len xs)
 
--- 3, 4, 5 of the line that starts at p, with these bytes from there on for it to reach: refused; or its code, and the place after it
-abbrev pub LineIs : GoodLine → ℕ → ℕ → ℕ → Bytes → Type 0
-LineIs (good.Refused why) cut p limit xs = (good_line p limit (near_line cut xs) ≡ refused (refusal_meant why)) × (why.place.0 ≤ p + length xs)
-LineIs (good.Good c n) cut p limit xs = (good_line p limit (near_line cut xs) ≡ fine (code_meant c)) × (n.0 ≡ p + near_len cut xs)
+-- 3, 4, 5 of the line that starts at p, with these bytes from there on: refused; or its code, and the place after it
+abbrev pub LineIs : GoodLine → ℕ → ℕ → Bytes → Type 0
+LineIs (good.Refused why) p limit xs = (good_line p limit (first_line xs) ≡ refused (refusal_meant why)) × (why.place.0 ≤ p + length xs)
+LineIs (good.Good c n) p limit xs = (good_line p limit (first_line xs) ≡ fine (code_meant c)) × (n.0 ≡ p + line_len xs)
 
 -- 3, 4, 5 of each line of the first record: refused
-pub record Stopped (cut limit : ℕ) (s : Bytes) (why : Refusal) : Type 0 where
-  pub stops : good_lines 0 limit (first_record (lines_by cut s)) ≡ refused why
+pub record Stopped (limit : ℕ) (s : Bytes) (why : Refusal) : Type 0 where
+  pub stops : good_lines 0 limit (first_record (lines_of s)) ≡ refused why
   pub some_byte : 0 < length s
   pub within : why.place ≤ length s
 
 -- or all are good: its code, how many lines it has, and how many bytes
-pub record Whole (cut limit : ℕ) (s : Bytes) (c : rules.Code) (lines size : ℕ) : Type 0 where
-  pub good : good_lines 0 limit (first_record (lines_by cut s)) ≡ fine tt
-  pub code : code_of (first_by cut s) ≡ some c
-  pub count : lines ≡ length (first_record (lines_by cut s))
-  pub extent : size ≡ record_size (first_record (lines_by cut s))
+pub record Whole (limit : ℕ) (s : Bytes) (c : rules.Code) (lines size : ℕ) : Type 0 where
+  pub good : good_lines 0 limit (first_record (lines_of s)) ≡ fine tt
+  pub code : code_of (first_line s) ≡ some c
+  pub count : lines ≡ length (first_record (lines_of s))
+  pub extent : size ≡ record_size (first_record (lines_of s))
   pub some-line : 0 < lines
   pub few : lines ≤ size
   pub fits : size ≤ length s
 
 -- or there is no record
-abbrev pub ScanIs : Scanned → ℕ → ℕ → Bytes → Type 0
-ScanIs scanned.End cut limit s = length s ≡ 0
-ScanIs (scanned.Refused why) cut limit s = Stopped cut limit s (refusal_meant why)
-ScanIs (scanned.Record c n size) cut limit s = Whole cut limit s (code_meant c) n.0 size
+abbrev pub ScanIs : Scanned → ℕ → Bytes → Type 0
+ScanIs scanned.End limit s = length s ≡ 0
+ScanIs (scanned.Refused why) limit s = Stopped limit s (refusal_meant why)
+ScanIs (scanned.Record c n size) limit s = Whole limit s (code_meant c) n.0 size

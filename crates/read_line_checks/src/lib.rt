@@ -2,8 +2,6 @@
 ghost use Rattle.std.specs.Prelude.{◌≡◌, ◌<◌, length, drop};
 ghost use Rattle.rules.specs.Lines.{lines_of};
 ghost use Rattle.rules.specs.Verdict.{none_longer};
-ghost use Rattle.read_lines.specs.Cuts.{lines_by};
-ghost use Rattle.read_cuts.specs.Reaches.{reach_by};
 ghost use Rattle.read_line_checks.specs.LineChecks.{checked_of, place_within, CleanIs, LineIs, ScanIs};
 
 use base_codes::Code;
@@ -40,14 +38,14 @@ pub enum Scanned {
     Record(Code, Records, usize),
 }
 
-// 3, 4 of the line that starts there, in what it may reach.
-fn clean_line(cut: usize, near: &[u8], start: Place, limit: usize) -> Clean
-    requires { start.0 < length near.now }
-    ensures { CleanIs result cut start.0 limit (drop start.0 near.now) }
+// 3, 4 of the line that starts there.
+fn clean_line(s: &[u8], start: Place, limit: usize) -> Clean
+    requires { start.0 < length s.now }
+    ensures { CleanIs result start.0 limit (drop start.0 s.now) }
 {
     let at = start.0;
-    let i = read_lines::scan::plain_end(near, start, b'~').0;
-    let e = read_cuts::end_from(cut, near, Place(i)).0;
+    let i = read_lines::scan::plain_end(s, start, b'~').0;
+    let e = read_lines::body_end(s, Place(i)).0;
     if limit < e - at {
         return Clean::Refused(Refusal {
             number: LINE_TOO_LONG,
@@ -63,56 +61,50 @@ fn clean_line(cut: usize, near: &[u8], start: Place, limit: usize) -> Clean
     Clean::Ends(Place(e))
 }
 
-// 3, 4, 5 of the line that starts there, in what it may reach.
-fn good_line(cut: usize, near: &[u8], start: Place, limit: usize) -> GoodLine
-    requires { start.0 < length near.now }
-    ensures { LineIs result cut start.0 limit (drop start.0 near.now) }
+// 3, 4, 5 of the line that starts there.
+fn good_line(s: &[u8], start: Place, limit: usize) -> GoodLine
+    requires { start.0 < length s.now }
+    ensures { LineIs result start.0 limit (drop start.0 s.now) }
 {
-    match clean_line(cut, near, start, limit) {
+    match clean_line(s, start, limit) {
         Clean::Refused(why) => GoodLine::Refused(why),
-        Clean::Ends(e) => match read_lines::code_at(near, start) {
+        Clean::Ends(e) => match read_lines::code_at(s, start) {
             Coded::None => GoodLine::Refused(Refusal {
                 number: NO_RECORD_CODE,
                 place: start,
             }),
-            Coded::With(code) => GoodLine::Good(
-                code,
-                Place(e.0 + read_cuts::tail_len(cut, near, e)),
-            ),
+            Coded::With(code) => GoodLine::Good(code, Place(e.0 + read_lines::end_len(s, e))),
         },
     }
 }
 
 // 3, 4, 5 of the 88 lines from `next` on, after a good first line of this code.
-fn scan_further(cut: usize, s: &[u8], limit: usize, code: Code, next: Place) -> Scanned
-    requires { (0 < length s.now) × LineIs (GoodLine.Good code next) cut 0 limit (reach_by cut 0 s.now) }
-    ensures { ScanIs result cut limit s.now }
+fn scan_further(s: &[u8], limit: usize, code: Code, next: Place) -> Scanned
+    requires { (0 < length s.now) × LineIs (GoodLine.Good code next) 0 limit s.now }
+    ensures { ScanIs result limit s.now }
 {
     let mut at = next.0;
     let mut n: u64 = 1;
-    loop {
-        let near = read_cuts::reach(cut, s, Place(at));
-        if !read_lines::begins_with(near, Place(at), b'8', b'8') {
-            return Scanned::Record(code, Records(n), at);
-        }
-        match clean_line(cut, near, Place(at), limit) {
+    while read_lines::begins_with(s, Place(at), b'8', b'8') {
+        match clean_line(s, Place(at), limit) {
             Clean::Refused(why) => return Scanned::Refused(why),
-            Clean::Ends(e) => at = e.0 + read_cuts::tail_len(cut, near, e),
+            Clean::Ends(e) => at = e.0 + read_lines::end_len(s, e),
         }
         n += 1;
     }
+    Scanned::Record(code, Records(n), at)
 }
 
 // 3, 4, 5 of each line of the record in front of s.
-pub fn scan_record(cut: usize, s: &[u8], limit: usize) -> Scanned
-    ensures { ScanIs result cut limit s.now }
+pub fn scan_record(s: &[u8], limit: usize) -> Scanned
+    ensures { ScanIs result limit s.now }
 {
     if s.len() == 0 {
         return Scanned::End;
     }
-    match good_line(cut, read_cuts::reach(cut, s, Place(0)), Place(0), limit) {
+    match good_line(s, Place(0), limit) {
         GoodLine::Refused(why) => Scanned::Refused(why),
-        GoodLine::Good(code, next) => scan_further(cut, s, limit, code, next),
+        GoodLine::Good(code, next) => scan_further(s, limit, code, next),
     }
 }
 
@@ -130,23 +122,6 @@ pub fn none_longer(s: &[u8], limit: usize) -> Checked
             });
         }
         start = e + read_lines::end_len(s, Place(e));
-    }
-    Checked::Fine
-}
-
-// 3 alone, of each line by this cut; no block is longer than the first.
-pub fn none_longer_by(cut: usize, s: &[u8], limit: usize) -> Checked
-    ensures { (checked_of result ≡ none_longer 0 limit (lines_by cut s.now)) × place_within result (length s.now) }
-{
-    if cut == 0 {
-        return none_longer(s, limit);
-    }
-    let block = read_cuts::reach(cut, s, Place(0));
-    if limit < block.len() {
-        return Checked::Refused(Refusal {
-            number: LINE_TOO_LONG,
-            place: Place(limit),
-        });
     }
     Checked::Fine
 }

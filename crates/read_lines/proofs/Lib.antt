@@ -1,6 +1,5 @@
 -- What the code's scans find, in terms of lines, checks and records.
 pub mod LineLengthLaws
-pub mod CutLaws
 pub mod OneRecord
 pub mod RunLengths
 pub mod Blocks

@@ -2,7 +2,7 @@
 use Prim.Native.Nat.{ℕ, zero, suc, ◌+◌, ◌-◌, ◌≤◌, ◌<◌}
 use mathlib.Core.Path.{◌≡◌, refl, ap, sym, ◌∙◌}
 use mathlib.Core.List.{[], ◌∷◌}
-use mathlib.Core.Bool.{Bool, true, false}
+use mathlib.Core.Bool.{true, false}
 use native.Mathlib.Omega.{arith}
 use native.Mathlib.Nat.{zero-add, add-zero, suc-add}
 use borrow.Author.Tests.{leb-true, leb-false}
@@ -10,13 +10,11 @@ use lib.ListN.{length, take, drop, drop_of_length-le, length-drop, length-take}
 use lib.Seq.{drop-drop, take-nil}
 use lib.Dec.{leb}
 use Rattle.rules.specs.Bytes.{Bytes, same_bytes}
-use Rattle.rules.specs.Lines.{lines_of, begins, continuation, code_bytes, record_size}
+use Rattle.rules.specs.Lines.{lines_of, continuation, code_bytes, record_size}
 use Rattle.rules.proofs.Tests.{Known, holds, fails, known}
 use Rattle.read_lines.specs.LineLengths.{run, stops_at, body_len, end_len, line_len, first_line, further, first_record}
-use Rattle.read_lines.specs.Cuts.{lines_by, body_by, tail_by, line_by, first_by}
-use Rattle.read_lines.proofs.LineLengthLaws.{line-some, line-fits, body-of-part}
-use Rattle.read_lines.proofs.CutLaws.{none-by, first_by_lem}
-use Rattle.read_lines.proofs.OneRecord.{size-by, first-size}
+use Rattle.read_lines.proofs.LineLengthLaws.{first_of, line-some, line-fits, body-of-part}
+use Rattle.read_lines.proofs.OneRecord.{first-size}
 use Rattle.read_lines.proofs.Fronts.{body-after, begins-front}
 
 -- the line's end is where a search from the first byte that is not plain finds it
@@ -66,75 +64,45 @@ body-in s size at e n p q h = by_size (known (leb (length s) at))
         let same = body-of-part (drop at s) (size - at) (omega (arith, length-drop at s)) (omega arith) in
         p ∙ ap (λ (k : ℕ). at + k) (sym same ∙ ap (λ (xs : Bytes). body_len xs) part)
 
--- ---- lines one after the other, by either cut
+-- ---- lines one after the other
 
-module _ (cut : ℕ) (s : Bytes) (at : ℕ) where
-  pub lines-here-by : (n : ℕ) → at < length s → n ≡ at + line_by cut (drop at s) → lines_by cut (drop at s) ≡ first_by cut (drop at s) ∷ lines_by cut (drop n s)
-  lines-here-by n h p =
-      let l = length-drop at s in
-      first_by_lem cut (drop at s) (omega arith)
-      ∙ ap (λ (xs : Bytes). first_by cut (drop at s) ∷ lines_by cut xs) (drop-drop (line_by cut (drop at s)) at s ∙ ap (λ (k : ℕ). drop k s) (sym p))
+pub lines-here : (s : Bytes) (at n : ℕ) → at < length s → n ≡ at + line_len (drop at s) → lines_of (drop at s) ≡ first_line (drop at s) ∷ lines_of (drop n s)
+lines-here s at n h p =
+    let l = length-drop at s in
+    first_of (drop at s) (omega arith) ∙ ap (λ (xs : Bytes). first_line (drop at s) ∷ lines_of xs) (drop-drop (line_len (drop at s)) at s ∙ ap (λ (k : ℕ). drop k s) (sym p))
 
-  pub no_lines : length s ≤ at → lines_by cut (drop at s) ≡ []
-  no_lines h = ap (lines_by cut) (drop_of_length-le s {i = at} h) ∙ none-by cut
+-- ---- its 88 lines, by the test of the three bytes at `at`
 
-  -- its 88 lines
-  pub further-some-by : begins continuation (first_by cut (drop at s)) ≡ true → at < length s
-  unfolding begins same_bytes
-  further-some-by t = by_size (known (leb (length s) at))
+module _ (s : Bytes) (at : ℕ) where
+  pub further-some : same_bytes (code_bytes continuation) (take 3 (drop at s)) ≡ true → at < length s
+  unfolding same_bytes
+  further-some t = by_size (known (leb (length s) at))
     where
       by_size : Known (leb (length s) at) → at < length s
       by_size (holds q) =
-          let e = drop_of_length-le s {i = at} (leb-true (length s) at q) in
-          let z : false ≡ true = rw (e, take-nil (body_by cut [])) at t in let y : ◌≡◌ {A = ℕ} 0 1 = cc in absurd (omega arith)
+          let z : false ≡ true = rw (drop_of_length-le s {i = at} (leb-true (length s) at q)) at t in let y : ◌≡◌ {A = ℕ} 0 1 = cc in absurd (omega arith)
       by_size (fails q) = leb-false (length s) at q
 
-  pub further-none-by : begins continuation (first_by cut (drop at s)) ≡ false → further (lines_by cut (drop at s)) ≡ []
-  unfolding further
-  further-none-by t = by_size (known (leb (length s) at))
-    where
-      by_size : Known (leb (length s) at) → further (lines_by cut (drop at s)) ≡ []
-      by_size (holds q) = rw (no_lines (leb-true (length s) at q))
-      by_size (fails q) = rw (lines-here-by (at + line_by cut (drop at s)) (leb-false (length s) at q) refl, t)
-
-  module _ (t : begins continuation (first_by cut (drop at s)) ≡ true) (n : ℕ) (p : n ≡ at + line_by cut (drop at s)) where
-    pub further-first-by : further (lines_by cut (drop at s)) ≡ first_by cut (drop at s) ∷ further (lines_by cut (drop n s))
-    unfolding further
-    further-first-by = rw (lines-here-by n (further-some-by t) p, t)
-
-    pub further-size-by : at + record_size (further (lines_by cut (drop at s))) ≡ n + record_size (further (lines_by cut (drop n s)))
-    unfolding record_size
-    further-size-by = rw further-first-by (let z = size-by cut (drop at s) in omega arith)
-
-    pub further-count-by : length (further (lines_by cut (drop at s))) ≡ suc (length (further (lines_by cut (drop n s))))
-    further-count-by = rw further-first-by
-
--- ---- the same at line ends, by the test of the three bytes at `at`
-
-module _ (s : Bytes) (at : ℕ) where
-  pub lines-here : (n : ℕ) → at < length s → n ≡ at + line_len (drop at s) → lines_of (drop at s) ≡ first_line (drop at s) ∷ lines_of (drop n s)
-  unfolding lines_by body_by tail_by
-  lines-here n h p = lines-here-by 0 s at n h p
-
-  begun : (b : Bool) → same_bytes (code_bytes continuation) (take 3 (drop at s)) ≡ b → begins continuation (first_by 0 (drop at s)) ≡ b
-  unfolding body_by tail_by
-  begun b t = begins-front continuation (drop at s) ∙ t
-
-  pub further-some : same_bytes (code_bytes continuation) (take 3 (drop at s)) ≡ true → at < length s
-  further-some t = further-some-by 0 s at (begun true t)
-
   pub further-none : same_bytes (code_bytes continuation) (take 3 (drop at s)) ≡ false → further (lines_of (drop at s)) ≡ []
-  unfolding lines_by
-  further-none t = further-none-by 0 s at (begun false t)
+  unfolding further lines_of
+  further-none t = by_size (known (leb (length s) at))
+    where
+      by_size : Known (leb (length s) at) → further (lines_of (drop at s)) ≡ []
+      by_size (holds q) = rw (drop_of_length-le s {i = at} (leb-true (length s) at q))
+      by_size (fails q) =
+          rw (lines-here s at (at + line_len (drop at s)) (leb-false (length s) at q) refl, begins-front continuation (drop at s) ∙ t)
 
-  module _ (t : same_bytes (code_bytes continuation) (take 3 (drop at s)) ≡ true) (n : ℕ) (p : n ≡ at + line_len (drop at s)) where
-    pub further-size : at + record_size (further (lines_of (drop at s))) ≡ n + record_size (further (lines_of (drop n s)))
-    unfolding lines_by body_by tail_by
-    further-size = further-size-by 0 s at (begun true t) n p
+  module _ (t : same_bytes (code_bytes continuation) (take 3 (drop at s)) ≡ true) where
+    pub further-first : (n : ℕ) → n ≡ at + line_len (drop at s) → further (lines_of (drop at s)) ≡ first_line (drop at s) ∷ further (lines_of (drop n s))
+    unfolding further
+    further-first n p = rw (lines-here s at n (further-some t) p, begins-front continuation (drop at s) ∙ t)
 
-    pub further-count : length (further (lines_of (drop at s))) ≡ suc (length (further (lines_of (drop n s))))
-    unfolding lines_by body_by tail_by
-    further-count = further-count-by 0 s at (begun true t) n p
+    pub further-size : (n : ℕ) → n ≡ at + line_len (drop at s) → at + record_size (further (lines_of (drop at s))) ≡ n + record_size (further (lines_of (drop n s)))
+    unfolding record_size
+    further-size n p = rw (further-first n p) (let z = first-size (drop at s) in omega arith)
+
+    pub further-count : (n : ℕ) → n ≡ at + line_len (drop at s) → length (further (lines_of (drop at s))) ≡ suc (length (further (lines_of (drop n s))))
+    further-count n p = rw (further-first n p)
 
 -- ---- the record's end alone
 

@@ -1,7 +1,7 @@
 -- The first line of bytes, and what follows it. Assumes nothing.
 use Prim.Native.Nat.{ℕ, suc, ◌+◌, ◌-◌, ◌≤◌, ◌<◌}
 use mathlib.Core.Path.{◌≡◌, refl, ap, sym, ◌∙◌}
-use mathlib.Core.List.{List, [], ◌∷◌}
+use mathlib.Core.List.{[], ◌∷◌}
 use mathlib.Core.Bool.{Bool, true, false}
 use native.Mathlib.Omega.{arith}
 use native.Mathlib.Nat.{suc-add}
@@ -95,17 +95,12 @@ pub first-of-part : (xs : Bytes) (k : ℕ) → 0 < length xs → lines_of (take 
 first-of-part [] k h = absurd (omega arith)
 first-of-part (b ∷ bs) k h = cut-first b bs k
 
--- what begins so in every part that holds so many bytes begins so
-pub whole_of : (lines : Bytes → List Line) (l : Line) (k : ℕ) (xs : Bytes) → ((n : ℕ) → lines (take (k + n) xs) ≡ l ∷ lines (take n (drop k xs)))
-    → lines xs ≡ l ∷ lines (drop k xs)
-whole_of lines l k xs part =
-    let a = take_all (k + length xs) xs (omega arith) in
-    let d = length-drop k xs in
-    let b = take_all (length xs) (drop k xs) (omega arith) in
-    ap lines (sym a) ∙ part (length xs) ∙ ap (λ (ys : Bytes). l ∷ lines ys) b
-
 pub first_of : (xs : Bytes) → 0 < length xs → lines_of xs ≡ first_line xs ∷ lines_of (drop (line_len xs) xs)
-first_of xs h = whole_of lines_of (first_line xs) (line_len xs) xs (λ n. first-of-part xs n h)
+first_of xs h =
+    let a = take_all (line_len xs + length xs) xs (omega arith) in
+    let d = length-drop (line_len xs) xs in
+    let b = take_all (length xs) (drop (line_len xs) xs) (omega arith) in
+    ap lines_of (sym a) ∙ first-of-part xs (length xs) h ∙ ap (λ (l : Bytes). first_line xs ∷ lines_of l) b
 
 -- a line's end is within the bytes
 pub end_fits : (xs : Bytes) → end_len xs ≤ length xs

@@ -12,8 +12,7 @@ use Rattle.rules.specs.Bytes.{Bytes, LF, CR}
 use Rattle.rules.specs.Lines.{LineEnd, lacking, lf, crlf, end_bytes, Line, size_of, longer_line, longer_first, lines_of, begins, continuation, line_before, records_of, record_size}
 use Rattle.rules.proofs.Tests.{Known, holds, fails, known}
 use Rattle.read_lines.specs.LineLengths.{line_len, first_line, further, first_record}
-use Rattle.read_lines.specs.Cuts.{lines_by, body_by, tail_by, line_by, first_by}
-use Rattle.read_lines.proofs.CutLaws.{body-by, none-by, part_by, first_by_lem}
+use Rattle.read_lines.proofs.LineLengthLaws.{first_of, first-of-part, first_body}
 
 -- the lines after the 88 lines in front
 unfoldable rest : List Line → List Line
@@ -32,75 +31,58 @@ unfolding records_of further rest
 first-record [] l = refl
 first-record (m ∷ ls) l = first-record-step l m ls (first-record ls) (known (begins continuation m))
 
--- ---- by either cut
-
-module _ (cut : ℕ) where
-  -- a line's size
-  pub size-by : (xs : Bytes) → size_of (first_by cut xs) ≡ line_by cut xs
-  size-by xs = rw (body-by cut xs)
-
-  -- bytes whose first lines are 88 lines: those, and the lines after them, are the lines of two parts
-  abbrev Cuts : List Line → Bytes → Type 0
-  Cuts ls xs = (lines_by cut (take (record_size (further ls)) xs) ≡ further ls) × (lines_by cut (drop (record_size (further ls)) xs) ≡ rest ls)
-
-  -- bytes with a line are some
-  some_bytes : (l : Line) (ls : List Line) (xs : Bytes) → lines_by cut xs ≡ l ∷ ls → 0 < length xs
-  some_bytes l ls [] h = let n = none-by cut in let z : ◌≡◌ {A = ℕ} 0 1 = cc in absurd (omega arith)
-  some_bytes l ls (b ∷ bs) h = omega arith
-
-  cuts-step : (l : Line) (ls : List Line) (xs : Bytes) → lines_by cut xs ≡ l ∷ ls
-      → (lines_by cut (drop (line_by cut xs) xs) ≡ ls → Cuts ls (drop (line_by cut xs) xs)) → Known (begins continuation l) → Cuts (l ∷ ls) xs
-  unfolding further rest record_size
-  cuts-step l ls xs h ih (fails t) = (rw t (none-by cut), rw t h)
-  cuts-step l ls xs h ih (holds t) =
-      let s = some_bytes l ls xs h in
-      let f = first_by_lem cut xs s in
-      let a : first_by cut xs ≡ l = cc in
-      let b : lines_by cut (drop (line_by cut xs) xs) ≡ ls = cc in
-      let n : size_of l ≡ line_by cut xs = ap (λ (m : Line). size_of m) (sym a) ∙ size-by xs in
-      let i = ih b in
-      rw (t, n) ((part_by cut xs (record_size (further ls)) s ∙ rw (a, i.0), rw (← drop-drop) i.1))
-
-  cuts : (ls : List Line) (xs : Bytes) → lines_by cut xs ≡ ls → Cuts ls xs
-  unfolding further rest record_size
-  cuts [] xs h = (none-by cut, h)
-  cuts (l ∷ ls) xs h = cuts-step l ls xs h (cuts ls (drop (line_by cut xs) xs)) (known (begins continuation l))
-
-  -- THE FIRST RECORD of a file of one byte or more, and the file after it
-  module _ (xs : Bytes) (k : ℕ) (e : k ≡ record_size (first_record (lines_by cut xs))) (h : 0 < length xs) where
-    extent : k ≡ line_by cut xs + record_size (further (lines_by cut (drop (line_by cut xs) xs)))
-    unfolding first_record record_size
-    extent = e ∙ rw (first_by_lem cut xs h) (rw (size-by xs))
-
-    pub first-part-by : lines_by cut (take k xs) ≡ first_record (lines_by cut xs)
-    unfolding first_record
-    first-part-by =
-        let ls : List Line = lines_by cut (drop (line_by cut xs) xs) in
-        let i = cuts ls (drop (line_by cut xs) xs) refl in
-        rw (extent, first_by_lem cut xs h) (part_by cut xs (record_size (further ls)) h ∙ rw i.0)
-
-    pub one-record-by : records_of (lines_by cut xs) ≡ first_record (lines_by cut xs) ∷ records_of (lines_by cut (drop k xs))
-    unfolding first_record
-    one-record-by =
-        let ls : List Line = lines_by cut (drop (line_by cut xs) xs) in
-        let i = cuts ls (drop (line_by cut xs) xs) refl in
-        let b : lines_by cut (drop k xs) ≡ rest ls = rw extent (rw (← drop-drop) i.1) in
-        rw (b, first_by_lem cut xs h) (first-record ls (first_by cut xs))
-
--- ---- at line ends
-
+-- a line's size
 pub first-size : (xs : Bytes) → size_of (first_line xs) ≡ line_len xs
-unfolding body_by tail_by
-first-size xs = size-by 0 xs
+first-size xs = rw (first_body xs)
 
+-- bytes whose first lines are 88 lines: those, and the lines after them, are the lines of two parts
+abbrev Cuts : List Line → Bytes → Type 0
+Cuts ls xs = (lines_of (take (record_size (further ls)) xs) ≡ further ls) × (lines_of (drop (record_size (further ls)) xs) ≡ rest ls)
+
+-- bytes with a line are some
+some_bytes : (l : Line) (ls : List Line) (xs : Bytes) → lines_of xs ≡ l ∷ ls → 0 < length xs
+unfolding lines_of
+some_bytes l ls [] h = let z : ◌≡◌ {A = ℕ} 0 1 = cc in absurd (omega arith)
+some_bytes l ls (b ∷ bs) h = omega arith
+
+cuts-step : (l : Line) (ls : List Line) (xs : Bytes) → lines_of xs ≡ l ∷ ls
+    → (lines_of (drop (line_len xs) xs) ≡ ls → Cuts ls (drop (line_len xs) xs)) → Known (begins continuation l) → Cuts (l ∷ ls) xs
+unfolding further rest record_size lines_of
+cuts-step l ls xs h ih (fails t) = (rw t, rw t h)
+cuts-step l ls xs h ih (holds t) =
+    let s = some_bytes l ls xs h in
+    let f = first_of xs s in
+    let a : first_line xs ≡ l = cc in
+    let b : lines_of (drop (line_len xs) xs) ≡ ls = cc in
+    let n : size_of l ≡ line_len xs = ap (λ (m : Line). size_of m) (sym a) ∙ first-size xs in
+    let i = ih b in
+    rw (t, n) ((first-of-part xs (record_size (further ls)) s ∙ rw (a, i.0), rw (← drop-drop) i.1))
+
+cuts : (ls : List Line) (xs : Bytes) → lines_of xs ≡ ls → Cuts ls xs
+unfolding further rest record_size lines_of
+cuts [] xs h = (refl, h)
+cuts (l ∷ ls) xs h = cuts-step l ls xs h (cuts ls (drop (line_len xs) xs)) (known (begins continuation l))
+
+-- THE FIRST RECORD of a file of one byte or more, and the file after it
 module _ (xs : Bytes) (k : ℕ) (e : k ≡ record_size (first_record (lines_of xs))) (h : 0 < length xs) where
+  extent : k ≡ line_len xs + record_size (further (lines_of (drop (line_len xs) xs)))
+  unfolding first_record record_size
+  extent = e ∙ rw (first_of xs h) (rw (first-size xs))
+
   pub first_part : lines_of (take k xs) ≡ first_record (lines_of xs)
-  unfolding lines_by
-  first_part = first-part-by 0 xs k e h
+  unfolding first_record
+  first_part =
+      let ls : List Line = lines_of (drop (line_len xs) xs) in
+      let i = cuts ls (drop (line_len xs) xs) refl in
+      rw (extent, first_of xs h) (first-of-part xs (record_size (further ls)) h ∙ rw i.0)
 
   pub one-record : records_of (lines_of xs) ≡ first_record (lines_of xs) ∷ records_of (lines_of (drop k xs))
-  unfolding lines_by
-  one-record = one-record-by 0 xs k e h
+  unfolding first_record
+  one-record =
+      let ls : List Line = lines_of (drop (line_len xs) xs) in
+      let i = cuts ls (drop (line_len xs) xs) refl in
+      let b : lines_of (drop k xs) ≡ rest ls = rw extent (rw (← drop-drop) i.1) in
+      rw (b, first_of xs h) (first-record ls (first_line xs))
 
 -- how many bytes lines have
 longer-size : (b : ℕ) (bs : Bytes) (e : LineEnd) → size_of (longer_line b bs e) ≡ suc (length bs + length (end_bytes e))

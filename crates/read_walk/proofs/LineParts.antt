@@ -1,6 +1,6 @@
 -- Parts of a record, from a to e, in two forms; the first line from a place on; and a line with no byte after its code. Assumes nothing.
-use Prim.Native.Nat.{ℕ, suc, ◌+◌, ◌-◌, ◌≤◌, ◌<◌}
-use mathlib.Core.Path.{◌≡◌, sym, ap, ◌∙◌}
+use Prim.Native.Nat.{ℕ, zero, suc, ◌+◌, ◌-◌, ◌≤◌, ◌<◌}
+use mathlib.Core.Path.{◌≡◌, refl, sym, ap, ◌∙◌}
 use mathlib.Core.Bool.{true}
 use mathlib.Core.List.{List, [], ◌∷◌}
 use native.Mathlib.Omega.{arith}
@@ -10,8 +10,7 @@ use Rattle.rules.specs.Bytes.{Bytes}
 use Rattle.rules.specs.Lines.{size_of}
 use Rattle.rules.specs.Grammar.{Kind, bad, and_then, take_next, next_kind, is_text}
 use Rattle.read_lines.specs.LineLengths.{body_len, line_len, first_line}
-use Rattle.read_lines.specs.Cuts.{body_by, tail_by, line_by, first_by}
-use Rattle.read_lines.proofs.OneRecord.{size-by}
+use Rattle.read_lines.proofs.OneRecord.{first-size}
 use Rattle.read_kept.proofs.EachKind.{told}
 use Rattle.read_lines.proofs.LineLaws.{take-drop}
 
@@ -29,27 +28,23 @@ module _ (s : Bytes) (a e k : ℕ) (h : a + k ≤ e) where
 pub part-get : (s : Bytes) (a e k : ℕ) → a + k < e → get_or (slice a e s) k 0 ≡ get_or s (a + k) 0
 part-get s a e k h = get_or-drop a (take e s) k 0 ∙ get_or-take e s (a + k) 0 h
 
--- ---- a line that starts at `at` and ends at e, before the one at n, by either cut
+-- what stands in front stands there by its own length
+pub front_length : (n : ℕ) (s : Bytes) → take n s ≡ take (length (take n s)) s
+front_length zero s = refl
+front_length (suc n) [] = refl
+front_length (suc n) (x ∷ xs) = ap (λ (l : Bytes). x ∷ l) (front_length n xs)
 
-module _ (cut : ℕ) (s : Bytes) (at e n : ℕ) (he : e ≡ at + body_by cut (drop at s)) (hn : n ≡ at + line_by cut (drop at s)) where
-  pub line-size-by : at + size_of (first_by cut (drop at s)) ≡ n
-  line-size-by = ap (λ (m : ℕ). at + m) (size-by cut (drop at s)) ∙ sym hn
+-- ---- a line that starts at `at` and ends at e, before the one at n
 
-  -- its bytes after the code and the comma
-  pub line-fields-by : drop 3 (first_by cut (drop at s)).body ≡ slice (at + 3) e s
-  line-fields-by =
-      let i : (first_by cut (drop at s)).body ≡ slice at e s = take-drop at (body_by cut (drop at s)) s ∙ ap (λ (m : ℕ). slice at m s) (sym he) in
-      ap (λ (xs : Bytes). drop 3 xs) i ∙ drop-drop 3 at (take e s)
-
--- the same at line ends
 module _ (s : Bytes) (at e n : ℕ) (he : e ≡ at + body_len (drop at s)) (hn : n ≡ at + line_len (drop at s)) where
   pub line-size : at + size_of (first_line (drop at s)) ≡ n
-  unfolding body_by tail_by
-  line-size = line-size-by 0 s at e n he hn
+  line-size = ap (λ (m : ℕ). at + m) (first-size (drop at s)) ∙ sym hn
 
+  -- its bytes after the code and the comma
   pub line-fields : drop 3 (first_line (drop at s)).body ≡ slice (at + 3) e s
-  unfolding body_by tail_by
-  line-fields = line-fields-by 0 s at e n he hn
+  line-fields =
+      let i : (first_line (drop at s)).body ≡ slice at e s = take-drop at (body_len (drop at s)) s ∙ ap (λ (m : ℕ). slice at m s) (sym he) in
+      ap (λ (xs : Bytes). drop 3 xs) i ∙ drop-drop 3 at (take e s)
 
 -- ---- a line with no byte after its code
 

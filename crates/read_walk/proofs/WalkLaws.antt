@@ -10,11 +10,11 @@ use lib.ListN.{length, take, drop, get_or, length-take, length-drop, drop_of_len
 use lib.Seq.{slice, length-slice, length-take-le, drop-drop}
 use Rattle.rules.specs.Bytes.{Bytes, slash, trimmed}
 use Rattle.rules.specs.Outcome.{Outcome, refuse, fine, ◌>>=◌}
-use Rattle.rules.specs.Lines.{Line}
+use Rattle.rules.specs.Lines.{Line, size_of, lines_of}
 use Rattle.rules.specs.Cells.{Cell, cells_from, cells_of, leading_blanks}
 use Rattle.rules.specs.Grammar.{Kind, bad, good, and_then, take_next, next_kind, is_text}
 use Rattle.rules.proofs.Tests.{Known, holds, fails, known}
-use Rattle.read_lines.specs.Cuts.{lines_by, body_by, line_by}
+use Rattle.read_lines.specs.LineLengths.{body_len, line_len, first_line}
 use Rattle.read_wanted.specs.Wants.{purpose}
 use Rattle.read_field_ends.specs.declared.Extent.TheVariants.{Field, Open}
 use Rattle.read_field_ends.specs.FieldLengths.{field_len, extent_of}
@@ -23,8 +23,8 @@ use Rattle.read_kept.specs.declared.Kept.{Kept}
 use Rattle.read_kept.specs.KeepFields.{keep_read}
 use Rattle.read_kept.proofs.EachKind.{told}
 use Rattle.read_walk.specs.WalkKept.{WalkK, point, walk_after_k, taken_k, past_slash_k, taken_to_k, walk_cells_k, walk_lines_k, end_k, walk_from}
-use Rattle.read_lines.proofs.LineLaws.{lines-here-by, no_lines}
-use Rattle.read_walk.proofs.LineParts.{part-front, part-back, part-get, line-size-by, line-fields-by, text-empty}
+use Rattle.read_lines.proofs.LineLaws.{lines-here}
+use Rattle.read_walk.proofs.LineParts.{part-front, part-back, part-get, line-size, line-fields, text-empty}
 use Rattle.read_walk.proofs.FirstCells.{first-open, first-comma, first-slash, comma-there, Starts, starts, cells-start}
 
 -- ---- a field that was judged
@@ -145,24 +145,24 @@ short-here s w a e h =
     let z : slice a e s ≡ [] = drop_of_length-le (take e s) {i = a} (rw length-take (omega arith)) in
     rw z (no_cells w a (known (is_text (next_kind w.wanted))))
 
--- ---- a line that starts at `at` and ends at e, before the one at n, by either cut
+-- ---- a line that starts at `at` and ends at e, before the one at n
 
-module _ (cut : ℕ) (s : Bytes) (at e n : ℕ) (h : at < length s) (he : e ≡ at + body_by cut (drop at s)) (hn : n ≡ at + line_by cut (drop at s)) (w : WalkK) where
-  line_first : walk_lines_k at w (lines_by cut (drop at s)) ≡ walk_cells_k w (cells_from (at + 3) (slice (at + 3) e s)) >>= λ next. walk_lines_k n next (lines_by cut (drop n s))
+module _ (s : Bytes) (at e n : ℕ) (h : at < length s) (he : e ≡ at + body_len (drop at s)) (hn : n ≡ at + line_len (drop at s)) (w : WalkK) where
+  line_first : walk_lines_k at w (lines_of (drop at s)) ≡ walk_cells_k w (cells_from (at + 3) (slice (at + 3) e s)) >>= λ next. walk_lines_k n next (lines_of (drop n s))
   unfolding walk_lines_k cells_of
-  line_first = rw (lines-here-by cut s at n h hn, line-size-by cut s at e n he hn, line-fields-by cut s at e n he hn)
+  line_first = rw (lines-here s at n h hn, line-size s at e n he hn, line-fields s at e n he hn)
 
-  pub line-stop : (k q : ℕ) → walk_cells_k w (cells_from (at + 3) (slice (at + 3) e s)) ≡ refuse k q → walk_lines_k at w (lines_by cut (drop at s)) ≡ refuse k q
+  pub line-stop : (k q : ℕ) → walk_cells_k w (cells_from (at + 3) (slice (at + 3) e s)) ≡ refuse k q → walk_lines_k at w (lines_of (drop at s)) ≡ refuse k q
   line-stop k q r = line_first ∙ rw r
 
-  pub line-go : (v : WalkK) → walk_cells_k w (cells_from (at + 3) (slice (at + 3) e s)) ≡ fine v → walk_lines_k at w (lines_by cut (drop at s)) ≡ walk_lines_k n v (lines_by cut (drop n s))
+  pub line-go : (v : WalkK) → walk_cells_k w (cells_from (at + 3) (slice (at + 3) e s)) ≡ fine v → walk_lines_k at w (lines_of (drop at s)) ≡ walk_lines_k n v (lines_of (drop n s))
   line-go v r = line_first ∙ rw r
 
 -- ---- the record
 
-pub lines_end : (cut : ℕ) (s : Bytes) (w : WalkK) (at : ℕ) → length s ≤ at → walk_lines_k at w (lines_by cut (drop at s)) ≡ fine w
-unfolding walk_lines_k
-lines_end cut s w at h = rw (no_lines cut s at h)
+pub lines_end : (s : Bytes) (w : WalkK) (at : ℕ) → length s ≤ at → walk_lines_k at w (lines_of (drop at s)) ≡ fine w
+unfolding walk_lines_k lines_of
+lines_end s w at h = rw (drop_of_length-le s {i = at} h)
 
 -- from the point that the code starts at
 module _ (ks : List Kind) (k : Kept) (ls : List Line) (first : WalkK) (is : first ≡ point ks k 0) where

@@ -2,7 +2,7 @@
 use Rattle.std.specs.Prelude.{ℕ, ◌+◌, ◌≤◌, ◌≡◌, length}
 use Rattle.rules.specs.Bytes.{Bytes}
 use Rattle.rules.specs.Outcome.{Outcome, refused, fine}
-use Rattle.read_lines.specs.Cuts.{lines_by}
+use Rattle.rules.specs.Lines.{lines_of}
 use Rattle.base_refusals.specs.RefusalMeaning.{refusal_meant}
 use Rattle.read_wanted.specs.declared.want.Want.{Want}
 use Rattle.read_wanted.specs.Wants.{wanted_of}
@@ -22,7 +22,7 @@ abbrev pub Bounds : ℕ → ℕ → Walked → Type 0
 Bounds n m (Refused why) = why.place.0 ≤ n + 3
 Bounds n m (Done k) = Within n m k
 
--- the cut, a record's bytes, what is wanted first, the magnitudes before, and the answer
-pub record Walks (cut : ℕ) (rec : Bytes) (first : Want) (before : ℕ) (r : Walked) : Type 0 where
-  pub answer : walked_of r ≡ walk_from (wanted_of first) (nothing_kept before) (lines_by cut rec)
+-- a record's bytes, what is wanted first, the magnitudes before, and the answer
+pub record Walks (rec : Bytes) (first : Want) (before : ℕ) (r : Walked) : Type 0 where
+  pub answer : walked_of r ≡ walk_from (wanted_of first) (nothing_kept before) (lines_of rec)
   pub bounds : Bounds (length rec) before r

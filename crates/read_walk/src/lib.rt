@@ -41,9 +41,9 @@ fn stop(number: u64, place: Place) -> Walked
 
 // The walk over the record in front of rest stops at the first fault found; places are counted from the record's start. `before`: the magnitudes of the
 // records before.
-fn walk_lines(cut: usize, rest: &[u8], rec: &[u8], first: Want, before: Magnitude) -> Walked
+fn walk_lines(rest: &[u8], rec: &[u8], first: Want, before: Magnitude) -> Walked
     requires { rec.now ≡ take (length rec.now) rest.now }
-    ensures { Walks cut rec.now first before.0 result }
+    ensures { Walks rec.now first before.0 result }
 {
     let mut want = first;
     let mut kept = Kept::none(before);
@@ -53,12 +53,9 @@ fn walk_lines(cut: usize, rest: &[u8], rec: &[u8], first: Want, before: Magnitud
         if rec.len() <= at {
             break 'walk finish(want, kept, slash);
         }
-        let line = read_cuts::line_in(cut, rest, rec.len(), Place(at));
-        let end = line.end;
-        let next_line = line.next;
-        let e = end.0;
+        let e = read_lines::body_end_in(rest, rec.len(), Place(at)).0;
         let mut a = at + 3;
-        at = next_line.0;
+        at = e + read_lines::end_len(rec, Place(e));
         if e < a {
             break 'walk stop(LINE_BADLY_ENDED, Place(a));
         }
@@ -92,8 +89,8 @@ fn walk_lines(cut: usize, rest: &[u8], rec: &[u8], first: Want, before: Magnitud
 }
 
 // The walk over a record, the first `size` bytes of what is left of the file; `before`: the magnitudes of the records before.
-pub fn walk_record(cut: usize, rest: &[u8], size: usize, first: Want, before: Magnitude) -> Walked
-    ensures { Walks cut (take size rest.now) first before.0 result }
+pub fn walk_record(rest: &[u8], size: usize, first: Want, before: Magnitude) -> Walked
+    ensures { Walks (take size rest.now) first before.0 result }
 {
-    walk_lines(cut, rest, base_slices::front(rest, size), first, before)
+    walk_lines(rest, base_slices::front(rest, size), first, before)
 }

@@ -12,7 +12,7 @@ use Rattle.rules.specs.Numbers.{magnitudes}
 use Rattle.rules.specs.Records.{Field, walk_record}
 use Rattle.rules.specs.Totals.{Summary, ◌⊞◌, of_record, bounded_from, balanced}
 use Rattle.rules.specs.Order.{ended}
-use Rattle.rules.specs.Verdict.{State, start, good_lines, in_order, limit_after, own_lines, Reading, read_record, state_after, settled, step, run, judge_lines, judge}
+use Rattle.rules.specs.Verdict.{State, start, good_lines, in_order, limit_after, own_lines, Reading, read_record, state_after, settled, step, run, judge}
 use Rattle.rules.specs.Limits.{longest_file}
 use Rattle.rules.proofs.Binds.{from-bind, then-fine, first_fine, check-holds, check-true, fine-same}
 
@@ -76,7 +76,7 @@ pub record Accepted (file : Bytes) (s : Summary) : Type 0 where
   pub summary : last.file ≡ s
 
 pub accepted : (file : Bytes) (s : Summary) → judge file ≡ fine s → Accepted file s
-unfolding judge judge_lines file_records
+unfolding judge
 accepted file s h =
     let after-empty = then-fine (check (not (is_empty file)) 1 0) _ s h in
     let after-long = then-fine (check (leb (length file) longest_file) 2 0) _ s after-empty in
@@ -92,7 +92,7 @@ accepted file s h =
 
 -- and back: such a file is accepted
 pub accepted-again : (file : Bytes) (s : Summary) → Accepted file s → judge file ≡ fine s
-unfolding judge judge_lines file_records
+unfolding judge
 accepted-again file s x =
     rw (
       check-true (not (is_empty file)) 1 0 x.some_byte,

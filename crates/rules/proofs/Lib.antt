@@ -7,4 +7,3 @@ pub mod CellLaws
 pub mod RunLaws
 pub mod PartLaws
 pub mod Accepted
-pub mod BlockLaws

@@ -13,7 +13,7 @@ use Rattle.rules.specs.Grammar.{fields_of, is_currency, is_unsigned, is_signed, 
 use Rattle.rules.specs.Records.{walk_after, taken, past_slash, taken_to, walk_cells, walk_lines, walk_record, the}
 use Rattle.rules.specs.Totals.{◌⊞◌, amount_of, sum_of, adding, of_record, bounded_from, right_total, right_count, right_records, sum_within, balanced}
 use Rattle.rules.specs.Order.{among}
-use Rattle.rules.specs.Verdict.{not_longer, all_allowed, coded, good_line, good_lines, none_longer, in_order, read_record, limit_given, limit_after, own_lines, state_after, settled, step, run, judge_lines, judge}
+use Rattle.rules.specs.Verdict.{not_longer, all_allowed, coded, good_line, good_lines, none_longer, in_order, read_record, limit_given, limit_after, own_lines, state_after, settled, step, run, judge}
 use Rattle.rules.specs.Parts.{cut_at, in_groups, header_in, groups_in, fields_in, first_fields, receiver_of}
 use Rattle.rules.specs.Combine.{of_coded, summary_of, summary_of_all, fresh_trailer, with_trailer, concat, limit_of, lines_within, fitting, combined, Answer, answered, which_file, combine}
 use Rattle.rules.specs.Split.{is_name, groups_for, split_out, split}
@@ -118,7 +118,7 @@ unfolding
     fields_of is_currency is_unsigned is_signed is_length funds_of pairs pairs_of piece_of judged and_then take_next
     walk_after taken past_slash taken_to walk_cells walk_lines walk_record the
     ◌⊞◌ amount_of sum_of adding of_record bounded_from right_total right_count right_records sum_within balanced
-    among not_longer all_allowed coded good_line good_lines none_longer in_order read_record limit_given limit_after own_lines state_after settled step run judge_lines judge
+    among not_longer all_allowed coded good_line good_lines none_longer in_order read_record limit_given limit_after own_lines state_after settled step run judge
     cut_at in_groups header_in groups_in fields_in first_fields receiver_of
     of_coded summary_of summary_of_all fresh_trailer with_trailer concat limit_of lines_within fitting combined answered which_file combine
     is_name groups_for split_out split

@@ -19,7 +19,6 @@ pub mod Parts
 pub mod Items
 pub mod Combine
 pub mod Split
-pub mod Blocks
 pub mod Writer
 pub mod Answers
 pub mod HandedOut

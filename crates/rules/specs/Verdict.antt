@@ -4,7 +4,7 @@ use Rattle.rules.specs.Limits.{longest_file, longest_line}
 use Rattle.rules.specs.Bytes.{Bytes, allowed, is_empty}
 use Rattle.rules.specs.Numbers.{number, magnitudes}
 use Rattle.rules.specs.Outcome.{Outcome, refuse, fine, ◌>>=◌, ◌>>◌, check, or_refused, moved}
-use Rattle.rules.specs.Lines.{Line, size_of, Code, file_header, same_code, code_of, Record, record_size, lines_of, records_of}
+use Rattle.rules.specs.Lines.{Line, size_of, Code, file_header, same_code, code_of, Record, record_size, file_records}
 use Rattle.rules.specs.Grammar.{physical_length}
 use Rattle.rules.specs.Records.{Field, the, walk_record}
 use Rattle.rules.specs.Totals.{Summary, no_summary, ◌⊞◌, of_record, bounded_from, balanced}
@@ -116,16 +116,11 @@ unfoldable pub run : ℕ → State → List Record → Outcome State
 run p s [] = fine s
 run p s (r ∷ rs) = moved p (step s r) >>= λ next. run (p + record_size r) next rs
 
--- lines, however they were cut, of a file of so many bytes: its records in file order; 6 where the file ends before its 99
-unfoldable pub judge_lines : ℕ → List Line → Outcome Summary
-judge_lines size ls = do
-  s ← run 0 start (records_of ls)
-  check (ended s.expected) 6 size
-  fine s.file
-
--- 1 and 2 come first, then the file's lines
+-- 1 and 2 come first, then records in file order; 6 where the file ends before its 99
 unfoldable pub judge : Bytes → Outcome Summary
 judge file = do
   check (not (is_empty file)) 1 0
   check (leb (length file) longest_file) 2 0
-  judge_lines (length file) (lines_of file)
+  s ← run 0 start (file_records file)
+  check (ended s.expected) 6 (length file)
+  fine s.file

@@ -26,12 +26,12 @@ unfolding report
 report-judged input h = rw (le-leb (length input) most_input h)
 
 -- the line for a verdict is put into a space of its own, and the part of it that was filled at the front of a slice
-pub put-verdict-line : (verdict : Outcome Summary) (space line out : Bytes) (k r : ℕ) (after : Bytes) → longest_report ≤ length space
-    → PutLine (as_line (verdict_words verdict)) space k line → Put (take (k - 0) line) out r after → PutLine (as_line (verdict_words verdict)) out r after
-put-verdict-line verdict space line out k r after room (in-space, most) p =
+pub put-judged : (input : Bytes) (verdict : Outcome Summary) (space line out : Bytes) (k r : ℕ) (after : Bytes) → length input ≤ most_input → verdict ≡ judge input
+    → longest_report ≤ length space → PutLine (as_line (verdict_words verdict)) space k line → Put (take (k - 0) line) out r after → PutLine (report input) out r after
+put-judged input verdict space line out k r after h v room (in-space, most) p =
     let whole : k - 0 ≡ k = omega arith in
     let stands : take (k - 0) line ≡ as_line (verdict_words verdict) = rw whole (put-stands in-space (omega (arith, most))).0 in
-    rw (← stands) (p, rw (← stands) at most)
+    rw (report-judged input h, ← v, ← stands) (p, rw (← stands) at most)
 
 -- one answer, and one content of the slice
 pub report-one : (input : Bytes) {before : Bytes} {r r' : ℕ} {after after' : Bytes} → PutLine (report input) before r after → PutLine (report input) before r' after'

@@ -69,15 +69,6 @@ fn put_verdict(out: &mut [u8], verdict: Verdict) -> usize
     }
 }
 
-// The line for a verdict at the front of out: how many bytes; or 0, and nothing changed, where it doesn't fit.
-pub fn verdict_line(verdict: Verdict, out: &mut [u8]) -> usize
-    ensures { PutLine (as_line (verdict_words (verdict_meant verdict))) out.old result out.new }
-{
-    let mut line = [0u8; LONGEST_REPORT];
-    let length = put_verdict(&mut line, verdict);
-    base_slices::put(out, &line[0..length])
-}
-
 // The line for these bytes at the front of out: how many bytes; or 0, and nothing changed, where it doesn't fit.
 pub fn report(input: &[u8], out: &mut [u8]) -> usize
     ensures { PutLine (report input.now) out.old result out.new }
@@ -85,5 +76,7 @@ pub fn report(input: &[u8], out: &mut [u8]) -> usize
     if MOST_INPUT < input.len() {
         return base_slices::put(out, b"too long\n");
     }
-    verdict_line(read_file::read(input), out)
+    let mut line = [0u8; LONGEST_REPORT];
+    let length = put_verdict(&mut line, read_file::read(input));
+    base_slices::put(out, &line[0..length])
 }

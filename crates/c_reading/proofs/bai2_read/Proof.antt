@@ -1,17 +1,34 @@
 -- `c_reading::bai2_read` meets its contract: the reader's verdict, in figures. Assumes nothing.
-use mathlib.Core.Path.{◌≡◌, ap, ◌∙◌}
 use borrow.Author.Rules.{rules}
-use Rattle.laws.proofs.FileTheorems.{magnitudes-bounded}
-use Rattle.rules.specs.Verdict.{judge}
-use Rattle.c_figures.specs.CFigures.{verdict_figures}
-use Rattle.c_figures.proofs.VerdictFigures.{figures-are}
+use Rattle.rules.specs.Bytes.{Bytes}
+use Rattle.c_reading.proofs.ReadFigures.{total-fits, accepted-figures, refused-figures}
 use Rattle.c_reading.proofs.bai2_read.Statement.{statement}
 use Rattle.c_reading.proofs.bai2_read.Tie as tie
 
+-- what the reader answered
+abbrev Answered : Type 0
+Answered = tie.After-read
+
+abbrev file-of : Answered → Bytes
+file-of c = c.before.before.args.file.now
+
+total-of-requires : tie.Need-total-of-requires
+total-of-requires c κs =
+    let r : Answered = c.before.before.before.before.before.before.before.before in
+    total-fits (file-of r) r.read.result r.read.ensures _ c.before.before.before.before.before.before.s.given.1
+
 returns : tie.Need-returns
 returns c =
-    let file = c.before.before.before.args.file.now in
-    c.summary-of.ensures ∙ ap verdict_figures c.before.read.ensures ∙ figures-are (judge file) (λ s e. magnitudes-bounded file s e)
+    let known = c.before.before.before.before.before.before.before in
+    let r : Answered = known.before.before in
+    accepted-figures (file-of r) r.read.result r.read.ensures _ c.total_of.result known.s.given.1 c.total_of.ensures
+
+returns-2 : tie.Need-returns-2
+returns-2 c =
+    let r : Answered = c.before.before.before.before in
+    refused-figures (file-of r) r.read.result r.read.ensures _ c.before.before.why.given.1
 
 pub bai2-read-spec : {M : Type 1} → statement M
-bai2-read-spec = tie.close (tie.spec (λ c κs. search rules) (λ c κs. search rules) returns)
+bai2-read-spec =
+    tie.close
+    (tie.spec (λ c κs. search rules) (λ c. search rules) total-of-requires returns (λ c. search rules) returns-2)

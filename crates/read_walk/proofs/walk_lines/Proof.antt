@@ -9,10 +9,12 @@ use lib.Seq.{slice, length-slice}
 use borrow.Author.Rules.{rules}
 use Rattle.rules.specs.Bytes.{Bytes}
 use Rattle.rules.specs.Outcome.{refuse, fine}
+use Rattle.rules.specs.Lines.{lines_of}
 use Rattle.rules.specs.Cells.{cells_from, leading_blanks}
 use Rattle.rules.specs.Grammar.{take_next, next_kind, is_text}
-use Rattle.read_lines.specs.Cuts.{lines_by, body_by, line_by}
-use Rattle.read_lines.proofs.CutLaws.{body-fits, line-fits-by, line-some-by}
+use Rattle.read_lines.specs.LineLengths.{body_len, is_end, line_len}
+use Rattle.read_lines.proofs.LineLengthLaws.{run-le}
+use Rattle.read_lines.proofs.LineLaws.{next-is, next-within, next-after}
 use Rattle.read_wanted.specs.Wants.{wanted_of, purpose}
 use Rattle.read_wanted.specs.TakenMeaning.{judged_of}
 use Rattle.read_field_ends.specs.declared.Extent.TheVariants as extent
@@ -32,50 +34,47 @@ use Rattle.read_walk.proofs.walk_lines.Statement.{statement}
 use Rattle.read_walk.proofs.walk_lines.Tie as tie
 
 abbrev invariant-loop : tie.invariant-loop
-invariant-loop cut rest rec want₀ kept₀ slash₀ at e a₀ want kept slash a =
+invariant-loop rest rec want₀ kept₀ slash₀ at e a₀ want kept slash a =
     (a ≤ e)
     × (e ≤ length rec)
     × Fits (length rec) kept₀.before.0 (point (wanted_of want) kept slash.0)
     × (walk_cells_k (point (wanted_of want₀) kept₀ slash₀.0) (cells_from a₀ (slice a₀ e rec)) ≡ walk_cells_k (point (wanted_of want) kept slash.0) (cells_from a (slice a e rec)))
 
 abbrev decreases-loop : tie.decreases-loop
-decreases-loop cut rest rec want₀ kept₀ slash₀ at e a₀ want kept slash a = e - a
+decreases-loop rest rec want₀ kept₀ slash₀ at e a₀ want kept slash a = e - a
 
 abbrev invariant-walk : tie.invariant-walk
-invariant-walk cut rest rec want₀ kept₀ slash₀ at₀ want kept slash at =
+invariant-walk rest rec want₀ kept₀ slash₀ at₀ want kept slash at =
     (at ≤ length rec)
     × Fits (length rec) kept₀.before.0 (point (wanted_of want) kept slash.0)
-    × (walk_lines_k 0 (point (wanted_of want₀) kept₀ slash₀.0) (lines_by cut rec) ≡ walk_lines_k at (point (wanted_of want) kept slash.0) (lines_by cut (drop at rec)))
+    × (walk_lines_k 0 (point (wanted_of want₀) kept₀ slash₀.0) (lines_of rec) ≡ walk_lines_k at (point (wanted_of want) kept slash.0) (lines_of (drop at rec)))
 
 abbrev decreases-walk : tie.decreases-walk
-decreases-walk cut rest rec want₀ kept₀ slash₀ at₀ want kept slash at = length rec - at
+decreases-walk rest rec want₀ kept₀ slash₀ at₀ want kept slash at = length rec - at
 
--- ---- at a line: the cut, the record, the line's start and end, the next line, and the walk where the line starts
+-- ---- at a line: the record, the line's start and end, the next line, and the walk where the line starts
 
 abbrev Line : Type 0
-Line = tie.After-line-in invariant-loop decreases-loop invariant-walk decreases-walk
+Line = tie.After-end-len invariant-loop decreases-loop invariant-walk decreases-walk
 
 abbrev entry : Line → tie.Start invariant-loop decreases-loop invariant-walk decreases-walk
-entry c = c.before.before.before.before.before.before
-
-abbrev cut_of : Line → ℕ
-cut_of c = (entry c).args.cut
+entry c = c.before.before.before.before.before.before.before
 
 abbrev rec-of : Line → Bytes
 rec-of c = (entry c).args.rec.now
 
 abbrev start_of : Line → ℕ
-start_of c = c.before.before.walk.at
+start_of c = c.before.before.before.walk.at
 
 abbrev end_of : Line → ℕ
-end_of c = c.line-in.result.end.0
+end_of c = c.before.body-end-in.result.0
 
 abbrev next_of : Line → ℕ
-next_of c = c.line-in.result.next.0
+next_of c = end_of c + c.end-len.result
 
 abbrev from-of : Line → WalkK
 from-of c =
-    let w = c.before.before.walk in
+    let w = c.before.before.before.walk in
     point (wanted_of w.want) w.auto w.slash.0
 
 -- the walk where the record starts
@@ -93,49 +92,53 @@ same-before : (c : Made) → c.none.result.before.0 ≡ c.before.before.before.a
 same-before c = ap (λ (k : Kept). k.before.0) c.none.ensures
 
 abbrev before_of : Line → ℕ
-before_of c = c.before.before.walk.auto.before.0
+before_of c = c.before.before.before.walk.auto.before.0
 
-kept-before : (c : Line) → before_of c ≡ c.before.before.before.none.result.before.0
-kept-before c = c.before.before.walk.invariant.1.kept.before
+kept-before : (c : Line) → before_of c ≡ c.before.before.before.before.none.result.before.0
+kept-before c = c.before.before.before.walk.invariant.1.kept.before
 
 some_byte : (c : Line) → start_of c < length (rec-of c)
-some_byte c = c.before.if1.false
+some_byte c = c.before.before.if1.false
 
-end_is : (c : Line) → end_of c ≡ start_of c + body_by (cut_of c) (drop (start_of c) (rec-of c))
-end_is c = c.line-in.ensures.0 ∙ ap (λ (bs : Bytes). start_of c + body_by (cut_of c) (drop (start_of c) bs)) (sym (entry c).requires)
-
-next-at : (c : Line) → next_of c ≡ start_of c + line_by (cut_of c) (drop (start_of c) (rec-of c))
-next-at c = c.line-in.ensures.1 ∙ ap (λ (bs : Bytes). start_of c + line_by (cut_of c) (drop (start_of c) bs)) (sym (entry c).requires)
+end_is : (c : Line) → end_of c ≡ start_of c + body_len (drop (start_of c) (rec-of c))
+end_is c = c.before.body-end-in.ensures ∙ ap (λ (bs : Bytes). start_of c + body_len (drop (start_of c) bs)) (sym (entry c).requires)
 
 ends : (c : Line) → end_of c ≤ length (rec-of c)
-ends c = omega (arith, some_byte c, end_is c, body-fits (cut_of c) (drop (start_of c) (rec-of c)), length-drop (start_of c) (rec-of c))
+ends c = omega (arith, some_byte c, end_is c, run-le is_end (drop (start_of c) (rec-of c)), length-drop (start_of c) (rec-of c))
+
+next-at : (c : Line) → next_of c ≡ start_of c + line_len (drop (start_of c) (rec-of c))
+next-at c =
+    next-is (rec-of c) (start_of c) (end_of c) (next_of c) (end_is c) (ap (λ (n : ℕ). end_of c + n) c.end-len.ensures)
 
 within : (c : Line) → next_of c ≤ length (rec-of c)
-within c = omega (arith, some_byte c, next-at c, line-fits-by (cut_of c) (drop (start_of c) (rec-of c)), length-drop (start_of c) (rec-of c))
+within c =
+    omega (
+      arith,
+      some_byte c,
+      next-within (rec-of c) (start_of c) (end_of c) (next_of c) (end_is c) (ap (λ (n : ℕ). end_of c + n) c.end-len.ensures),
+    )
 
 after : (c : Line) → start_of c < next_of c
 after c =
-    let l = length-drop (start_of c) (rec-of c) in
-    let h = some_byte c in
-    omega (arith, next-at c, line-some-by (cut_of c) (drop (start_of c) (rec-of c)) (omega arith))
+    next-after (rec-of c) (start_of c) (end_of c) (next_of c) (end_is c) (ap (λ (n : ℕ). end_of c + n) c.end-len.ensures) (some_byte c)
 
 -- a walk that stops at this place answers so
-stopped-at : (cut : ℕ) (rec : Bytes) (first : Want) (before number place : ℕ) (r : Walked) → r ≡ Refused (record { number = number; place = record { 0 = place } })
-    → refuse number place ≡ walk_from (wanted_of first) (nothing_kept before) (lines_by cut rec) → place ≤ length rec + 3 → Walks cut rec first before r
-stopped-at cut rec first before number place r e answers within = rw e (record { answer = answers; bounds = within })
+stopped-at : (rec : Bytes) (first : Want) (before number place : ℕ) (r : Walked) → r ≡ Refused (record { number = number; place = record { 0 = place } })
+    → refuse number place ≡ walk_from (wanted_of first) (nothing_kept before) (lines_of rec) → place ≤ length rec + 3 → Walks rec first before r
+stopped-at rec first before number place r e answers within = rw e (record { answer = answers; bounds = within })
 
 -- the record is refused where this line is
 stop : (c : Line) (n q : ℕ) → walk_cells_k (from-of c) (cells_from (start_of c + 3) (slice (start_of c + 3) (end_of c) (rec-of c))) ≡ refuse n q
-    → refuse n q ≡ walk_from (wanted_of (entry c).args.first) (nothing_kept (entry c).args.before.0) (lines_by (cut_of c) (rec-of c))
+    → refuse n q ≡ walk_from (wanted_of (entry c).args.first) (nothing_kept (entry c).args.before.0) (lines_of (rec-of c))
 stop c n q r =
-    from-stop _ _ (lines_by (cut_of c) (rec-of c)) (first_of c.before.before.before) (first-is c.before.before.before) n q
-    (c.before.before.walk.invariant.2 ∙ line-stop (cut_of c) (rec-of c) (start_of c) (end_of c) (next_of c) (some_byte c) (end_is c) (next-at c) (from-of c) n q r)
+    from-stop _ _ (lines_of (rec-of c)) (first_of c.before.before.before.before) (first-is c.before.before.before.before) n q
+    (c.before.before.before.walk.invariant.2 ∙ line-stop (rec-of c) (start_of c) (end_of c) (next_of c) (some_byte c) (end_is c) (next-at c) (from-of c) n q r)
 
 -- the walk goes on at the next line where this one is good
 go_on : (c : Line) (v : WalkK) → walk_cells_k (from-of c) (cells_from (start_of c + 3) (slice (start_of c + 3) (end_of c) (rec-of c))) ≡ fine v
-    → walk_lines_k 0 (first_of c.before.before.before) (lines_by (cut_of c) (rec-of c)) ≡ walk_lines_k (next_of c) v (lines_by (cut_of c) (drop (next_of c) (rec-of c)))
+    → walk_lines_k 0 (first_of c.before.before.before.before) (lines_of (rec-of c)) ≡ walk_lines_k (next_of c) v (lines_of (drop (next_of c) (rec-of c)))
 go_on c v r =
-    c.before.before.walk.invariant.2 ∙ line-go (cut_of c) (rec-of c) (start_of c) (end_of c) (next_of c) (some_byte c) (end_is c) (next-at c) (from-of c) v r
+    c.before.before.before.walk.invariant.2 ∙ line-go (rec-of c) (start_of c) (end_of c) (next_of c) (some_byte c) (end_is c) (next-at c) (from-of c) v r
 
 -- ---- at a field: its line, where it starts, and the walk there
 
@@ -143,7 +146,7 @@ abbrev Head : Type 0
 Head = tie.At-loop invariant-loop decreases-loop invariant-walk decreases-walk
 
 abbrev line : Head → Line
-line c = c.before.before.before.before
+line c = c.before.before
 
 abbrev at_of : Head → ℕ
 at_of c = c.loop.a
@@ -296,15 +299,16 @@ walk-holds : tie.Need-walk-init invariant-loop decreases-loop invariant-walk dec
 walk-holds c = (zero-le, fits-same _ _ _ (first_of c) (sym (same-before c)) (start_fits _ _ (first_of c) c.none.ensures refl), refl)
 
 add_a : tie.Need-overflow-add-a invariant-loop decreases-loop invariant-walk decreases-walk
-add_a c = omega (arith, some_byte c.before.before)
+add_a c = omega (arith, c.before.if1.false)
+
+add_at : tie.Need-overflow-add-at invariant-loop decreases-loop invariant-walk decreases-walk
+add_at c = omega (arith, within c)
 
 loop-holds : tie.Need-loop-init invariant-loop decreases-loop invariant-walk decreases-walk
-loop-holds c =
-    let l = c.before.before.before in
-    (omega arith, ends l, fits-same _ _ _ (from-of l) (sym (kept-before l)) l.before.before.walk.invariant.1, refl)
+loop-holds c = (omega arith, ends c.before, fits-same _ _ _ (from-of c.before) (sym (kept-before c.before)) c.before.before.before.before.walk.invariant.1, refl)
 
 add-f : tie.Need-overflow-add-f invariant-loop decreases-loop invariant-walk decreases-walk
-add-f c = let l = line (head c) in omega (arith, inside c, ends l, (entry l).good)
+add-f c = omega (arith, inside c, ends (line (head c)))
 
 part-keep-end : tie.Need-slice-bounds-keep-end invariant-loop decreases-loop invariant-walk decreases-walk
 part-keep-end c = let g = c.before.before in omega (arith, inside g, ends (line (head g)))
@@ -383,19 +387,18 @@ loop-again c =
 returns : tie.Need-returns invariant-loop decreases-loop invariant-walk decreases-walk
 returns c =
     let w = c.before.before in
-    let a = w.before.before.before.before.args in
-    let s = a.rec.now in
+    let s = w.before.before.before.before.args.rec.now in
     let p = point (wanted_of w.walk.want) w.walk.auto w.walk.slash.0 in
     record {
-      answer = from_end _ _ (lines_by a.cut s) (first_of w.before) (first-is w.before) p _
-          (w.walk.invariant.2 ∙ lines_end a.cut s p w.walk.at c.before.if1.true) c.finish.ensures;
+      answer = from_end _ _ (lines_of s) (first_of w.before) (first-is w.before) p _
+          (w.walk.invariant.2 ∙ lines_end s p w.walk.at c.before.if1.true) c.finish.ensures;
       bounds = end-bounds _ _ c.finish.result p c.finish.ensures (fits-same _ _ _ p (same-before w.before) w.walk.invariant.1);
     }
 
 returns-2 : tie.Need-returns-2 invariant-loop decreases-loop invariant-walk decreases-walk
 returns-2 c =
-    let l = c.before.before.before.before in
-    stopped-at _ _ _ _ 7 (start_of l + 3) c.stop.result c.stop.ensures
+    let l = c.before.before in
+    stopped-at _ _ _ 7 (start_of l + 3) c.stop.result c.stop.ensures
     (stop l 7 (start_of l + 3) (short-here (rec-of l) (from-of l) (start_of l + 3) (end_of l) c.before.if2.true))
     (omega (arith, some_byte l))
 
@@ -403,7 +406,7 @@ returns-3 : tie.Need-returns-3 invariant-loop decreases-loop invariant-walk decr
 returns-3 c =
     let d = c.before in
     let h = d.before.before.before.before.before in
-    stopped-at _ _ _ _ 7 (end_of (line h)) c.stop2.result c.stop2.ensures
+    stopped-at _ _ _ 7 (end_of (line h)) c.stop2.result c.stop2.ensures
     (stop (line h) 7 (end_of (line h)) (h.loop.invariant.3 ∙ open-here (rec-of (line h)) (here h) (at_of h) (end_of (line h))
     h.loop.invariant.0 h.loop.invariant.1 (sym d.enum_told.given.1 ∙ extent-is d.before.before)))
     (omega (arith, ends (line h)))
@@ -414,7 +417,7 @@ returns-4 c =
     let d = c.before in
     let g = field d.before.before.before in
     let h = head g in
-    stopped-at _ _ _ _ _ (at_of h) c.stop3.result c.stop3.ensures
+    stopped-at _ _ _ _ (at_of h) c.stop3.result c.stop3.ensures
     (stop (line h) _ (at_of h) (h.loop.inv.3
     ∙ wrong-here (rec-of (line h)) (here h) (at_of h) (end_of (line h))
     h.loop.inv.0 h.loop.inv.1 (size g) (field-extent g) _
@@ -429,7 +432,7 @@ returns-5 c =
     let g = good-field good in
     let h = head g in
     let b = blanks-from d.before in
-    stopped-at _ _ _ _ 7 _ c.stop4.result c.stop4.ensures
+    stopped-at _ _ _ 7 _ c.stop4.result c.stop4.ensures
     (stop (line h) 7 _ (h.loop.inv.3
     ∙ byte-here (rec-of (line h)) (here h) (at_of h) (end_of (line h))
     h.loop.inv.0 h.loop.inv.1 (size g) (field-extent g)
@@ -449,6 +452,8 @@ walk-lines-spec =
     (λ c κs. search rules)
     (λ c κs. search rules)
     add_a
+    (λ c κs. search rules)
+    add_at
     (λ c κs. search rules)
     loop-holds
     (λ c κs. search rules)

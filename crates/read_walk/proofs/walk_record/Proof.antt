@@ -4,7 +4,7 @@ use lib.ListN.{length, take}
 use borrow.Author.Rules.{rules}
 use Rattle.rules.specs.Bytes.{Bytes}
 use Rattle.read_walk.specs.WalkAnswers.{Walks}
-use Rattle.read_lines.proofs.CutLaws.{front_length}
+use Rattle.read_walk.proofs.LineParts.{front_length}
 use Rattle.read_walk.proofs.walk_record.Statement.{statement}
 use Rattle.read_walk.proofs.walk_record.Tie as tie
 
@@ -16,7 +16,7 @@ walk-lines-requires c κs =
 returns : tie.Need-returns
 returns c =
     let a = c.before.before.before.args in
-    subst (λ (bs : Bytes). Walks a.cut bs a.first a.before.0 c.walk-lines.result) c.before.front.ensures c.walk-lines.ensures
+    subst (λ (bs : Bytes). Walks bs a.first a.before.0 c.walk-lines.result) c.before.front.ensures c.walk-lines.ensures
 
 pub walk-record-spec : {M : Type 1} → statement M
 walk-record-spec = tie.close (tie.spec (λ c κs. search rules) walk-lines-requires returns)

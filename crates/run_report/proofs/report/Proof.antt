@@ -1,6 +1,7 @@
 -- `run_report::report` meets its contract. Assumes nothing.
 use native.Mathlib.Omega.{arith}
-use Rattle.run_report.proofs.ReportLaws.{report-long, report-judged}
+use Rattle.read_file.specs.FileMeanings.{verdict_meant}
+use Rattle.run_report.proofs.ReportLaws.{report-long, put-judged}
 use borrow.Author.Rules.{rules}
 use Rattle.run_report.proofs.report.Statement.{statement}
 use Rattle.run_report.proofs.report.Tie as tie
@@ -12,11 +13,27 @@ returns c =
 
 returns-2 : tie.Need-returns-2
 returns-2 c =
-    let line = c.before.before in
-    let judged = line.before.before in
-    let fits = judged.before in
+    let verdict-put = c.before.before.before.before.before.before.before in
+    let judged = verdict-put.before in
+    let fits = judged.before.before in
     let start = fits.before.before.before in
-    rw (report-judged start.args.input.now fits.if1.false, ← judged.read.ensures) line.verdict-line.ensures
+    put-judged start.args.input.now (verdict_meant judged.read.result) _ _ start.args.out.now verdict-put.put-verdict.result c.before.before.put2.result _ fits.if1.false
+    judged.read.ensures (search rules) verdict-put.put-verdict.ensures c.before.before.put2.ensures
 
 pub report-spec : {M : Type 1} → statement M
-report-spec = tie.close (tie.spec (λ c. search rules) (λ c κs. search rules) (λ c. search rules) returns (λ c κs. search rules) (λ c κs. search rules) (λ c. search rules) returns-2)
+report-spec =
+    tie.close
+    (tie.spec
+    (λ c. search rules)
+    (λ c κs. search rules)
+    (λ c. search rules)
+    returns
+    (λ c. search rules)
+    (λ c κs. search rules)
+    (λ c κs. search rules)
+    (λ c. search rules)
+    (λ c. search rules)
+    (λ c. search rules)
+    (λ c κs. search rules)
+    (λ c. search rules)
+    returns-2)

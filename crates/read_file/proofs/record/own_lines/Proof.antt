@@ -7,7 +7,7 @@ use Rattle.read_file.proofs.record.own_lines.Tie as tie
 
 returns : tie.Need-returns
 unfolding own_lines
-returns c = (c.none-longer-by.ensures.0 ∙ sym (rw (sym c.before.before.same_code.ensures ∙ c.before.if1.true)), c.none-longer-by.ensures.1)
+returns c = (c.none-longer.ensures.0 ∙ sym (rw (sym c.before.before.same_code.ensures ∙ c.before.if1.true)), c.none-longer.ensures.1)
 
 returns-2 : tie.Need-returns-2
 unfolding own_lines

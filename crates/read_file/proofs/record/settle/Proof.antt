@@ -5,7 +5,7 @@ use native.Mathlib.Omega.{arith}
 use lib.ListN.{length}
 use borrow.Author.Rules.{rules}
 use Rattle.rules.specs.Outcome.{Outcome, fine}
-use Rattle.rules.specs.Lines.{Code, Record}
+use Rattle.rules.specs.Lines.{Code, Record, lines_of}
 use Rattle.rules.specs.Totals.{adding, ◌⊞◌}
 use Rattle.rules.specs.Order.{group_open, account_open}
 use Rattle.rules.specs.Verdict.{own_lines}
@@ -16,7 +16,6 @@ use Rattle.base_totals.specs.declared.Summary.{Summary}
 use Rattle.base_totals.specs.SummaryMeaning.{summary_meant, Small}
 use Rattle.base_totals.proofs.SummaryLaws.{small-sum}
 use Rattle.read_kept.specs.declared.Kept.{Kept}
-use Rattle.read_lines.specs.Cuts.{lines_by}
 use Rattle.read_line_checks.specs.LineChecks.{checked_of}
 use Rattle.read_trailers.specs.TrailerChecks.{balanced_k}
 use Rattle.read_trailers.proofs.TrailerPlaces.{balanced-most}
@@ -37,8 +36,8 @@ state-of s = s.args.st
 abbrev before_of : tie.Start → rules.State
 before_of s = state_meant (state-of s)
 
-abbrev lines_of : tie.Start → Record
-lines_of s = lines_by s.args.cut s.args.rec.now
+abbrev lines-of : tie.Start → Record
+lines-of s = lines_of s.args.rec.now
 
 abbrev code-of : tie.Start → Code
 code-of s = code_meant s.args.code
@@ -55,12 +54,12 @@ abbrev start-of-own : Own → tie.Start
 start-of-own c = c.before.before.before
 
 abbrev OwnLines : tie.Start → Outcome (Unit {0})
-OwnLines s = own_lines (code-of s) (limit_k (code-of s) (state-of s).limit (kept_of s)) (lines_of s)
+OwnLines s = own_lines (code-of s) (limit_k (code-of s) (state-of s).limit (kept_of s)) (lines-of s)
 
 own : (c : Own) → checked_of c.own-lines.result ≡ OwnLines (start-of-own c)
 own c =
     let s = start-of-own c in
-    c.own-lines.ensures.0 ∙ ap (λ (n : ℕ). own_lines (code-of s) n (lines_of s)) c.before.limit-after.ensures
+    c.own-lines.ensures.0 ∙ ap (λ (n : ℕ). own_lines (code-of s) n (lines-of s)) c.before.limit-after.ensures
 
 own-fine : (c : tie.After-enum-told) → OwnLines (start-of-own c.before.before) ≡ fine tt
 own-fine c = sym (own c.before.before) ∙ ap checked_of c.enum_told.given.1
@@ -69,7 +68,7 @@ returns : tie.Need-returns
 returns c =
     let o = c.before.before.before in
     let s = start-of-own o in (
-      settle-long (before_of s) (lines_of s) (code-of s) (kept_of s) _ (sym (own o) ∙ ap checked_of c.before.why.given.1),
+      settle-long (before_of s) (lines-of s) (code-of s) (kept_of s) _ (sym (own o) ∙ ap checked_of c.before.why.given.1),
       rw c.before.why.given.1 at o.own-lines.ensures.1,
     )
 
@@ -79,7 +78,7 @@ returns-2 : tie.Need-returns-2
 returns-2 c =
     let told = c.before.before in
     let s = start-of-own told.before.before in
-    (settle-over (before_of s) (lines_of s) (code-of s) (kept_of s) (own-fine told) c.before.if1.true, s.pre.kept.past)
+    (settle-over (before_of s) (lines-of s) (code-of s) (kept_of s) (own-fine told) c.before.if1.true, s.pre.kept.past)
 
 -- ---- the summaries with the record
 
@@ -95,7 +94,7 @@ this-of c = c.before.before.before.adding.result
 this-adds : (c : Added) → summary_meant (this-of c) ≡ adding (code-of (start_of c)) (sum_meant (kept_of (start_of c)).sum) (start_of c).args.records.0
 this-adds c = c.before.before.before.adding.ensures
 
-this-is : (c : Added) → summary_meant (this-of c) ≡ this_k (code-of (start_of c)) (length (lines_of (start_of c))) (kept_of (start_of c))
+this-is : (c : Added) → summary_meant (this-of c) ≡ this_k (code-of (start_of c)) (length (lines-of (start_of c))) (kept_of (start_of c))
 unfolding this_k
 this-is c =
     let s = start_of c in
@@ -134,7 +133,7 @@ returns-3 c =
     let t = added b in
     let s = start_of t in
     let refuses = sym (balance b) ∙ ap checked_of c.before.why2.given.1 in (
-      settle-wrong (before_of s) (lines_of s) (code-of s) (kept_of s) (own-fine t.before.before.before.before.before) t.before.before.before.before.if1.left _ _ _ _
+      settle-wrong (before_of s) (lines-of s) (code-of s) (kept_of s) (own-fine t.before.before.before.before.before) t.before.before.before.before.if1.left _ _ _ _
           (this-is t) (account-is t) (group-is t) (file-is t) _ refuses,
       balanced-most _ _ (kept_of s) s.pre.kept (code-of s) _ _ _ _ refuses,
     )
@@ -151,7 +150,7 @@ returns-4 c =
     let file : summary_meant r.file ≡ summary_meant t.before.before.add.result = ap summary_meant next.file in
     let limit = next.limit ∙ t.before.before.before.before.before.before.before.before.limit-after.ensures in
     let fits = sym (balance b) ∙ ap checked_of c.before.enum-told2.given.1 in (
-      settle-next (before_of s) (lines_of s) (code-of s) (kept_of s) (own-fine t.before.before.before.before.before) t.before.before.before.before.if1.left _ _ _ (summary_meant r.file)
+      settle-next (before_of s) (lines-of s) (code-of s) (kept_of s) (own-fine t.before.before.before.before.before) t.before.before.before.before.if1.left _ _ _ (summary_meant r.file)
           (this-is t) (account-is t) (group-is t) (file ∙ file-is t) (rw (sym file) at fits) _ _ _ _ next.expected limit next.group next.account,
       held_next (this-of t) (code-of s) (sum_meant (kept_of s).sum) s.args.records.0 (this-adds t) (state-of s) r t.before.add2.result t.add3.result s.pre.held s.pre.some-line
           s.pre.sums (file ∙ file-is t) (group-is t) (account-is t) (group_open (code-of s)) (account_open (code-of s)) next.group next.account,

@@ -10,15 +10,14 @@ use borrow.Author.Rules.{rules}
 use Rattle.rules.specs.Bytes.{Bytes}
 use Rattle.rules.specs.Outcome.{fine, ◌>>◌, check}
 use Rattle.rules.specs.Numbers.{magnitudes}
-use Rattle.rules.specs.Lines.{Code, Record}
+use Rattle.rules.specs.Lines.{Code, Record, lines_of}
 use Rattle.rules.specs.Grammar.{Kind, fields_of}
 use Rattle.rules.specs.Order.{among}
 use Rattle.rules.specs.Verdict.{step, in_order}
 use Rattle.rules.specs.Verdict as rules
 use Rattle.base_codes.specs.CodeMeaning.{code_meant}
 use Rattle.read_lines.specs.LineLengths.{first_record}
-use Rattle.read_lines.specs.Cuts.{lines_by}
-use Rattle.read_lines.proofs.OneRecord.{first-part-by}
+use Rattle.read_lines.proofs.OneRecord.{first_part}
 use Rattle.read_line_checks.specs.LineChecks.{Whole}
 use Rattle.read_kept.specs.KeepFields.{nothing_kept, Within}
 use Rattle.read_wanted.specs.Wants.{wanted_of}
@@ -41,7 +40,7 @@ abbrev before_of : tie.Start → rules.State
 before_of s = state_meant s.args.st
 
 abbrev record_of : tie.Start → Record
-record_of s = first_record (lines_by s.args.cut (rest_of s))
+record_of s = first_record (lines_of (rest_of s))
 
 right : (s : tie.Start) → step (before_of s) (record_of s) ≡ step_k (before_of s) (record_of s)
 right s = sym (step_right (before_of s) (record_of s) s.requires.0.bound)
@@ -75,7 +74,7 @@ size_of c = c.code.given.0.1.1.0
 abbrev bytes_of : Good → Bytes
 bytes_of c = take (size_of c - 0) (drop 0 (rest_of (start_of c)))
 
-whole : (c : Good) → Whole (start_of c).args.cut (start_of c).args.st.limit (rest_of (start_of c)) (code-of c) c.code.given.0.1.0.0 (size_of c)
+whole : (c : Good) → Whole (start_of c).args.st.limit (rest_of (start_of c)) (code-of c) c.code.given.0.1.0.0 (size_of c)
 whole c = rw c.code.given.1 at c.before.before.scan-record.ensures
 
 some_byte : (c : Good) → 0 < length (rest_of (start_of c))
@@ -86,8 +85,8 @@ bytes-are c =
     let z : size_of c - 0 ≡ size_of c = omega arith in
     ap (λ (n : ℕ). take n (rest_of (start_of c))) z
 
-lines_are : (c : Good) → lines_by (start_of c).args.cut (bytes_of c) ≡ record_of (start_of c)
-lines_are c = ap (lines_by (start_of c).args.cut) (bytes-are c) ∙ first-part-by (start_of c).args.cut (rest_of (start_of c)) (size_of c) (whole c).extent (some_byte c)
+lines_are : (c : Good) → lines_of (bytes_of c) ≡ record_of (start_of c)
+lines_are c = ap lines_of (bytes-are c) ∙ first_part (rest_of (start_of c)) (size_of c) (whole c).extent (some_byte c)
 
 length-is : (c : Good) → length (bytes_of c) ≡ size_of c
 length-is c = length-take (size_of c - 0) (rest_of (start_of c)) ∙ omega (arith, (whole c).ranges)
@@ -95,7 +94,7 @@ length-is c = length-take (size_of c - 0) (rest_of (start_of c)) ∙ omega (arit
 -- ---- 6
 
 order : (c : Good) → in_order (before_of (start_of c)).expected (record_of (start_of c)) ≡ (check (among (code-of c) (before_of (start_of c)).expected) 6 0 >> fine (code-of c))
-order c = order_is (start_of c).args.cut (before_of (start_of c)).expected (rest_of (start_of c)) (code-of c) (some_byte c) (whole c).code
+order c = order_is (before_of (start_of c)).expected (rest_of (start_of c)) (code-of c) (some_byte c) (whole c).code
 
 returns-3 : tie.Need-returns-3
 returns-3 c =
@@ -134,9 +133,9 @@ good c = good_of (ordered c)
 abbrev magnitudes-of : Walking → ℕ
 magnitudes-of c = magnitudes (before_of (start_of (good c))).file.sum
 
-walks : (c : Walking) → Walks (start_of (good c)).args.cut (bytes_of (good c)) c.before.first-want.result (magnitudes-of c) c.walk-record.result
+walks : (c : Walking) → Walks (bytes_of (good c)) c.before.first-want.result (magnitudes-of c) c.walk-record.result
 walks c =
-    subst (λ (bs : Bytes). Walks (start_of (good c)).args.cut bs c.before.first-want.result (magnitudes-of c) c.walk-record.result)
+    subst (λ (bs : Bytes). Walks bs c.before.first-want.result (magnitudes-of c) c.walk-record.result)
     (sym (bytes-are (good c))) c.walk-record.ensures
 
 walked : (c : Walking) → walk_from (fields_of (code-of (good c))) (nothing_kept (magnitudes-of c)) (record_of (start_of (good c))) ≡ walked_of c.walk-record.result
@@ -177,7 +176,7 @@ within c = bounds (walk_of c) _ c.kept.given.1
 
 settled : (c : Kept-known)
     → step_k (before_of (start_of (good (walk_of c)))) (record_of (start_of (good (walk_of c))))
-    ≡ settled_k (before_of (start_of (good (walk_of c)))) (lines_by (start_of (good (walk_of c))).args.cut (bytes_of (good (walk_of c)))) (code-of (good (walk_of c))) c.kept.given.0.0
+    ≡ settled_k (before_of (start_of (good (walk_of c)))) (lines_of (bytes_of (good (walk_of c)))) (code-of (good (walk_of c))) c.kept.given.0.0
 settled c =
     let w = walk_of c in
     let g = good w in

@@ -1,3 +1,0 @@
--- Signed totals, and a verdict in figures.
-pub mod TotalSigns
-pub mod VerdictFigures

@@ -1,2 +1,0 @@
--- What the figures mean.
-pub mod CFigures

@@ -1,0 +1,23 @@
+-- `c_reading::total_of` meets its contract: pluses less minuses, by which is the larger. Assumes nothing.
+use borrow.Author.Rules.{rules}
+use native.Mathlib.Omega.{arith}
+use Rattle.c_reading.proofs.TotalSigns.{minus_is, minus-fits, difference-kept, plus-is}
+use Rattle.c_reading.proofs.total_of.Statement.{statement}
+use Rattle.c_reading.proofs.total_of.Tie as tie
+
+sub-result-2 : tie.Need-overflow-sub-result-2
+sub-result-2 c =
+    rw (minus_is c.before.args.sum.0 c.before.args.sum.1 c.if1.true (omega arith))
+    (minus-fits c.before.args.sum.0 c.before.args.sum.1 c.if1.true (omega arith))
+
+returns : tie.Need-returns
+returns c =
+    rw (minus_is c.before.args.sum.0 c.before.args.sum.1 c.if1.true (omega arith))
+    (difference-kept c.before.args.sum.0 c.before.args.sum.1 c.before.requires)
+
+returns-2 : tie.Need-returns-2
+returns-2 c = plus-is c.before.args.sum.0 c.before.args.sum.1 c.if1.false (omega arith)
+
+pub total-of-spec : {M : Type 1} → statement M
+total-of-spec =
+    tie.close (tie.spec (λ c. search rules) (λ c. search rules) sub-result-2 returns (λ c. search rules) returns-2)

@@ -1,2 +1,0 @@
--- What an answer means.
-pub mod AnswerMeaning

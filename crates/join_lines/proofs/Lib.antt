@@ -1,2 +1,0 @@
--- The conversion, block by block.
-pub mod LineTurns

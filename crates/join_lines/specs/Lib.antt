@@ -1,2 +1,0 @@
--- What the conversion writes.
-pub mod LinesWritten

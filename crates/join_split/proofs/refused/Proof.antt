@@ -1,0 +1,12 @@
+-- `join_split::refused` meets its contract. Assumes nothing.
+use mathlib.Core.Path.{refl}
+use Rattle.rules.specs.Combine.{answered}
+use Rattle.join_split.proofs.refused.Statement.{statement}
+use Rattle.join_split.proofs.refused.Tie as tie
+
+returns : tie.Need-returns
+unfolding answered
+returns c out = refl
+
+pub refused-spec : {M : Type 1} → statement M
+refused-spec = tie.close (tie.spec returns)

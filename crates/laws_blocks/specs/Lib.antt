@@ -1,2 +1,0 @@
--- The words that the theorems are stated in.
-pub mod BlockWords

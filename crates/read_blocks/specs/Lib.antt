@@ -1,2 +1,0 @@
--- What the reader of blocks answers.
-pub mod BlockAnswers

@@ -1,2 +1,0 @@
--- What a line may reach, by either cut.
-pub mod Reaches
