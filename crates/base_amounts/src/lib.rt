@@ -8,7 +8,7 @@ ghost use Rattle.base_amounts.specs.AmountsRead.{amount_meant, amount_read, is_m
 use base_quantities::{Magnitude, Units};
 
 // An amount or a total as a field gives it.
-#[derive(Drop)]
+#[derive(Clone, Copy)]
 pub enum Amount {
     Empty,
     Unsigned(Magnitude),

@@ -3,7 +3,7 @@ ghost use Rattle.std.specs.Prelude.{◌≡◌};
 ghost use Rattle.rules.specs.Lines.{code_bytes, code_number, same_code};
 ghost use Rattle.base_codes.specs.CodeMeaning.{code_meant, bytes_meant};
 
-#[derive(Drop)]
+#[derive(Clone, Copy)]
 pub enum Code {
     FileHeader,
     GroupHeader,
@@ -16,7 +16,7 @@ pub enum Code {
 }
 
 // The two digits of a code.
-#[derive(Drop)]
+#[derive(Clone, Copy)]
 pub struct Digits(pub u8, pub u8);
 
 // The code's two digits as a number.

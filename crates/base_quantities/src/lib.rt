@@ -9,37 +9,37 @@ use base_limits::MOST;
 pub const MOST_RECORDS: u64 = 18_446_744_073_709_551_615;
 
 // A sum of minor units: what came with a plus, and what came with a minus.
-#[derive(Drop)]
+#[derive(Clone, Copy)]
 pub struct Units(pub u64, pub u64);
 
 // A sum, or its magnitudes pass the largest.
-#[derive(Drop)]
+#[derive(Clone, Copy)]
 pub enum UnitsSum {
     Within(Units),
     Beyond,
 }
 
 // Minor units without a sign.
-#[derive(Drop)]
+#[derive(Clone, Copy)]
 pub struct Magnitude(pub u64);
 
 // Minor units with a sign, as a call of the writer gives them.
-#[derive(Drop)]
+#[derive(Clone, Copy)]
 pub struct Signed {
     pub negative: bool,
     pub magnitude: Magnitude,
 }
 
 // How many groups, accounts or details.
-#[derive(Drop)]
+#[derive(Clone, Copy)]
 pub struct Count(pub u64);
 
 // How many records.
-#[derive(Drop)]
+#[derive(Clone, Copy)]
 pub struct Records(pub u64);
 
 // A byte's place.
-#[derive(Drop)]
+#[derive(Clone, Copy)]
 pub struct Place(pub usize);
 
 impl Units {

@@ -2,7 +2,7 @@
 use base_quantities::Place;
 
 // A refusal: its number, and the place of the byte that shows it.
-#[derive(Drop)]
+#[derive(Clone, Copy)]
 pub struct Refusal {
     pub number: u64,
     pub place: Place,

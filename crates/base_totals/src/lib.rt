@@ -10,7 +10,7 @@ use base_codes::Code;
 use base_quantities::{Count, Records, Units};
 
 // A file's total and its numbers of groups, accounts, details and records; likewise a group's, an account's, a record's.
-#[derive(Drop)]
+#[derive(Clone, Copy)]
 pub struct Summary {
     pub total: Units,
     pub groups: Count,

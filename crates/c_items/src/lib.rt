@@ -8,7 +8,7 @@ use find_item::ItemCount;
 
 // A refusal's number and place; or the type, how the amount was given and its magnitude, and the item count if it is given.
 #[repr(C)]
-#[derive(Drop)]
+#[derive(Clone, Copy)]
 pub struct Bai2Item {
     pub number: u64,
     pub place: u64,

@@ -6,7 +6,7 @@ ghost use Rattle.c_joining.specs.CJoined.{split_meant, combine_meant};
 
 // What splitting a file answers.
 #[repr(C)]
-#[derive(Drop)]
+#[derive(Clone, Copy)]
 pub struct Bai2Answer {
     pub number: u64,
     pub place: u64,
@@ -30,7 +30,7 @@ pub extern "C" fn bai2_split(name: &[u8], file: &[u8], out: &mut [u8]) -> Bai2An
 
 // What combining two files answers; file: the one that the reader refused, 1 or 2, or 0.
 #[repr(C)]
-#[derive(Drop)]
+#[derive(Clone, Copy)]
 pub struct Bai2Combined {
     pub number: u64,
     pub place: u64,

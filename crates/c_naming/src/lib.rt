@@ -7,7 +7,7 @@ use name_codes::CodeClass;
 
 // What the uniform list says of a type code.
 #[repr(C)]
-#[derive(Drop)]
+#[derive(Clone, Copy)]
 pub struct Bai2Code {
     pub listed: u64,
     pub status: u64,

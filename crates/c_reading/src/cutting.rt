@@ -8,7 +8,7 @@ use part_groups::Part;
 
 // A refusal's number and place, or where the part starts and its length.
 #[repr(C)]
-#[derive(Drop)]
+#[derive(Clone, Copy)]
 pub struct Bai2Part {
     pub number: u64,
     pub place: u64,
@@ -49,7 +49,7 @@ pub extern "C" fn bai2_account(file: &[u8], group: u64, account: u64) -> Bai2Par
 
 // A refusal's number and place; or the type, how the amount was given and its magnitude, and where the first text piece starts, and its length.
 #[repr(C)]
-#[derive(Drop)]
+#[derive(Clone, Copy)]
 pub struct Bai2Detail {
     pub number: u64,
     pub place: u64,

@@ -9,7 +9,7 @@ use part_records::Found;
 
 // A record: its code, its lines and its length.
 #[repr(C)]
-#[derive(Drop)]
+#[derive(Clone, Copy)]
 pub struct Bai2Record {
     pub number: u64,
     pub place: u64,
@@ -48,7 +48,7 @@ pub extern "C" fn bai2_record_at(file: &[u8], start: u64) -> Bai2Record
 
 // How many fields a record has.
 #[repr(C)]
-#[derive(Drop)]
+#[derive(Clone, Copy)]
 pub struct Bai2Fields {
     pub number: u64,
     pub place: u64,

@@ -14,7 +14,7 @@ pub mod handing;
 
 // What reading a file answers.
 #[repr(C)]
-#[derive(Drop)]
+#[derive(Clone, Copy)]
 pub struct Bai2Summary {
     pub number: u64,
     pub place: u64,

@@ -14,7 +14,7 @@ use write_state::{Phase, Writer, Written};
 
 // A summary in figures.
 #[repr(C)]
-#[derive(Drop)]
+#[derive(Clone, Copy)]
 pub struct Figures {
     pub pluses: u64,
     pub minuses: u64,
@@ -26,7 +26,7 @@ pub struct Figures {
 
 // Where the writer stands: the bytes so far, what was written last, whether a further item may come, and the summaries.
 #[repr(C)]
-#[derive(Drop)]
+#[derive(Clone, Copy)]
 pub struct Bai2Writer {
     pub size: u64,
     pub phase: u64,
@@ -38,7 +38,7 @@ pub struct Bai2Writer {
 
 // What a call of the writer answers.
 #[repr(C)]
-#[derive(Drop)]
+#[derive(Clone, Copy)]
 pub struct Bai2Written {
     pub number: u64,
     pub place: u64,

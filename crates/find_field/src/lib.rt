@@ -15,7 +15,7 @@ use base_quantities::Place;
 use find_walk::Reached;
 
 // The kinds of field that can be sought: a detail's type, its amount, and its first text piece; a group's receiver; a trailer's total and its number of records.
-#[derive(Drop)]
+#[derive(Clone, Copy)]
 pub enum Sought {
     Type,
     Amount,
@@ -26,7 +26,7 @@ pub enum Sought {
 }
 
 // Where a field starts, and its length; 0 and 0 where there is none.
-#[derive(Drop)]
+#[derive(Clone, Copy)]
 pub struct Spot {
     pub start: Place,
     pub length: usize,

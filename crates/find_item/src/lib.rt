@@ -15,21 +15,21 @@ const FIRST_TYPE: u64 = 14;
 const FURTHER_TYPE: u64 = 15;
 
 // An item count, if one is given.
-#[derive(Drop)]
+#[derive(Clone, Copy)]
 pub enum ItemCount {
     NoCount,
     Given(Count),
 }
 
 // An item's type, amount and item count; or there is no item of that number.
-#[derive(Drop)]
+#[derive(Clone, Copy)]
 pub enum FoundItem {
     NoItem,
     Item(u64, Amount, ItemCount),
 }
 
 // A field, by its start and length, and the walk after it; where there is none, 0 and 0, and the walk that was.
-#[derive(Drop)]
+#[derive(Clone, Copy)]
 struct Taken {
     start: Place,
     size: usize,
@@ -37,14 +37,14 @@ struct Taken {
 }
 
 // The type of the item sought; or there is none.
-#[derive(Drop)]
+#[derive(Clone, Copy)]
 enum TypeFound {
     NoType,
     Type(Taken),
 }
 
 // A field is the type of the item sought; or it isn't, and so many items are to be passed after it.
-#[derive(Drop)]
+#[derive(Clone, Copy)]
 enum Met {
     Sought,
     Passed(u64),

@@ -16,7 +16,7 @@ use read_wanted::{Taken, want};
 
 // Where the walk over a record stands: what is wanted next, the place of the next field and its line's end (a field past the end: the line is over), the
 // start of the next line, and the last slash that ended a line.
-#[derive(Drop)]
+#[derive(Clone, Copy)]
 pub struct Cursor {
     pub want: Want,
     pub at: Place,
@@ -26,7 +26,7 @@ pub struct Cursor {
 }
 
 // The next field, by its start and length, with the walk after it; or the record is over; or it is refused. Places are counted from the record's start.
-#[derive(Drop)]
+#[derive(Clone, Copy)]
 pub enum Next {
     Refused(Refusal),
     Over,
@@ -34,7 +34,7 @@ pub enum Next {
 }
 
 // Where the next field stands in its line; or the record is over; or it is refused.
-#[derive(Drop)]
+#[derive(Clone, Copy)]
 enum Ahead {
     Refused(Refusal),
     Over,

@@ -15,11 +15,11 @@ use read_wanted::want;
 const TEXT: u64 = 21;
 
 // How many fields.
-#[derive(Drop)]
+#[derive(Clone, Copy)]
 pub struct FieldCount(pub u64);
 
 // Where a walk ends: it is refused; the record is over, after so many fields; or it meets the field sought, by its start in the record and its length.
-#[derive(Drop)]
+#[derive(Clone, Copy)]
 pub enum Reached {
     Refused(Refusal),
     Over(FieldCount),

@@ -22,7 +22,7 @@ use read_file::{GoodFile, Judged};
 use read_line_checks::Checked;
 
 // The refusal, by number 0 at place 0 where there is none; the result's length, or 0; and the file that the reader refused, 1 or 2, or 0.
-#[derive(Drop)]
+#[derive(Clone, Copy)]
 pub struct Combined {
     pub refusal: Refusal,
     pub length: usize,

@@ -10,7 +10,7 @@ use base_quantities::{Count, Place, Records, Units};
 use find_field::Sought;
 
 // What groups add: how many they are, their bytes, their total and their records.
-#[derive(Drop)]
+#[derive(Clone, Copy)]
 pub struct Tally {
     pub groups: Count,
     pub bytes: usize,
@@ -19,7 +19,7 @@ pub struct Tally {
 }
 
 // What a group's 98 states: its total and its number of records.
-#[derive(Drop)]
+#[derive(Clone, Copy)]
 struct GroupTrailer {
     total: Units,
     records: Records,

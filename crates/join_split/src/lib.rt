@@ -18,14 +18,14 @@ use read_file::Verdict;
 const MOST_LAST: usize = 64;
 
 // The refusal, by number 0 at place 0 where there is none; and the result's length, or 0.
-#[derive(Drop)]
+#[derive(Clone, Copy)]
 pub struct Answer {
     pub refusal: Refusal,
     pub length: usize,
 }
 
 // What stands after the header of a split: so many bytes of groups, and a 99.
-#[derive(Drop)]
+#[derive(Clone, Copy)]
 struct Rest {
     bytes: usize,
     last: Trailer,

@@ -8,7 +8,7 @@ ghost use Rattle.join_trailer.specs.FreshTrailer.{last_line, trailer_of};
 use base_quantities::{Count, Place, Records, Units};
 
 // A fresh 99: its bytes, zeros after them, and how many they are.
-#[derive(Drop)]
+#[derive(Clone, Copy)]
 pub struct Trailer {
     pub bytes: [u8; 80],
     pub length: usize,

@@ -4,7 +4,7 @@ ghost use Rattle.rules.specs.CodeList.{entry_of};
 ghost use Rattle.name_codes.specs.ClassMeaning.{class_meant, entry_meant};
 
 // What a type code is for. NonMonetary: a detail, neither credit nor debit.
-#[derive(Drop)]
+#[derive(Clone, Copy)]
 pub enum CodeClass {
     Unlisted,
     Status,

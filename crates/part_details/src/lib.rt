@@ -13,7 +13,7 @@ use base_refusals::Refusal;
 use find_field::{Sought, Spot};
 
 // The refusal, by number 0 at place 0 where there is none; and a detail's type, its amount as it was given, and where its first text piece starts in the file, and its length: 0 where there is none.
-#[derive(Drop)]
+#[derive(Clone, Copy)]
 pub struct DetailAnswer {
     pub refusal: Refusal,
     pub type_code: u64,

@@ -18,7 +18,7 @@ const NO_KIND: u64 = 0;
 const HELD: usize = 16;
 
 // How many fields were handed out; or why none was.
-#[derive(Drop)]
+#[derive(Clone, Copy)]
 pub enum Fields {
     Refused(Refusal),
     Given(FieldCount),

@@ -14,7 +14,7 @@ use base_refusals::{NO_SUCH_PART, Refusal};
 use read_file::Verdict;
 
 // The refusal, by number 0 at place 0 where there is none; and where the part starts in the file, and its length.
-#[derive(Drop)]
+#[derive(Clone, Copy)]
 pub struct Part {
     pub refusal: Refusal,
     pub start: Place,

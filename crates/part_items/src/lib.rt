@@ -12,7 +12,7 @@ use base_refusals::{NO_SUCH_PART, Refusal};
 use find_item::{FoundItem, ItemCount};
 
 // The refusal, by number 0 at place 0 where there is none; and an item's type, its amount as it was given, and its item count: 0 and none where refused.
-#[derive(Drop)]
+#[derive(Clone, Copy)]
 pub struct ItemAnswer {
     pub refusal: Refusal,
     pub type_code: u64,

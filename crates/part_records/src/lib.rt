@@ -12,7 +12,7 @@ use base_refusals::{NO_RECORD_CODE, NO_SUCH_PART, Refusal};
 use read_lines::Coded;
 
 // A record's code, how many lines it has, and its length with line ends; or why there is none.
-#[derive(Drop)]
+#[derive(Clone, Copy)]
 pub enum Found {
     Refused(Refusal),
     Record(Code, Records, usize),

@@ -5,7 +5,7 @@ ghost use Rattle.rules.specs.Cells.{leading_blanks};
 ghost use Rattle.read_field_ends.specs.FieldLengths.{field_len, extent_of};
 
 // How far a field goes: so many bytes; or the line ends before a comma or slash.
-#[derive(Drop)]
+#[derive(Clone, Copy)]
 pub enum Extent {
     Field(usize),
     Open,

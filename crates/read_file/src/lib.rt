@@ -15,14 +15,14 @@ mod record;
 mod state;
 
 // The summary, or a refusal with its place in the file.
-#[derive(Drop)]
+#[derive(Clone, Copy)]
 pub enum Verdict {
     Accepted(Summary),
     Refused(Refusal),
 }
 
 // An accepted file: its summary, its longest line (L, or 4,096), and where its 99 starts.
-#[derive(Drop)]
+#[derive(Clone, Copy)]
 pub struct GoodFile {
     pub summary: Summary,
     pub limit: usize,
@@ -30,7 +30,7 @@ pub struct GoodFile {
 }
 
 // What is known of an accepted file, or a refusal with its place in the file.
-#[derive(Drop)]
+#[derive(Clone, Copy)]
 pub enum Judged {
     Accepted(GoodFile),
     Refused(Refusal),

@@ -21,7 +21,7 @@ use read_walk::Walked;
 use read_wanted::want;
 
 // The state after a record and how many bytes it has; a refusal with its place in the record; or no record is left.
-#[derive(Drop)]
+#[derive(Clone, Copy)]
 pub enum Stepped {
     End,
     Refused(Refusal),
@@ -29,7 +29,7 @@ pub enum Stepped {
 }
 
 // The state after a record, or a refusal with its place in the record.
-#[derive(Drop)]
+#[derive(Clone, Copy)]
 enum Settled {
     Refused(Refusal),
     Next(State),

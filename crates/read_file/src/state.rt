@@ -8,7 +8,7 @@ use base_limits::LONGEST_LINE;
 use base_totals::Summary;
 use read_order::Expected;
 
-#[derive(Drop)]
+#[derive(Clone, Copy)]
 pub struct State {
     pub expected: Expected,
     pub limit: usize,

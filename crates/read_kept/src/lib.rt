@@ -13,21 +13,21 @@ use base_quantities::{Count, Magnitude, Place, Records, Units};
 use read_wanted::want::{Keep, Want};
 
 // A trailer's total, less its sign, and where it stands.
-#[derive(Drop)]
+#[derive(Clone, Copy)]
 pub struct StatedTotal {
     pub at: Place,
     pub magnitude: Magnitude,
 }
 
 // A trailer's count of accounts or groups, and where it stands.
-#[derive(Drop)]
+#[derive(Clone, Copy)]
 pub struct StatedCount {
     pub at: Place,
     pub count: Count,
 }
 
 // A trailer's record count, and where it stands.
-#[derive(Drop)]
+#[derive(Clone, Copy)]
 pub struct StatedRecords {
     pub at: Place,
     pub records: Records,
@@ -35,7 +35,7 @@ pub struct StatedRecords {
 
 // before: the magnitudes of the records before; sum: of this record's amounts; over: one of them passed the largest, the first at `past`; length: L.
 // seen: the field was there; given: it was not empty. The flags stand together and last, for speed: copies have no gaps.
-#[derive(Drop)]
+#[derive(Clone, Copy)]
 pub struct Kept {
     pub before: Magnitude,
     pub sum: Units,

@@ -10,28 +10,28 @@ use base_refusals::{BYTE_NOT_ALLOWED, LINE_TOO_LONG, NO_RECORD_CODE, Refusal};
 use read_lines::Coded;
 
 // Fine, or refused.
-#[derive(Drop)]
+#[derive(Clone, Copy)]
 pub enum Checked {
     Fine,
     Refused(Refusal),
 }
 
 // Where a line ends, without its end, or a refusal.
-#[derive(Drop)]
+#[derive(Clone, Copy)]
 enum Clean {
     Refused(Refusal),
     Ends(Place),
 }
 
 // A line's code and the place after the line, or a refusal.
-#[derive(Drop)]
+#[derive(Clone, Copy)]
 enum GoodLine {
     Refused(Refusal),
     Good(Code, Place),
 }
 
 // A record's code, how many lines it has, and how many bytes; a refusal; or no record is left.
-#[derive(Drop)]
+#[derive(Clone, Copy)]
 pub enum Scanned {
     End,
     Refused(Refusal),

@@ -12,14 +12,14 @@ use base_quantities::{Place, Records};
 pub mod scan;
 
 // A line's code, if it has one.
-#[derive(Drop)]
+#[derive(Clone, Copy)]
 pub enum Coded {
     None,
     With(Code),
 }
 
 // Some lines: how many, and where they end.
-#[derive(Drop)]
+#[derive(Clone, Copy)]
 pub struct Lines {
     pub count: Records,
     pub end: Place,

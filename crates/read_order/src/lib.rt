@@ -7,7 +7,7 @@ ghost use Rattle.read_order.specs.ExpectedCodes.{expected_meant};
 use base_codes::Code;
 
 // The codes that may come next.
-#[derive(Drop)]
+#[derive(Clone, Copy)]
 pub enum Expected {
     Nothing,
     One(Code),

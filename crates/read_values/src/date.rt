@@ -4,7 +4,7 @@ ghost use Rattle.rules.specs.Dates.{is_date, days_of};
 ghost use Rattle.read_values.specs.ValueMeanings.{date_in};
 
 // A year of the century, a month and a day.
-#[derive(Drop)]
+#[derive(Clone, Copy)]
 pub struct Date {
     pub year: u64,
     pub month: u64,
@@ -12,7 +12,7 @@ pub struct Date {
 }
 
 // What reading a date finds.
-#[derive(Drop)]
+#[derive(Clone, Copy)]
 pub enum DateRead {
     Given(Date),
     NoDate,

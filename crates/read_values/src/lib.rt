@@ -136,7 +136,7 @@ pub fn is_time(f: &[u8]) -> bool
 }
 
 // The classes of type codes.
-#[derive(Drop)]
+#[derive(Clone, Copy)]
 pub enum Class {
     Status,
     SummaryOnly,

@@ -13,7 +13,7 @@ use read_wanted::want::Want;
 use read_wanted::{Taken, want};
 
 // A refusal with its place in the record, or what was kept.
-#[derive(Drop)]
+#[derive(Clone, Copy)]
 pub enum Walked {
     Refused(Refusal),
     Done(Kept),

@@ -13,7 +13,7 @@ use want::{After, Want};
 pub mod want;
 
 // A field was good, and this is wanted next; or it is refused by this number.
-#[derive(Drop)]
+#[derive(Clone, Copy)]
 pub enum Taken {
     Next(Want),
     Refused(u64),

@@ -7,14 +7,14 @@ ghost use Rattle.read_wanted.specs.Wants.{wanted_of, wanted_after, splits, keep_
 use base_codes::Code;
 
 // Where funds stand: in an item, or in a detail before its references.
-#[derive(Drop)]
+#[derive(Clone, Copy)]
 pub enum After {
     FurtherItem,
     References,
 }
 
 // The place of the next field. SplitAmount, Days and DayAmount: how many amounts or pairs are left after it.
-#[derive(Drop)]
+#[derive(Clone, Copy)]
 pub enum Want {
     Sender,
     Receiver,
@@ -67,7 +67,7 @@ pub enum Want {
 }
 
 // What a field is kept for: its amount, a trailer's figure, the physical length, or nothing.
-#[derive(Drop)]
+#[derive(Clone, Copy)]
 pub enum Keep {
     Amount,
     Total,

@@ -16,25 +16,25 @@ use read_wanted::Taken;
 use read_wanted::want::Want;
 
 // What is wanted next, or that a field was refused; and how many bytes of the line stand.
-#[derive(Drop)]
+#[derive(Clone, Copy)]
 pub struct Draft {
     pub taken: Taken,
     pub len: usize,
 }
 
 // An amount or none.
-#[derive(Drop)]
+#[derive(Clone, Copy)]
 pub enum MaybeAmount {
     Given(Signed),
     NoAmount,
 }
 
 // How many items a summary item stands for: document 01's item count.
-#[derive(Drop)]
+#[derive(Clone, Copy)]
 pub struct Items(pub u64);
 
 // A number of items or none.
-#[derive(Drop)]
+#[derive(Clone, Copy)]
 pub enum MaybeItems {
     Given(Items),
     NoItems,

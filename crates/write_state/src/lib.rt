@@ -17,7 +17,7 @@ use base_totals::Summary;
 use read_order::Expected;
 
 // What was written last: nothing; 01 or 98; 02; 03, 88 or 16; 49; 99.
-#[derive(Drop)]
+#[derive(Clone, Copy)]
 pub enum Phase {
     Fresh,
     BetweenGroups,
@@ -28,7 +28,7 @@ pub enum Phase {
 }
 
 // items: a further item may come; size: the place after the bytes so far.
-#[derive(Drop)]
+#[derive(Clone, Copy)]
 pub struct Writer {
     pub phase: Phase,
     pub items: bool,
@@ -39,7 +39,7 @@ pub struct Writer {
 }
 
 // What a call answers: its refusal, number 0 and place 0 where it was accepted; the length of all bytes so far, 0 where refused; and the state after it.
-#[derive(Drop)]
+#[derive(Clone, Copy)]
 pub struct Written {
     pub refusal: Refusal,
     pub length: usize,
