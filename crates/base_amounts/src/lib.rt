@@ -1,4 +1,7 @@
 // Amounts as fields give them: empty, unsigned, with plus, with minus; what they add, and how they are told.
+
+#![tactic(auto)]
+
 ghost use Rattle.std.specs.Prelude.{◌≡◌};
 ghost use Rattle.rules.specs.Amounts.{magnitude_of, amount_adds};
 ghost use Rattle.rules.specs.Answers.{form_number};

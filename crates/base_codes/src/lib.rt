@@ -1,4 +1,7 @@
 // The codes of records, one type for every crate that reads or writes them, and the two digits of each.
+
+#![tactic(auto)]
+
 ghost use Rattle.std.specs.Prelude.{◌≡◌};
 ghost use Rattle.rules.specs.Lines.{code_bytes, code_number, same_code};
 ghost use Rattle.base_codes.specs.CodeMeaning.{code_meant, bytes_meant};

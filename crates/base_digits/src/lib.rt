@@ -1,4 +1,7 @@
 // Numbers in fields, read: digits and signs.
+
+#![tactic(auto)]
+
 ghost use Rattle.std.specs.Prelude.{◌≡◌, ◌≤◌};
 ghost use Rattle.rules.specs.Bytes.{all, between, minus, starts_with};
 ghost use Rattle.rules.specs.Numbers.{digits, without_sign};

@@ -1,5 +1,7 @@
 // The limits of the rules, each in one place.
 
+#![tactic(auto)]
+
 // The longest file, and the longest result, in bytes.
 pub const LONGEST_FILE: usize = 16_777_216;
 

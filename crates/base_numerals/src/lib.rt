@@ -1,4 +1,7 @@
 // Numbers written: their digits without leading zeros, and totals with a minus in front where one is due.
+
+#![tactic(auto)]
+
 ghost use Rattle.std.specs.Prelude.{◌≡◌, ◌∷◌, ◌≤◌, length};
 ghost use Rattle.rules.specs.Numbers.{decimal, total_bytes};
 ghost use Rattle.base_quantities.specs.QuantityMeanings.{sum_meant};

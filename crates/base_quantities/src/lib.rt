@@ -1,4 +1,7 @@
 // Quantities that must not mix: minor units, counts of groups, accounts and details, counts of records, and places of bytes.
+
+#![tactic(auto)]
+
 ghost use Rattle.std.specs.Prelude.{◌≡◌, ◌+◌, min};
 ghost use Rattle.rules.specs.Numbers.{zero_sum, as_sum, ◌⊕◌};
 ghost use Rattle.base_quantities.specs.QuantityMeanings.{sum_meant, signed_meant, wrapped_sum, units_within, most_records};

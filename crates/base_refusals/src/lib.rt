@@ -1,4 +1,7 @@
 // Why a call is refused: one type for every answer, and the numbers by name. include/bai2.h has the same names and explains each.
+
+#![tactic(auto)]
+
 use base_quantities::Place;
 
 // A refusal: its number, and the place of the byte that shows it.

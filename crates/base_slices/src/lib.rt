@@ -1,4 +1,7 @@
 // Bytes compared, a part of a slice, and bytes put into a lent slice.
+
+#![tactic(auto)]
+
 ghost use Rattle.std.specs.Prelude.{◌≡◌, min, take};
 ghost use Rattle.std.proofs.Math.Seq.{slice};
 ghost use Rattle.rules.specs.Bytes.{same_bytes};

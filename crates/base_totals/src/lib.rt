@@ -1,4 +1,7 @@
 // What records add up to, for the reader and the writer: a file's summary, a group's, an account's; what each record adds, and two summaries in one.
+
+#![tactic(auto)]
+
 ghost use Rattle.std.specs.Prelude.{◌≡◌, ◌+◌, if◌then◌else◌};
 ghost use Rattle.rules.specs.Totals.{no_summary, ◌⊞◌};
 ghost use Rattle.rules.specs.Totals as totals;

@@ -1,4 +1,7 @@
 // The call for C that hands out an item of an account's 03.
+
+#![tactic(auto)]
+
 ghost use Rattle.std.specs.Prelude.{◌≡◌};
 ghost use Rattle.rules.specs.Answers.{item_of_file};
 ghost use Rattle.find_item.specs.ItemSearch.{count_meant};

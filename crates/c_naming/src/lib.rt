@@ -1,4 +1,7 @@
 // The call for C that tells what a type code is for. include/bai2.h declares it.
+
+#![tactic(auto)]
+
 ghost use Rattle.std.specs.Prelude.{◌≡◌};
 ghost use Rattle.rules.specs.Answers.{code_answer};
 ghost use Rattle.c_naming.specs.CNamed.{code_meant};

@@ -1,4 +1,7 @@
 // The calls for C that read: numbers and byte slices in, numbers out. include/bai2.h declares them.
+
+#![tactic(auto)]
+
 ghost use Rattle.std.specs.Prelude.{◌≡◌, ◌+◌, ◌≤◌};
 ghost use Rattle.rules.specs.Numbers.{as_integer};
 ghost use Rattle.rules.specs.Limits.{most};

@@ -1,4 +1,7 @@
 // The writer's state and its answers as plain numbers, which C hands from call to call; amounts and counts that C gives or leaves out.
+
+#![tactic(auto)]
+
 ghost use Rattle.std.specs.Prelude.{◌≡◌, []};
 ghost use Rattle.base_quantities.specs.QuantityMeanings.{signed_meant};
 ghost use Rattle.write_line.specs.DraftMeaning.{amount_given, items_given};

@@ -1,4 +1,7 @@
 // The writer's calls for C: its state is plain numbers, which each call takes by value and hands back.
+
+#![tactic(auto)]
+
 ghost use Rattle.std.specs.Prelude.{◌≡◌};
 ghost use Rattle.rules.specs.Writer as rules;
 ghost use Rattle.c_writer.specs.WriterFigures.{numbers_of, replied, reply_to, amount_asked, item_of, item_asked};

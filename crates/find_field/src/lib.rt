@@ -1,4 +1,7 @@
 // The first field of a kind in a record: where it stands, and its length; and what a detail's type and amount say.
+
+#![tactic(auto)]
+
 ghost use Rattle.std.specs.Prelude.{◌≡◌};
 ghost use Rattle.rules.specs.Numbers.{number};
 ghost use Rattle.rules.specs.Amounts.{amount_in};

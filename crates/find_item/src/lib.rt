@@ -1,4 +1,7 @@
 // An item of an account's 03, by its number: its type, its amount as it was given, and its item count.
+
+#![tactic(auto)]
+
 ghost use Rattle.std.specs.Prelude.{◌≡◌, not, ◌&&◌, ◌||◌, ◌+◌, ◌≤◌, eqb, length, take, drop};
 ghost use Rattle.find_next.specs.CursorMeaning.{Inside};
 ghost use Rattle.find_item.specs.ItemSearch.{item_sought, count_meant, count_read, found_meant, met_by, Takes, Seeks};

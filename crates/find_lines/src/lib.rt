@@ -1,4 +1,7 @@
 // Where lines of given codes stand, found by their codes alone: blocks without one are passed by vector code.
+
+#![tactic(auto)]
+
 ghost use Rattle.std.specs.Prelude.{◌≡◌, false, cond, suc, ◌+◌, ◌-◌, ◌≤◌, ◌<◌, eqb, length, drop, get_or};
 ghost use Rattle.rules.specs.Lines.{lines_of};
 ghost use Rattle.base_codes.specs.CodeMeaning.{code_meant, bytes_meant};

@@ -1,4 +1,7 @@
 // The walk over a record that yields one field after the other: for the search for a field, and for handing all of them out.
+
+#![tactic(auto)]
+
 ghost use Rattle.std.specs.Prelude.{ℕ, ◌≡◌, drop};
 ghost use Rattle.rules.specs.Bytes.{Bytes};
 ghost use Rattle.rules.specs.Lines.{lines_of};

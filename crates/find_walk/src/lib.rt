@@ -1,4 +1,7 @@
 // The walk over a record's fields up to one of a kind, or to its end: the numbers of each field that it passes, and where it ends.
+
+#![tactic(auto)]
+
 ghost use Rattle.std.specs.Prelude.{◌≡◌, cond, ◌&&◌, ◌∷◌, ◌++◌, ◌+◌, ◌≤◌, ◌<◌, eqb, length, take, drop};
 ghost use Rattle.rules.specs.Bytes.{slash, just};
 ghost use Rattle.base_codes.specs.CodeMeaning.{code_meant};

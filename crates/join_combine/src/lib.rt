@@ -1,4 +1,7 @@
 // Two files combined: A's header and groups, then B's groups, then a fresh 99; measured first, then written.
+
+#![tactic(auto)]
+
 ghost use Rattle.std.specs.Prelude.{◌≡◌, ◌++◌, ◌+◌, ◌-◌, ◌≤◌, T, length};
 ghost use Rattle.rules.specs.Bytes.{Bytes};
 ghost use Rattle.rules.specs.Numbers.{◌⊕◌};

@@ -1,4 +1,7 @@
 // The groups of an accepted file that are for one receiver: their totals and records, from what their 98s state, and their bytes, copied.
+
+#![tactic(auto)]
+
 ghost use Rattle.std.specs.Prelude.{◌≡◌, drop};
 ghost use Rattle.rules.specs.Lines.{lines_of};
 ghost use Rattle.base_quantities.specs.QuantityMeanings.{sum_meant};

@@ -1,4 +1,7 @@
 // Whom a group's 02 names, held against the name asked for: byte by byte, so leading zeros count.
+
+#![tactic(auto)]
+
 ghost use Rattle.std.specs.Prelude.{◌≡◌};
 ghost use Rattle.rules.specs.Lines.{lines_of};
 ghost use Rattle.join_receivers.specs.NamedReceiver.{named};

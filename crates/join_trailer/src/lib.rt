@@ -1,4 +1,7 @@
 // A fresh 99, and how many records a part has.
+
+#![tactic(auto)]
+
 ghost use Rattle.std.specs.Prelude.{◌≡◌, ◌≤◌, length};
 ghost use Rattle.rules.specs.Lines.{lines_of};
 ghost use Rattle.base_quantities.specs.QuantityMeanings.{sum_meant};

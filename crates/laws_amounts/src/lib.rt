@@ -1,1 +1,3 @@
 // The amounts of an accepted file, as they were given: the crate is its specs/ (the words) and its proofs/ (the theorems in AmountTheorems).
+
+#![tactic(auto)]

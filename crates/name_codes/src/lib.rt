@@ -1,4 +1,7 @@
 // What the uniform list of document 000 says of each type code, as one table over 000 to 999.
+
+#![tactic(auto)]
+
 ghost use Rattle.std.specs.Prelude.{◌≡◌};
 ghost use Rattle.rules.specs.CodeList.{entry_of};
 ghost use Rattle.name_codes.specs.ClassMeaning.{class_meant, entry_meant};

@@ -1,4 +1,7 @@
 // A detail by number: its type, its amount and its first text piece, which is a slice of the lent file itself.
+
+#![tactic(auto)]
+
 ghost use Rattle.std.specs.Prelude.{◌≡◌, ◌+◌, ◌≤◌, length};
 ghost use Rattle.rules.specs.Outcome.{or_else};
 ghost use Rattle.rules.specs.Parts as rules;

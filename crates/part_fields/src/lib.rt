@@ -1,4 +1,7 @@
 // The fields of the record that begins at a byte: of each its kind, its place in the file and its length. The file is not judged.
+
+#![tactic(auto)]
+
 ghost use Rattle.std.specs.Prelude.{◌≡◌, ◌*◌, leb, drop};
 ghost use Rattle.rules.specs.HandedOut.{fields_of_record};
 ghost use Rattle.base_codes.specs.CodeMeaning.{code_meant};

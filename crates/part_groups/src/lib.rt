@@ -1,4 +1,7 @@
 // Parts of a file by number: its groups, a group's accounts, an account's details. A part is a slice of the lent file itself.
+
+#![tactic(auto)]
+
 ghost use Rattle.std.specs.Prelude.{◌≡◌, ◌+◌, ◌≤◌, length};
 ghost use Rattle.rules.specs.Outcome.{refusal_of};
 ghost use Rattle.rules.specs.Parts as rules;

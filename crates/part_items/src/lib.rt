@@ -1,4 +1,7 @@
 // An item of an account's 03 by number: its type, its amount as it was given, and its item count.
+
+#![tactic(auto)]
+
 ghost use Rattle.std.specs.Prelude.{◌≡◌};
 ghost use Rattle.std.proofs.Math.Option.{none};
 ghost use Rattle.rules.specs.Amounts.{empty};

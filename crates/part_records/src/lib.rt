@@ -1,4 +1,7 @@
 // The record that begins at a byte: its code, its lines and its length. The file is not judged.
+
+#![tactic(auto)]
+
 ghost use Rattle.std.specs.Prelude.{◌≡◌, drop};
 ghost use Rattle.rules.specs.Lines.{code_of};
 ghost use Rattle.read_lines.specs.LineLengths.{first_line};

@@ -1,4 +1,7 @@
 // How long a field is in what is left of a line: up to a comma or slash, or, of a text, up to its trailing blanks.
+
+#![tactic(auto)]
+
 ghost use Rattle.std.specs.Prelude.{◌≡◌, ◌≤◌, length};
 ghost use Rattle.rules.specs.Bytes.{trimmed};
 ghost use Rattle.rules.specs.Cells.{leading_blanks};

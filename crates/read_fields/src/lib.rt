@@ -1,4 +1,7 @@
 // A record's fields: what one must be as the first of what is wanted.
+
+#![tactic(auto)]
+
 ghost use Rattle.std.specs.Prelude.{◌≡◌};
 ghost use Rattle.rules.specs.Grammar.{take_next};
 ghost use Rattle.read_wanted.specs.Wants.{wanted_of};

@@ -1,4 +1,7 @@
 // A file's verdict: `record` holds one record's checks in their order, `state` what is known between two records, and this file 1, 2 and a missing 99.
+
+#![tactic(auto)]
+
 ghost use Rattle.std.specs.Prelude.{◌≡◌};
 ghost use Rattle.rules.specs.Verdict.{judge};
 ghost use Rattle.read_file.specs.FileMeanings.{verdict_meant};

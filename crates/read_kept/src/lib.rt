@@ -1,4 +1,7 @@
 // What a walk keeps of a record's fields for the checks that come after it: 10, a trailer's 11 to 14, and L.
+
+#![tactic(auto)]
+
 ghost use Rattle.std.specs.Prelude.{◌≡◌, not, ◌+◌, ltb};
 ghost use Rattle.rules.specs.Numbers.{magnitudes};
 ghost use Rattle.rules.specs.Limits.{most};

@@ -1,4 +1,7 @@
 // The number of the kind of field that is wanted next.
+
+#![tactic(auto)]
+
 ghost use Rattle.std.specs.Prelude.{◌≡◌};
 ghost use Rattle.rules.specs.Grammar.{kind_number, next_kind};
 ghost use Rattle.read_wanted.specs.Wants.{wanted_of};

@@ -1,4 +1,7 @@
 // Refusals 3, 4 and 5: each line of a record in file order.
+
+#![tactic(auto)]
+
 ghost use Rattle.std.specs.Prelude.{◌≡◌, ◌<◌, length, drop};
 ghost use Rattle.rules.specs.Lines.{lines_of};
 ghost use Rattle.rules.specs.Verdict.{none_longer};

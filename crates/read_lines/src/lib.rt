@@ -1,4 +1,7 @@
 // Lines and records of a file: where they end, and a line's code. `scan` finds the first byte outside a range, block by block.
+
+#![tactic(auto)]
+
 ghost use Rattle.std.specs.Prelude.{◌≡◌, [], ◌∷◌, ◌+◌, ◌-◌, ◌≤◌, length, take, drop};
 ghost use Rattle.rules.specs.Bytes.{comma, same_bytes};
 ghost use Rattle.rules.specs.Lines.{lines_of, code_bytes, code_of, record_size};

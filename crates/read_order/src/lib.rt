@@ -1,4 +1,7 @@
 // Refusal 6: which record may come next, whether the file may end, and what is open after a record.
+
+#![tactic(auto)]
+
 ghost use Rattle.std.specs.Prelude.{◌≡◌};
 ghost use Rattle.rules.specs.Order.{may_follow, among, ended, group_open, account_open};
 ghost use Rattle.base_codes.specs.CodeMeaning.{code_meant};

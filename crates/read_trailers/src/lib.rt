@@ -1,4 +1,7 @@
 // What a trailer is held to against the summary of what it encloses: refusals 14, 11, 12 and 13.
+
+#![tactic(auto)]
+
 ghost use Rattle.std.specs.Prelude.{◌≡◌};
 ghost use Rattle.base_codes.specs.CodeMeaning.{code_meant};
 ghost use Rattle.read_line_checks.specs.LineChecks.{checked_of};

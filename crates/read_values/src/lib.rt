@@ -1,4 +1,7 @@
 // What a field's bytes may be: names, single bytes, currencies, lengths, times and types. Dates are in `date`; numbers are in `base_digits`.
+
+#![tactic(auto)]
+
 ghost use Rattle.std.specs.Prelude.{◌≡◌, length, leb};
 ghost use Rattle.rules.specs.Limits.{longest_name};
 ghost use Rattle.rules.specs.Bytes.{between, is_empty, one_of, in_field, clean};

@@ -1,4 +1,7 @@
 // The walk over a record's lines and fields: refusals 7, 8 and 9, and what the later checks need.
+
+#![tactic(auto)]
+
 ghost use Rattle.std.specs.Prelude.{◌≡◌, length, take};
 ghost use Rattle.read_wanted.specs.Wants.{wanted_of};
 ghost use Rattle.read_walk.specs.WalkKept.{point, end_k};

@@ -1,4 +1,7 @@
 // What is wanted next, and the kinds of field that decide it.
+
+#![tactic(auto)]
+
 ghost use Rattle.std.specs.Prelude.{◌≡◌, ◌||◌, []};
 ghost use Rattle.rules.specs.Bytes.{is_empty};
 ghost use Rattle.rules.specs.Grammar.{judged, and_then, fits, item_of, detail_of, piece_of, first_type, version, funds, pair_count, text};

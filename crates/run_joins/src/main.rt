@@ -1,4 +1,7 @@
 // Splits, combinations and parts of the files in data/: each call with its answer in figures, and below it the bytes that it gave.
+
+#![tactic(auto)]
+
 ghost use Rattle.io.specs.Counts.{IsPrefixLen};
 
 use base_amounts::Amount;

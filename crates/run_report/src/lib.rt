@@ -1,4 +1,7 @@
 // The line that the program `summary` writes: a file's summary, its refusal, or that there are too many bytes.
+
+#![tactic(auto)]
+
 ghost use Rattle.std.specs.Prelude.{◌≤◌, length};
 ghost use Rattle.rules.specs.Outcome.{refused, fine};
 ghost use Rattle.rules.specs.Report.{as_line, verdict_words, report};

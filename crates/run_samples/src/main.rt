@@ -1,4 +1,7 @@
 // For each argument, a file of data/: its name, a colon, and the line that `summary` writes for it.
+
+#![tactic(auto)]
+
 use base_limits::MOST_INPUT;
 use libc::STDOUT_FILENO;
 use run_report::LONGEST_REPORT;

@@ -1,4 +1,7 @@
 // Writes two files with every call of the writer, then tries calls that are refused. What it prints is held to `stdout`.
+
+#![tactic(auto)]
+
 mod amounts;
 mod files;
 mod printing;

@@ -1,4 +1,7 @@
 // Judges the BAI2 file on standard input, up to 65,536 bytes, and writes one line: its summary, its refusal, or that it is too long.
+
+#![tactic(auto)]
+
 use base_limits::MOST_INPUT;
 use libc::{STDIN_FILENO, STDOUT_FILENO};
 use run_report::LONGEST_REPORT;

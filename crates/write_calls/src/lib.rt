@@ -1,5 +1,8 @@
 // The writer of document 01: each call takes the state by value and hands back its answer with the state after it. The line is drafted in a space
 // of its own, by `write_records`; `write_commit` decides whether it is written.
+
+#![tactic(auto)]
+
 ghost use Rattle.std.specs.Prelude.{◌≡◌, true};
 ghost use Rattle.write_line.specs.DraftMeaning.{amount_given};
 ghost use Rattle.rules.specs.Writer as rules;

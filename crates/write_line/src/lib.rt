@@ -1,4 +1,7 @@
 // A line in the making: it stands in a space of its own until the call that writes it is accepted.
+
+#![tactic(auto)]
+
 ghost use Rattle.std.specs.Prelude.{◌≡◌, cond, [], ◌∷◌, ◌+◌, leb, length, replicate};
 ghost use Rattle.rules.specs.Numbers.{decimal, total_bytes};
 ghost use Rattle.rules.specs.Writer.{placed, good_text, sum_given, amount_bytes, item_count_bytes};

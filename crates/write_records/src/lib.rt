@@ -1,4 +1,7 @@
 // The lines of the writer's calls, drafted: the fields in the order of their record.
+
+#![tactic(auto)]
+
 ghost use Rattle.std.specs.Prelude.{◌≡◌, [], ◌∷◌};
 ghost use Rattle.rules.specs.Numbers.{decimal, total_bytes};
 ghost use Rattle.rules.specs.Lines as lines;

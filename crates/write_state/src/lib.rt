@@ -1,5 +1,8 @@
 // The writer's state: what was written last, how many bytes stand, and the sums and counts that the trailers need; which states are sound, and
 // which line is in turn.
+
+#![tactic(auto)]
+
 ghost use Rattle.std.specs.Prelude.{◌≡◌, leb};
 ghost use Rattle.rules.specs.Numbers.{magnitudes};
 ghost use Rattle.rules.specs.Writer.{fresh_writer, counted, sound, expected_in, in_turn, phase_after};

@@ -6,26 +6,26 @@ use borrow.Author.Rules.{rules}
 use Rattle.base_amounts.proofs.amount_in.Statement.{statement}
 use Rattle.base_amounts.proofs.amount_in.Tie as tie
 
-returns : tie.Need-returns
-returns c = read_none _ c.if1.true
+returns : tie.Need-returns-then-f-eq0
+returns c = read_none _ c.if-f-eq0.true
 
-returns-2 : tie.Need-returns-2
+returns-2 : tie.Need-returns-then-f-eq43
 returns-2 c =
     let v = c.before.before in
-    read-plus _ _ v.before.before.if1.false (v.value.ensures.0 ∙ ap value_of v.before.without_sign.ensures) c.if2.true
+    read-plus _ _ v.before.before.if-f-eq0.false (v.value.ensures.0 ∙ ap value_of v.before.without_sign.ensures) c.if-f-eq43.true
 
-returns-3 : tie.Need-returns-3
+returns-3 : tie.Need-returns-then-f-eq45
 returns-3 c =
     let v = c.before.before.before.before in
-    read-minus _ _ v.before.before.if1.false (v.value.ensures.0 ∙ ap value_of v.before.without_sign.ensures) c.before.before.if2.false c.if3.true
+    read-minus _ _ v.before.before.if-f-eq0.false (v.value.ensures.0 ∙ ap value_of v.before.without_sign.ensures) c.before.before.if-f-eq43.false c.if-f-eq45.true
 
-returns-4 : tie.Need-returns-4
+returns-4 : tie.Need-returns
 returns-4 c =
     let v = c.before.before.before.before in
-    read-unsigned _ _ v.before.before.if1.false (v.value.ensures.0 ∙ ap value_of v.before.without_sign.ensures) c.before.before.if2.false c.if3.false
+    read-unsigned _ _ v.before.before.if-f-eq0.false (v.value.ensures.0 ∙ ap value_of v.before.without_sign.ensures) c.before.before.if-f-eq43.false c.if-f-eq45.false
 
-pub amount-in-spec : {M : Type 1} → statement M
-amount-in-spec =
+pub amount_in_spec : {M : Type 1} → statement M
+amount_in_spec =
     tie.close
     (tie.spec
     returns

@@ -6,35 +6,35 @@ use Rattle.base_digits.proofs.ReadingLaws.{go_on, stop, done}
 use Rattle.base_digits.proofs.all_between.Statement.{statement}
 use Rattle.base_digits.proofs.all_between.Tie as tie
 
-abbrev invariant-loop : tie.invariant-loop
+abbrev invariant-loop : tie.invariant-loop-i
 invariant-loop s lo hi i₀ i = (i ≤ length s) × (all (between lo hi) (drop i s) ≡ all (between lo hi) s)
 
-abbrev decreases-loop : tie.decreases-loop
+abbrev decreases-loop : tie.decreases-loop-i
 decreases-loop s lo hi i₀ i = length s - i
 
-loop-holds : tie.Need-loop-init invariant-loop decreases-loop
+loop-holds : tie.Need-loop-i-init invariant-loop decreases-loop
 loop-holds c = (zero-le, refl)
 
-returns : tie.Need-returns invariant-loop decreases-loop
+returns : tie.Need-returns-then-s-i invariant-loop decreases-loop
 returns c =
     let l = c.before.before.before in
-    stop _ _ _ l.loop.invariant.1 c.before.before.loop-test.true (below _ _ _ c.if1.true)
+    stop _ _ _ l.loop-i.invariant.1 c.before.before.loop-i-test.true (below _ _ _ c.if-s-i.true)
 
-returns-2 : tie.Need-returns-2 invariant-loop decreases-loop
+returns-2 : tie.Need-returns-then-hi-s invariant-loop decreases-loop
 returns-2 c =
     let t = c.before.before.before.before in
-    stop _ _ _ t.before.loop.invariant.1 t.loop-test.true (above _ _ _ c.if2.true)
+    stop _ _ _ t.before.loop-i.invariant.1 t.loop-i-test.true (above _ _ _ c.if-hi-s.true)
 
-loop-again : tie.Need-loop-preserved invariant-loop decreases-loop
+loop-again : tie.Need-loop-i-preserved invariant-loop decreases-loop
 loop-again c =
     let t = c.before.before.before.before in
-    (search rules, go_on _ _ _ t.before.loop.invariant.1 t.loop-test.true (within _ _ _ c.before.before.if1.false c.if2.false))
+    (search rules, go_on _ _ _ t.before.loop-i.invariant.1 t.loop-i-test.true (within _ _ _ c.before.before.if-s-i.false c.if-hi-s.false))
 
-returns-3 : tie.Need-returns-3 invariant-loop decreases-loop
-returns-3 c = done _ _ _ c.before.loop.invariant.1 c.loop-test.false
+returns-3 : tie.Need-returns invariant-loop decreases-loop
+returns-3 c = done _ _ _ c.before.loop-i.invariant.1 c.loop-i-test.false
 
-pub all-between-spec : {M : Type 1} → statement M
-all-between-spec =
+pub all_between_spec : {M : Type 1} → statement M
+all_between_spec =
     tie.close
     (tie.spec
     invariant-loop

@@ -4,23 +4,23 @@ use Rattle.base_digits.proofs.SignLaws.{plus-is, minus_is, neither-is, sign-none
 use Rattle.base_digits.proofs.without_sign.Statement.{statement}
 use Rattle.base_digits.proofs.without_sign.Tie as tie
 
-returns : tie.Need-returns
-returns c = sign-none _ c.if1.true
+returns : tie.Need-returns-then-f-eq0
+returns c = sign-none _ c.if-f-eq0.true
 
-returns-2 : tie.Need-returns-2
-returns-2 c = sign-cut _ c.before.before.before.if1.false (plus-is _ c.before.if2.true)
+returns-2 : tie.Need-returns-then-f-eq43
+returns-2 c = sign-cut _ c.before.before.before.if-f-eq0.false (plus-is _ c.before.if-f-eq43.true)
 
-returns-3 : tie.Need-returns-3
+returns-3 : tie.Need-returns-then-f-eq45
 returns-3 c =
-    sign-cut _ c.before.before.before.before.before.if1.false (minus_is _ c.before.if3.true)
+    sign-cut _ c.before.before.before.before.before.if-f-eq0.false (minus_is _ c.before.if-f-eq45.true)
 
-returns-4 : tie.Need-returns-4
+returns-4 : tie.Need-returns
 returns-4 c =
-    sign_kept _ c.before.before.before.before.if1.false
-    (neither-is _ c.before.before.if2.false c.if3.false)
+    sign_kept _ c.before.before.before.before.if-f-eq0.false
+    (neither-is _ c.before.before.if-f-eq43.false c.if-f-eq45.false)
 
-pub without-sign-spec : {M : Type 1} → statement M
-without-sign-spec =
+pub without_sign_spec : {M : Type 1} → statement M
+without_sign_spec =
     tie.close
     (tie.spec
     returns

@@ -9,25 +9,25 @@ use Rattle.base_digits.proofs.DigitStrings.{decimal-some, decimal-longer, decima
 use Rattle.base_numerals.proofs.digit_count.Statement.{statement}
 use Rattle.base_numerals.proofs.digit_count.Tie as tie
 
-abbrev invariant-loop : tie.invariant-loop
+abbrev invariant-loop : tie.invariant-loop-m
 invariant-loop n m₀ k₀ m k = (k + length (decimal m) ≡ length (decimal n) + 1) × (length (decimal n) ≤ 20)
 
-abbrev decreases-loop : tie.decreases-loop
+abbrev decreases-loop : tie.decreases-loop-m
 decreases-loop n m₀ k₀ m k = m
 
-loop-holds : tie.Need-loop-init invariant-loop decreases-loop
+loop-holds : tie.Need-loop-m-init invariant-loop decreases-loop
 loop-holds c = omega (arith, decimal-short c.args.n (omega arith))
 
-add-k : tie.Need-overflow-add-k invariant-loop decreases-loop
-add-k c = omega (arith, decimal-some c.before.loop.m)
+add-k : tie.Need-overflow_add-k invariant-loop decreases-loop
+add-k c = omega (arith, decimal-some c.before.loop-m.m)
 
-loop-again : tie.Need-loop-preserved invariant-loop decreases-loop
-loop-again c = omega (arith, decimal-longer c.before.loop.m c.loop-test.true)
+loop-again : tie.Need-loop-m-preserved invariant-loop decreases-loop
+loop-again c = omega (arith, decimal-longer c.before.loop-m.m c.loop-m-test.true)
 
 returns : tie.Need-returns invariant-loop decreases-loop
 returns c =
-    let m = c.before.loop.m in
-    omega (arith, decimal-some m, decimal-at-most 1 m (omega arith) c.loop-test.false)
+    let m = c.before.loop-m.m in
+    omega (arith, decimal-some m, decimal-at-most 1 m (omega arith) c.loop-m-test.false)
 
-pub digit-count-spec : {M : Type 1} → statement M
-digit-count-spec = tie.close (tie.spec invariant-loop decreases-loop loop-holds add-k (λ c. search rules) loop-again returns)
+pub digit_count_spec : {M : Type 1} → statement M
+digit_count_spec = tie.close (tie.spec invariant-loop decreases-loop loop-holds add-k (λ c. search rules) loop-again returns)

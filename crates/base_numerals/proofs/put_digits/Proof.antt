@@ -7,40 +7,40 @@ use Rattle.base_numerals.proofs.PutLaws.{Writing, start, turn, last, one-digit, 
 use Rattle.base_numerals.proofs.put_digits.Statement.{statement}
 use Rattle.base_numerals.proofs.put_digits.Tie as tie
 
-abbrev invariant-loop : tie.invariant-loop
+abbrev invariant-loop : tie.invariant-loop-i
 invariant-loop out₀ n k m₀ i₀ out m i = Writing n out₀ out m i
 
-abbrev decreases-loop : tie.decreases-loop
+abbrev decreases-loop : tie.decreases-loop-i
 decreases-loop out₀ n k m₀ i₀ out m i = i
 
-returns : tie.Need-returns invariant-loop decreases-loop
+returns : tie.Need-returns-then-out-k invariant-loop decreases-loop
 returns c = put-short _ _ (omega arith)
 
-loop-holds : tie.Need-loop-init invariant-loop decreases-loop
-loop-holds c = start _ _ _ c.before.digit-count.ensures.0 c.if1.false
+loop-holds : tie.Need-loop-i-init invariant-loop decreases-loop
+loop-holds c = start _ _ _ c.before.digit_count-k.ensures.0 c.if-out-k.false
 
-loop-again : tie.Need-loop-preserved invariant-loop decreases-loop
-loop-again c = turn _ _ _ _ _ c.before.loop.invariant c.loop-test.true
+loop-again : tie.Need-loop-i-preserved invariant-loop decreases-loop
+loop-again c = turn _ _ _ _ _ c.before.loop-i.invariant c.loop-i-test.true
 
-cast-out-2 : tie.Need-overflow-cast-out-2 invariant-loop decreases-loop
-cast-out-2 c = omega (arith, one-digit c.before.loop.m (omega arith))
+cast-out-2 : tie.Need-overflow_cast-out-2 invariant-loop decreases-loop
+cast-out-2 c = omega (arith, one-digit c.before.loop-i.m (omega arith))
 
-add-out-2 : tie.Need-overflow-add-out-2 invariant-loop decreases-loop
-add-out-2 c = omega (arith, one-digit c.before.loop.m (omega arith))
+add-out-2 : tie.Need-overflow_add-out-2 invariant-loop decreases-loop
+add-out-2 c = omega (arith, one-digit c.before.loop-i.m (omega arith))
 
-slice-write-out-2 : tie.Need-slice-write-out-2 invariant-loop decreases-loop
-slice-write-out-2 c = omega (arith, decimal-some c.before.loop.m)
+slice-write-out-2 : tie.Need-bounds-out-0 invariant-loop decreases-loop
+slice-write-out-2 c = omega (arith, decimal-some c.before.loop-i.m)
 
-same_length : tie.Need-same-length invariant-loop decreases-loop
-same_length c = simp length-set c.before.loop.invariant.same
+same_length : tie.Need-shape_of-out invariant-loop decreases-loop
+same_length c = simp length-set c.before.loop-i.invariant.same
 
-returns-2 : tie.Need-returns-2 invariant-loop decreases-loop
+returns-2 : tie.Need-returns invariant-loop decreases-loop
 returns-2 c =
-    put-fits _ _ _ _ (omega arith) c.before.before.before.digit-count.ensures.0
-    (last _ _ _ _ _ c.before.loop.invariant c.loop-test.false)
+    put-fits _ _ _ _ (omega arith) c.before.before.before.digit_count-k.ensures.0
+    (last _ _ _ _ _ c.before.loop-i.invariant c.loop-i-test.false)
 
-pub put-digits-spec : {M : Type 1} → statement M
-put-digits-spec =
+pub put_digits_spec : {M : Type 1} → statement M
+put_digits_spec =
     tie.close
     (tie.spec
     invariant-loop

@@ -7,26 +7,26 @@ use borrow.Author.Rules.{rules}
 use Rattle.base_numerals.proofs.put_digits_after.Statement.{statement}
 use Rattle.base_numerals.proofs.put_digits_after.Tie as tie
 
-returns : tie.Need-returns
+returns : tie.Need-returns-then-out-k
 returns c = put-short _ _ (omega arith)
 
 sub-put-digits : tie.Need-overflow-sub-put-digits
 sub-put-digits c = simp length-set (omega arith)
 
-part-put-digits-start : tie.Need-slice-bounds-put-digits-start
+part-put-digits-start : tie.Need-slice_bounds-put_digits-start
 part-put-digits-start c = simp length-set (omega arith)
 
-add-result : tie.Need-overflow-add-result
-add-result c = omega (arith, put-at-most c.before.before.put-digits.ensures)
+add-result : tie.Need-overflow_add-result
+add-result c = omega (arith, put-at-most c.before.before.put_digits.ensures)
 
-same_length : tie.Need-same-length
-same_length c = c.before.out.given.1 ∙ simp length-set
+same_length : tie.Need-shape_of-out
+same_length c = c.before.out-1.given.1 ∙ simp length-set
 
-returns-2 : tie.Need-returns-2
-returns-2 c = put_first _ _ _ _ _ (omega arith) c.before.before.put-digits.ensures
+returns-2 : tie.Need-returns
+returns-2 c = put_first _ _ _ _ _ (omega arith) c.before.before.put_digits.ensures
 
-pub put-digits-after-spec : {M : Type 1} → statement M
-put-digits-after-spec =
+pub put_digits_after_spec : {M : Type 1} → statement M
+put_digits_after_spec =
     tie.close
     (tie.spec
     (λ c κs. search rules)

@@ -5,18 +5,18 @@ use Rattle.base_digits.proofs.TotalStrings.{total-below-zero, total-from-zero}
 use Rattle.base_numerals.proofs.put_total.Statement.{statement}
 use Rattle.base_numerals.proofs.put_total.Tie as tie
 
-returns : tie.Need-returns
+returns : tie.Need-returns-then-pluses-minuses
 returns c =
     let t = c.before.before.before.before in
-    rw (total-below-zero (sum_meant t.before.before.args.total) t.if1.true) c.before.before.put-digits-after.ensures
+    rw (total-below-zero (sum_meant t.before.before.args.total) t.if-pluses-minuses.true) c.before.before.put_digits_after.ensures
 
-returns-2 : tie.Need-returns-2
+returns-2 : tie.Need-returns
 returns-2 c =
     let t = c.before.before.before.before in
-    rw (total-from-zero (sum_meant t.before.before.args.total) t.if1.false) c.before.before.put-digits.ensures
+    rw (total-from-zero (sum_meant t.before.before.args.total) t.if-pluses-minuses.false) c.before.before.put_digits.ensures
 
-pub put-total-spec : {M : Type 1} → statement M
-put-total-spec =
+pub put_total_spec : {M : Type 1} → statement M
+put_total_spec =
     tie.close
     (tie.spec
     (λ c. search rules)

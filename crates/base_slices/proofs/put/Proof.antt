@@ -10,26 +10,26 @@ use borrow.Author.Rules.{rules}
 use Rattle.base_slices.proofs.put.Statement.{statement}
 use Rattle.base_slices.proofs.put.Tie as tie
 
-abbrev invariant-loop : tie.invariant-loop
+abbrev invariant-loop : tie.invariant-loop-i
 invariant-loop out₀ src i₀ out i = (i ≤ length src) × (length src ≤ length out₀) × (length out ≡ length out₀) × (out ≡ paste out₀ 0 src i)
 
-abbrev decreases-loop : tie.decreases-loop
+abbrev decreases-loop : tie.decreases-loop-i
 decreases-loop out₀ src i₀ out i = length src - i
 
-returns : tie.Need-returns invariant-loop decreases-loop
+returns : tie.Need-returns-then-out-src invariant-loop decreases-loop
 returns c = put-short _ _ (omega arith)
 
-loop-holds : tie.Need-loop-init invariant-loop decreases-loop
+loop-holds : tie.Need-loop-i-init invariant-loop decreases-loop
 loop-holds c = (omega arith, omega arith, refl, paste-zero c.before.args.out.now 0 c.before.args.src.now)
 
-loop-again : tie.Need-loop-preserved invariant-loop decreases-loop
+loop-again : tie.Need-loop-i-preserved invariant-loop decreases-loop
 loop-again c =
-    let l = c.before.before.loop in
+    let l = c.before.before.loop-i in
     (omega arith, omega arith, simp length-set l.invariant.2, put-turn c.before.before.before.before.args.out.now c.before.before.before.before.args.src.now l.out l.i (omega arith) (omega arith) l.invariant.3)
 
-returns-2 : tie.Need-returns-2 invariant-loop decreases-loop
+returns-2 : tie.Need-returns invariant-loop decreases-loop
 returns-2 c =
-    let l = c.before.loop in
+    let l = c.before.loop-i in
     put_all c.before.before.before.args.out.now c.before.before.before.args.src.now l.out l.i (omega arith) (omega arith) l.invariant.3
 
 pub put_spec : {M : Type 1} → statement M

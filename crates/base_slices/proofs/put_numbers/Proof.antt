@@ -10,30 +10,30 @@ use borrow.Author.Rules.{rules}
 use Rattle.base_slices.proofs.put_numbers.Statement.{statement}
 use Rattle.base_slices.proofs.put_numbers.Tie as tie
 
-abbrev invariant-loop : tie.invariant-loop
+abbrev invariant-loop : tie.invariant-loop-i
 invariant-loop out₀ numbers i₀ out i = (i ≤ length numbers) × (length numbers ≤ length out₀) × (length out ≡ length out₀) × (out ≡ paste out₀ 0 numbers i)
 
-abbrev decreases-loop : tie.decreases-loop
+abbrev decreases-loop : tie.decreases-loop-i
 decreases-loop out₀ numbers i₀ out i = length numbers - i
 
-returns : tie.Need-returns invariant-loop decreases-loop
+returns : tie.Need-returns-then-out-numbers invariant-loop decreases-loop
 returns c = put-short _ _ (omega arith)
 
-loop-holds : tie.Need-loop-init invariant-loop decreases-loop
+loop-holds : tie.Need-loop-i-init invariant-loop decreases-loop
 loop-holds c = (omega arith, omega arith, refl, paste-zero c.before.args.out.now 0 c.before.args.numbers.now)
 
-loop-again : tie.Need-loop-preserved invariant-loop decreases-loop
+loop-again : tie.Need-loop-i-preserved invariant-loop decreases-loop
 loop-again c =
-    let l = c.before.before.loop in
+    let l = c.before.before.loop-i in
     (omega arith, omega arith, simp length-set l.invariant.2, put-turn c.before.before.before.before.args.out.now c.before.before.before.before.args.numbers.now l.out l.i (omega arith) (omega arith) l.invariant.3)
 
-returns-2 : tie.Need-returns-2 invariant-loop decreases-loop
+returns-2 : tie.Need-returns invariant-loop decreases-loop
 returns-2 c =
-    let l = c.before.loop in
+    let l = c.before.loop-i in
     put_all c.before.before.before.args.out.now c.before.before.before.args.numbers.now l.out l.i (omega arith) (omega arith) l.invariant.3
 
-pub put-numbers-spec : {M : Type 1} → statement M
-put-numbers-spec =
+pub put_numbers_spec : {M : Type 1} → statement M
+put_numbers_spec =
     tie.close
     (tie.spec
     invariant-loop

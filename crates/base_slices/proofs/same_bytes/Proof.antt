@@ -9,32 +9,32 @@ use borrow.Author.Rules.{rules}
 use Rattle.base_slices.proofs.same_bytes.Statement.{statement}
 use Rattle.base_slices.proofs.same_bytes.Tie as tie
 
-abbrev invariant-loop : tie.invariant-loop
+abbrev invariant-loop : tie.invariant-loop-i
 invariant-loop a b i₀ i = (i ≤ length a) × (length a ≡ length b) × (same_bytes a b ≡ same_bytes (drop i a) (drop i b))
 
-abbrev decreases-loop : tie.decreases-loop
+abbrev decreases-loop : tie.decreases-loop-i
 decreases-loop a b i₀ i = length a - i
 
-returns : tie.Need-returns invariant-loop decreases-loop
-returns c = sym (other-lengths c.before.args.a.now c.before.args.b.now c.if1.true)
+returns : tie.Need-returns-then-a-b invariant-loop decreases-loop
+returns c = sym (other-lengths c.before.args.a.now c.before.args.b.now c.if-a-b.true)
 
-returns-2 : tie.Need-returns-2 invariant-loop decreases-loop
+returns-2 : tie.Need-returns-then-a-i invariant-loop decreases-loop
 returns-2 c =
-    let l = c.before.before.before.before.loop in
-    sym (l.invariant.2 ∙ same-no c.before.before.before.before.before.before.args.a.now c.before.before.before.before.before.before.args.b.now l.i (omega arith) (omega arith) c.if2.true)
+    let l = c.before.before.before.before.loop-i in
+    sym (l.invariant.2 ∙ same-no c.before.before.before.before.before.before.args.a.now c.before.before.before.before.before.before.args.b.now l.i (omega arith) (omega arith) c.if-a-i.true)
 
-loop-again : tie.Need-loop-preserved invariant-loop decreases-loop
+loop-again : tie.Need-loop-i-preserved invariant-loop decreases-loop
 loop-again c =
-    let l = c.before.before.before.before.loop in
-    (omega arith, omega arith, l.invariant.2 ∙ same-go c.before.before.before.before.before.before.args.a.now c.before.before.before.before.before.before.args.b.now l.i (omega arith) (omega arith) c.if2.false)
+    let l = c.before.before.before.before.loop-i in
+    (omega arith, omega arith, l.invariant.2 ∙ same-go c.before.before.before.before.before.before.args.a.now c.before.before.before.before.before.before.args.b.now l.i (omega arith) (omega arith) c.if-a-i.false)
 
-returns-3 : tie.Need-returns-3 invariant-loop decreases-loop
+returns-3 : tie.Need-returns invariant-loop decreases-loop
 returns-3 c =
-    let l = c.before.loop in
+    let l = c.before.loop-i in
     sym (l.invariant.2 ∙ same_end c.before.before.before.args.a.now c.before.before.before.args.b.now l.i (omega arith) (omega arith))
 
-pub same-bytes-spec : {M : Type 1} → statement M
-same-bytes-spec =
+pub same_bytes_spec : {M : Type 1} → statement M
+same_bytes_spec =
     tie.close
     (tie.spec
     invariant-loop

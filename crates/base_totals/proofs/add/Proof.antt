@@ -9,7 +9,7 @@ returns : tie.Need-returns
 unfolding ◌⊞◌
 returns c =
     same_numbers _ _ c.before.before.before.before.add.ensures c.before.before.before.both.ensures
-    c.before.before.both2.ensures c.before.both3.ensures c.wrapping-add-u64.ensures
+    c.before.before.both-2.ensures c.before.both-3.ensures c.wrapping_add_u64.ensures
 
 pub add_spec : {M : Type 1} → statement M
 add_spec =

@@ -4,11 +4,11 @@ use Rattle.base_totals.specs.SummaryMeaning.{summary_meant}
 use Rattle.base_totals.proofs.while_open.Statement.{statement}
 use Rattle.base_totals.proofs.while_open.Tie as tie
 
-returns : tie.Need-returns
-returns c = sym (rw c.if1.true)
+returns : tie.Need-returns-then-is_open
+returns c = sym (rw c.if-is_open.true)
 
-returns-2 : tie.Need-returns-2
-returns-2 c = ap summary_meant c.no-summary.ensures ∙ sym (rw c.before.if1.false)
+returns-2 : tie.Need-returns
+returns-2 c = ap summary_meant c.no_summary.ensures ∙ sym (rw c.before.if-is_open.false)
 
-pub while-open-spec : {M : Type 1} → statement M
-while-open-spec = tie.close (tie.spec returns (λ c κs. search rules) returns-2)
+pub while_open_spec : {M : Type 1} → statement M
+while_open_spec = tie.close (tie.spec returns (λ c κs. search rules) returns-2)

@@ -6,50 +6,50 @@ use Rattle.c_naming.proofs.CodeFigures.{class-figures}
 use Rattle.c_naming.proofs.bai2_code_of.Statement.{statement}
 use Rattle.c_naming.proofs.bai2_code_of.Tie as tie
 
-unlisted : tie.Need-returns
+unlisted : tie.Need-returns-in-Unlisted
 unfolding code_figures
 unlisted c =
     let f = c.before.before in
-    class-figures f.before.args.code c.enum_told.given.1 f.code-class.ensures
+    class-figures f.before.args.code c.enum_told-1.given.1 f.code_class.ensures
 
-status : tie.Need-returns-2
+status : tie.Need-returns-in-Status
 unfolding code_figures
 status c =
     let f = c.before.before.before in
-    c.listed.ensures ∙ class-figures f.before.args.code c.before.enum-told2.given.1 f.code-class.ensures
+    c.listed.ensures ∙ class-figures f.before.args.code c.before.enum_told-in-Status-1.given.1 f.code_class.ensures
 
-credit-summary : tie.Need-returns-3
+credit-summary : tie.Need-returns-in-CreditSummary
 unfolding code_figures
 credit-summary c =
     let f = c.before.before.before in
-    c.listed2.ensures ∙ class-figures f.before.args.code c.before.enum-told3.given.1 f.code-class.ensures
+    c.listed-in-CreditSummary.ensures ∙ class-figures f.before.args.code c.before.enum_told-in-CreditSummary-1.given.1 f.code_class.ensures
 
-credit-detail : tie.Need-returns-4
+credit-detail : tie.Need-returns-in-CreditDetail
 unfolding code_figures
 credit-detail c =
     let f = c.before.before.before in
-    c.listed3.ensures ∙ class-figures f.before.args.code c.before.enum-told4.given.1 f.code-class.ensures
+    c.listed-in-CreditDetail.ensures ∙ class-figures f.before.args.code c.before.enum_told-in-CreditDetail-1.given.1 f.code_class.ensures
 
-debit-summary : tie.Need-returns-5
+debit-summary : tie.Need-returns-in-DebitSummary
 unfolding code_figures
 debit-summary c =
     let f = c.before.before.before in
-    c.listed4.ensures ∙ class-figures f.before.args.code c.before.enum-told5.given.1 f.code-class.ensures
+    c.listed-in-DebitSummary.ensures ∙ class-figures f.before.args.code c.before.enum_told-in-DebitSummary-1.given.1 f.code_class.ensures
 
-debit-detail : tie.Need-returns-6
+debit-detail : tie.Need-returns-in-DebitDetail
 unfolding code_figures
 debit-detail c =
     let f = c.before.before.before in
-    c.listed5.ensures ∙ class-figures f.before.args.code c.before.enum-told6.given.1 f.code-class.ensures
+    c.listed-in-DebitDetail.ensures ∙ class-figures f.before.args.code c.before.enum_told-in-DebitDetail-1.given.1 f.code_class.ensures
 
-non-monetary : tie.Need-returns-7
+non-monetary : tie.Need-returns-in-NonMonetary
 unfolding code_figures
 non-monetary c =
     let f = c.before.before.before in
-    c.listed6.ensures ∙ class-figures f.before.args.code c.before.enum-told7.given.1 f.code-class.ensures
+    c.listed-in-NonMonetary.ensures ∙ class-figures f.before.args.code c.before.enum_told-in-NonMonetary-1.given.1 f.code_class.ensures
 
-pub bai2-code-of-spec : {M : Type 1} → statement M
-bai2-code-of-spec =
+pub bai2_code_of_spec : {M : Type 1} → statement M
+bai2_code_of_spec =
     tie.close
     (tie.spec
     (λ c κs. search rules)

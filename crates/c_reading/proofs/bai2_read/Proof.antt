@@ -12,23 +12,23 @@ Answered = tie.After-read
 abbrev file-of : Answered → Bytes
 file-of c = c.before.before.args.file.now
 
-total-of-requires : tie.Need-total-of-requires
+total-of-requires : tie.Need-total_of-requires
 total-of-requires c κs =
     let r : Answered = c.before.before.before.before.before.before.before.before in
-    total-fits (file-of r) r.read.result r.read.ensures _ c.before.before.before.before.before.before.s.given.1
+    total-fits (file-of r) r.read.result r.read.ensures _ c.before.before.before.before.before.before.s-1.given.1
 
-returns : tie.Need-returns
+returns : tie.Need-returns-in-Accepted
 returns c =
     let known = c.before.before.before.before.before.before.before in
     let r : Answered = known.before.before in
-    accepted-figures (file-of r) r.read.result r.read.ensures _ c.total_of.result known.s.given.1 c.total_of.ensures
+    accepted-figures (file-of r) r.read.result r.read.ensures _ c.total_of.result known.s-1.given.1 c.total_of.ensures
 
-returns-2 : tie.Need-returns-2
+returns-2 : tie.Need-returns-in-Refused
 returns-2 c =
     let r : Answered = c.before.before.before.before in
-    refused-figures (file-of r) r.read.result r.read.ensures _ c.before.before.why.given.1
+    refused-figures (file-of r) r.read.result r.read.ensures _ c.before.before.why-1.given.1
 
-pub bai2-read-spec : {M : Type 1} → statement M
-bai2-read-spec =
+pub bai2_read_spec : {M : Type 1} → statement M
+bai2_read_spec =
     tie.close
     (tie.spec (λ c κs. search rules) (λ c. search rules) total-of-requires returns (λ c. search rules) returns-2)

@@ -7,17 +7,17 @@ use Rattle.c_reading.proofs.total_of.Tie as tie
 
 sub-result-2 : tie.Need-overflow-sub-result-2
 sub-result-2 c =
-    rw (minus_is c.before.args.sum.0 c.before.args.sum.1 c.if1.true (omega arith))
-    (minus-fits c.before.args.sum.0 c.before.args.sum.1 c.if1.true (omega arith))
+    rw (minus_is c.before.args.sum.0 c.before.args.sum.1 c.if-pluses-minuses.true (omega arith))
+    (minus-fits c.before.args.sum.0 c.before.args.sum.1 c.if-pluses-minuses.true (omega arith))
 
-returns : tie.Need-returns
+returns : tie.Need-returns-then-pluses-minuses
 returns c =
-    rw (minus_is c.before.args.sum.0 c.before.args.sum.1 c.if1.true (omega arith))
+    rw (minus_is c.before.args.sum.0 c.before.args.sum.1 c.if-pluses-minuses.true (omega arith))
     (difference-kept c.before.args.sum.0 c.before.args.sum.1 c.before.requires)
 
-returns-2 : tie.Need-returns-2
-returns-2 c = plus-is c.before.args.sum.0 c.before.args.sum.1 c.if1.false (omega arith)
+returns-2 : tie.Need-returns
+returns-2 c = plus-is c.before.args.sum.0 c.before.args.sum.1 c.if-pluses-minuses.false (omega arith)
 
-pub total-of-spec : {M : Type 1} → statement M
-total-of-spec =
+pub total_of_spec : {M : Type 1} → statement M
+total_of_spec =
     tie.close (tie.spec (λ c. search rules) (λ c. search rules) sub-result-2 returns (λ c. search rules) returns-2)

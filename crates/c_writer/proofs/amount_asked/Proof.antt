@@ -10,15 +10,15 @@ use Rattle.c_writer.specs.WriterFigures.{or_none, signed_of}
 use Rattle.c_writer.proofs.amount_asked.Statement.{statement}
 use Rattle.c_writer.proofs.amount_asked.Tie as tie
 
-returns : tie.Need-returns
+returns : tie.Need-returns-then-given-eq0
 unfolding or_none
-returns c = rw c.if1.true
+returns c = rw c.if-given-eq0.true
 
-returns-2 : tie.Need-returns-2
+returns-2 : tie.Need-returns
 unfolding or_none
 returns-2 c =
-    rw (ne_eqb c.before.before.args.given 0 c.before.if1.false)
-    (ap (λ (a : Signed). some a) (c.Signed-of.ensures ∙ ap signed_of (to_z-of_z w64 c.before.before.args.n c.before.before.ranges.n)))
+    rw (ne_eqb c.before.before.args.given 0 c.before.if-given-eq0.false)
+    (ap (λ (a : Signed). some a) (c.signed_of.ensures ∙ ap signed_of (to_z-of_z w64 c.before.before.args.n c.before.before.ranges.n)))
 
-pub amount-asked-spec : {M : Type 1} → statement M
-amount-asked-spec = tie.close (tie.spec returns (λ c κs. search rules) returns-2)
+pub amount_asked_spec : {M : Type 1} → statement M
+amount_asked_spec = tie.close (tie.spec returns (λ c κs. search rules) returns-2)

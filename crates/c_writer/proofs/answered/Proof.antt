@@ -6,5 +6,5 @@ use Rattle.c_writer.proofs.answered.Tie as tie
 returns : tie.Need-returns
 returns c = rw c.numbers_after.ensures
 
-pub answered-spec : {M : Type 1} → statement M
-answered-spec = tie.close (tie.spec (λ c κs. search rules) returns)
+pub answered_spec : {M : Type 1} → statement M
+answered_spec = tie.close (tie.spec (λ c κs. search rules) returns)

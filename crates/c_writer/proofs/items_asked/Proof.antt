@@ -4,13 +4,13 @@ use Rattle.c_writer.specs.WriterFigures.{or_none}
 use Rattle.c_writer.proofs.items_asked.Statement.{statement}
 use Rattle.c_writer.proofs.items_asked.Tie as tie
 
-returns : tie.Need-returns
+returns : tie.Need-returns-then-given-eq0
 unfolding or_none
-returns c = rw c.if1.true
+returns c = rw c.if-given-eq0.true
 
-returns-2 : tie.Need-returns-2
+returns-2 : tie.Need-returns
 unfolding or_none
-returns-2 c = rw (ne_eqb c.before.args.given 0 c.if1.false)
+returns-2 c = rw (ne_eqb c.before.args.given 0 c.if-given-eq0.false)
 
-pub items-asked-spec : {M : Type 1} → statement M
-items-asked-spec = tie.close (tie.spec returns returns-2)
+pub items_asked_spec : {M : Type 1} → statement M
+items_asked_spec = tie.close (tie.spec returns returns-2)

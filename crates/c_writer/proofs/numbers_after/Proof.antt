@@ -5,13 +5,13 @@ use Rattle.c_writer.specs.WriterFigures.{numbers_after}
 use Rattle.c_writer.proofs.numbers_after.Statement.{statement}
 use Rattle.c_writer.proofs.numbers_after.Tie as tie
 
-returns : tie.Need-returns
+returns : tie.Need-returns-then-why-ne0
 unfolding numbers_after
-returns c = rw (ne_eqb c.before.before.before.args.r.refusal.number 0 c.if1.true)
+returns c = rw (ne_eqb c.before.before.before.args.r.refusal.number 0 c.if-why-ne0.true)
 
-returns-2 : tie.Need-returns-2
+returns-2 : tie.Need-returns
 unfolding numbers_after
-returns-2 c = rw (c.before.if1.false, c.Numbers-of.ensures)
+returns-2 c = rw (c.before.if-why-ne0.false, c.numbers_of.ensures)
 
-pub numbers-after-spec : {M : Type 1} → statement M
-numbers-after-spec = tie.close (tie.spec returns (λ c κs. search rules) returns-2)
+pub numbers_after_spec : {M : Type 1} → statement M
+numbers_after_spec = tie.close (tie.spec returns (λ c κs. search rules) returns-2)

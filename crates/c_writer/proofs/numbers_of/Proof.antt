@@ -8,9 +8,9 @@ returns c =
     let group = c.before in
     let file = group.before in
     let items = file.before in
-    rw (items.before.phase-number.ensures, items.flag-of.ensures, file.figures-of.ensures, group.figures-of2.ensures, c.figures-of3.ensures)
+    rw (items.before.phase_number.ensures, items.flag_of.ensures, file.figures_of.ensures, group.figures_of-2.ensures, c.figures_of-3.ensures)
 
-pub numbers-of-spec : {M : Type 1} → statement M
-numbers-of-spec =
+pub numbers_of_spec : {M : Type 1} → statement M
+numbers_of_spec =
     tie.close
     (tie.spec (λ c κs. search rules) (λ c κs. search rules) (λ c κs. search rules) (λ c κs. search rules) (λ c κs. search rules) returns)

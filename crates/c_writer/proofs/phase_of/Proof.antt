@@ -4,32 +4,32 @@ use Rattle.c_writer.specs.WriterFigures.{phase_of}
 use Rattle.c_writer.proofs.phase_of.Statement.{statement}
 use Rattle.c_writer.proofs.phase_of.Tie as tie
 
-returns : tie.Need-returns
+returns : tie.Need-returns-in-0
 unfolding phase_of
-returns c = rw c.match.keys1
+returns c = rw c.in-0.keys1
 
-returns-2 : tie.Need-returns-2
+returns-2 : tie.Need-returns-in-1
 unfolding phase_of
-returns-2 c = rw c.match.keys2
+returns-2 c = rw c.in-0.keys2
 
-returns-3 : tie.Need-returns-3
+returns-3 : tie.Need-returns-in-2
 unfolding phase_of
-returns-3 c = rw c.match.keys3
+returns-3 c = rw c.in-0.keys3
 
-returns-4 : tie.Need-returns-4
+returns-4 : tie.Need-returns-in-3
 unfolding phase_of
-returns-4 c = rw c.match.keys4
+returns-4 c = rw c.in-0.keys4
 
-returns-5 : tie.Need-returns-5
+returns-5 : tie.Need-returns-in-4
 unfolding phase_of
-returns-5 c = rw c.match.keys5
+returns-5 c = rw c.in-0.keys5
 
-returns-6 : tie.Need-returns-6
+returns-6 : tie.Need-returns-in_default
 unfolding phase_of
 returns-6 c =
     let n = c.before.args.n in
-    let none = c.match.rest in
+    let none = c.in-0.rest in
     rw (ne_eqb n 0 none.0.0.0.0.1, ne_eqb n 1 none.0.0.0.1, ne_eqb n 2 none.0.0.1, ne_eqb n 3 none.0.1, ne_eqb n 4 none.1)
 
-pub phase-of-spec : {M : Type 1} → statement M
-phase-of-spec = tie.close (tie.spec returns returns-2 returns-3 returns-4 returns-5 returns-6)
+pub phase_of_spec : {M : Type 1} → statement M
+phase_of_spec = tie.close (tie.spec returns returns-2 returns-3 returns-4 returns-5 returns-6)

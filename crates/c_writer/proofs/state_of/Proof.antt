@@ -10,9 +10,9 @@ returns c =
     let group = c.before in
     let file = group.before in
     let size = file.before in
-    rw (size.before.before.phase-of.ensures, size.size_of.ensures, file.summary-of.ensures, group.summary-of2.ensures, c.summary-of3.ensures)
+    rw (size.before.before.phase_of.ensures, size.size_of.ensures, file.summary_of.ensures, group.summary_of-2.ensures, c.summary_of-3.ensures)
 
-pub state-of-spec : {M : Type 1} → statement M
-state-of-spec =
+pub state_of_spec : {M : Type 1} → statement M
+state_of_spec =
     tie.close
     (tie.spec (λ c κs. search rules) (λ c κs. search rules) (λ c κs. search rules) (λ c κs. search rules) (λ c κs. search rules) returns)

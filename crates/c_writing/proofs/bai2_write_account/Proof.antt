@@ -15,17 +15,17 @@ use Rattle.c_writing.proofs.bai2_write_account.Tie as tie
 returns : tie.Need-returns
 returns c =
     let s = c.before.before.before.before.before.before.before.before.before.before.before.before in
-    let w = c.before.before.before.before.before.before.before.state-of in
-    let r = c.before.before.before.account in
-    let n = c.before.before.before.before.before.items-asked in
-    let a = c.before.before.before.before.before.before.amount-asked in
-    replies s.args.writer w.result r.result c.answered.result (rules.write_account s.args.account.now s.args.currency.now (item_asked s.args.item-given (item_of s.args.type-code.now s.args.amount-given s.args.amount s.args.count-given s.args.count))) s.args.out.now r.new.1.1.1.1.1.1.1.0 w.ensures
-    (written_as (writer_meant w.result) s.args.out.now (rules.write_account s.args.account.now s.args.currency.now (item_given (not (eqb s.args.item-given 0)) s.args.type-code.now a.result n.result))
-    (rules.write_account s.args.account.now s.args.currency.now (item_asked s.args.item-given (item_of s.args.type-code.now s.args.amount-given s.args.amount s.args.count-given s.args.count))) (written_meant r.result r.new.1.1.1.1.1.1.1.0) r.ensures
-    (ap (λ (i : Option rules.Item). rules.write_account s.args.account.now s.args.currency.now i) (item-or-none s.args.type-code.now s.args.amount-given s.args.count-given s.args.count s.args.amount a.result n.result (amount-is s.args.amount-given s.args.amount a.result s.ranges.amount a.ensures) n.ensures s.args.item-given)))
+    let w = c.before.before.before.before.before.before.before.state_of-w in
+    let r = c.before.before.before.account-r in
+    let n = c.before.before.before.before.before.items_asked-n in
+    let a = c.before.before.before.before.before.before.amount_asked-a in
+    replies s.args.writer w.result r.result c.answered.result (rules.write_account s.args.account.now s.args.currency.now (item_asked s.args.item_given (item_of s.args.type_code.now s.args.amount_given s.args.amount s.args.count_given s.args.count))) s.args.out.now r.new.1.1.1.1.1.1.1.0 w.ensures
+    (written_as (writer_meant w.result) s.args.out.now (rules.write_account s.args.account.now s.args.currency.now (item_given (not (eqb s.args.item_given 0)) s.args.type_code.now a.result n.result))
+    (rules.write_account s.args.account.now s.args.currency.now (item_asked s.args.item_given (item_of s.args.type_code.now s.args.amount_given s.args.amount s.args.count_given s.args.count))) (written_meant r.result r.new.1.1.1.1.1.1.1.0) r.ensures
+    (ap (λ (i : Option rules.Item). rules.write_account s.args.account.now s.args.currency.now i) (item-or-none s.args.type_code.now s.args.amount_given s.args.count_given s.args.count s.args.amount a.result n.result (amount-is s.args.amount_given s.args.amount a.result s.ranges.amount a.ensures) n.ensures s.args.item_given)))
     c.answered.ensures
 
-pub bai2-write-account-spec : {M : Type 1} → statement M
-bai2-write-account-spec =
+pub bai2_write_account_spec : {M : Type 1} → statement M
+bai2_write_account_spec =
     tie.close
     (tie.spec (λ c κs. search rules) (λ c κs. search rules) (λ c κs. search rules) (λ c κs. search rules) (λ c κs. search rules) (λ c. search rules) returns)

@@ -14,16 +14,16 @@ use Rattle.c_writing.proofs.bai2_write_detail.Tie as tie
 returns : tie.Need-returns
 returns c =
     let s = c.before.before.before.before.before.before.before.before.before.before.before.before in
-    let w = c.before.before.before.before.before.before.state-of in
-    let r = c.before.before.before.detail in
-    let a = c.before.before.before.before.before.amount-asked in
-    replies s.args.writer w.result r.result c.answered.result (rules.write_detail s.args.type-code.now (amount_asked s.args.amount-given s.args.amount) s.args.bank-reference.now s.args.customer-reference.now s.args.text.now) s.args.out.now r.new.1.1.1.1.1.1.0 w.ensures
-    (written_as (writer_meant w.result) s.args.out.now (rules.write_detail s.args.type-code.now (amount_given a.result) s.args.bank-reference.now s.args.customer-reference.now s.args.text.now)
-    (rules.write_detail s.args.type-code.now (amount_asked s.args.amount-given s.args.amount) s.args.bank-reference.now s.args.customer-reference.now s.args.text.now) (written_meant r.result r.new.1.1.1.1.1.1.0) r.ensures
-    (ap (λ (x : Option Signed). rules.write_detail s.args.type-code.now x s.args.bank-reference.now s.args.customer-reference.now s.args.text.now) (amount-is s.args.amount-given s.args.amount a.result s.ranges.amount a.ensures)))
+    let w = c.before.before.before.before.before.before.state_of-w in
+    let r = c.before.before.before.detail-r in
+    let a = c.before.before.before.before.before.amount_asked-a in
+    replies s.args.writer w.result r.result c.answered.result (rules.write_detail s.args.type_code.now (amount_asked s.args.amount_given s.args.amount) s.args.bank_reference.now s.args.customer_reference.now s.args.text.now) s.args.out.now r.new.1.1.1.1.1.1.0 w.ensures
+    (written_as (writer_meant w.result) s.args.out.now (rules.write_detail s.args.type_code.now (amount_given a.result) s.args.bank_reference.now s.args.customer_reference.now s.args.text.now)
+    (rules.write_detail s.args.type_code.now (amount_asked s.args.amount_given s.args.amount) s.args.bank_reference.now s.args.customer_reference.now s.args.text.now) (written_meant r.result r.new.1.1.1.1.1.1.0) r.ensures
+    (ap (λ (x : Option Signed). rules.write_detail s.args.type_code.now x s.args.bank_reference.now s.args.customer_reference.now s.args.text.now) (amount-is s.args.amount_given s.args.amount a.result s.ranges.amount a.ensures)))
     c.answered.ensures
 
-pub bai2-write-detail-spec : {M : Type 1} → statement M
-bai2-write-detail-spec =
+pub bai2_write_detail_spec : {M : Type 1} → statement M
+bai2_write_detail_spec =
     tie.close
     (tie.spec (λ c κs. search rules) (λ c κs. search rules) (λ c κs. search rules) (λ c κs. search rules) (λ c. search rules) returns)

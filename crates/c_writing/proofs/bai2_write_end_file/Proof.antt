@@ -8,11 +8,11 @@ use Rattle.c_writing.proofs.bai2_write_end_file.Tie as tie
 returns : tie.Need-returns
 returns c =
     let s = c.before.before.before.before.before.before.before in
-    let w = c.before.before.before.before.before.state-of in
-    let r = c.before.before.before.end-file in
-    replies s.args.writer w.result r.result c.answered.result rules.end_file s.args.out.now r.new.1.0 w.ensures r.ensures c.answered.ensures
+    let w = c.before.before.before.before.before.state_of-w in
+    let r = c.before.before.before.end_file-r in
+    replies s.args.writer w.result r.result c.answered.result rules.end_file-r s.args.out.now r.new.1.0 w.ensures r.ensures c.answered.ensures
 
-pub bai2-write-end-file-spec : {M : Type 1} → statement M
-bai2-write-end-file-spec =
+pub bai2_write_end_file_spec : {M : Type 1} → statement M
+bai2_write_end_file_spec =
     tie.close
     (tie.spec (λ c κs. search rules) (λ c κs. search rules) (λ c κs. search rules) (λ c. search rules) returns)

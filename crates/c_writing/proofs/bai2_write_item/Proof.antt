@@ -12,17 +12,17 @@ use Rattle.c_writing.proofs.bai2_write_item.Tie as tie
 returns : tie.Need-returns
 returns c =
     let s = c.before.before.before.before.before.before.before.before.before.before in
-    let w = c.before.before.before.before.before.before.before.state-of in
-    let r = c.before.before.before.item in
-    let n = c.before.before.before.before.before.items-asked in
-    let a = c.before.before.before.before.before.before.amount-asked in
-    replies s.args.writer w.result r.result c.answered.result (rules.write_item (item_of s.args.type-code.now s.args.amount-given s.args.amount s.args.count-given s.args.count)) s.args.out.now r.new.1.1.1.1.0 w.ensures
-    (written_as (writer_meant w.result) s.args.out.now (rules.write_item (item_meant s.args.type-code.now a.result n.result))
-    (rules.write_item (item_of s.args.type-code.now s.args.amount-given s.args.amount s.args.count-given s.args.count)) (written_meant r.result r.new.1.1.1.1.0) r.ensures
-    (ap (λ (i : rules.Item). rules.write_item i) (item-is s.args.type-code.now s.args.amount-given s.args.count-given s.args.count s.args.amount a.result n.result (amount-is s.args.amount-given s.args.amount a.result s.ranges.amount a.ensures) n.ensures)))
+    let w = c.before.before.before.before.before.before.before.state_of-w in
+    let r = c.before.before.before.item-r in
+    let n = c.before.before.before.before.before.items_asked-n in
+    let a = c.before.before.before.before.before.before.amount_asked-a in
+    replies s.args.writer w.result r.result c.answered.result (rules.write_item (item_of s.args.type_code.now s.args.amount_given s.args.amount s.args.count_given s.args.count)) s.args.out.now r.new.1.1.1.1.0 w.ensures
+    (written_as (writer_meant w.result) s.args.out.now (rules.write_item (item_meant s.args.type_code.now a.result n.result))
+    (rules.write_item (item_of s.args.type_code.now s.args.amount_given s.args.amount s.args.count_given s.args.count)) (written_meant r.result r.new.1.1.1.1.0) r.ensures
+    (ap (λ (i : rules.item-r). rules.write_item i) (item-is s.args.type_code.now s.args.amount_given s.args.count_given s.args.count s.args.amount a.result n.result (amount-is s.args.amount_given s.args.amount a.result s.ranges.amount a.ensures) n.ensures)))
     c.answered.ensures
 
-pub bai2-write-item-spec : {M : Type 1} → statement M
-bai2-write-item-spec =
+pub bai2_write_item_spec : {M : Type 1} → statement M
+bai2_write_item_spec =
     tie.close
     (tie.spec (λ c κs. search rules) (λ c κs. search rules) (λ c κs. search rules) (λ c κs. search rules) (λ c κs. search rules) (λ c. search rules) returns)

@@ -9,10 +9,10 @@ returns : tie.Need-returns
 returns c =
     let found = c.before.before.before in
     let a = found.before.before.args in
-    lent_is (kind_meant a.sought) a.rec.now _ _ _ found.seek.ensures.answer
+    lent_is (kind_meant a.sought) a.rec.now _ _ _ found.seek-spot.ensures.answer
 
-pub field-spec : {M : Type 1} → statement M
-field-spec =
+pub field_spec : {M : Type 1} → statement M
+field_spec =
     tie.close
     (tie.spec
     (λ c κs. search rules)

@@ -20,7 +20,7 @@ use Rattle.find_field.proofs.seek.Tie as tie
 -- ---- where the walk ended
 
 abbrev Walked : Type 0
-Walked = tie.After-walk-to
+Walked = tie.After-walk_to
 
 abbrev entry : Walked → tie.Start
 entry c = c.before.before.before.before
@@ -29,13 +29,13 @@ abbrev rec-of : Walked → Bytes
 rec-of c = (entry c).args.rec.now
 
 -- what is found there
-found : (c : Walked) (r : Reached) → c.walk-to.result ≡ r
+found : (c : Walked) (r : Reached) → c.walk_to.result ≡ r
     → found_at (reached_meant (rec-of c) r) ≡ seek_lines (kind_meant (entry c).args.sought) (fields_of (code_meant (entry c).args.code)) (lines_of (rec-of c))
 found c r e =
     let code = code_meant (entry c).args.code in
     ap (λ (x : Reached). found_at (reached_meant (rec-of c) x)) (sym e)
-    ∙ ap found_at c.walk-to.ensures.answer
-    ∙ ap (λ (k : ℕ). found_at (walk_end k 0 (trace_of_record (rec-of c) (length (rec-of c)) code))) c.before.before.kind-sought.ensures
+    ∙ ap found_at c.walk_to.ensures.answer
+    ∙ ap (λ (k : ℕ). found_at (walk_end k 0 (trace_of_record (rec-of c) (length (rec-of c)) code))) c.before.before.kind_sought-kind.ensures
     ∙ walk-found (kind_meant (entry c).args.sought) code (rec-of c)
 
 -- nothing is
@@ -45,20 +45,20 @@ none : (c : Walked) (r : Spot) → r ≡ record { start = record { 0 = 0 }; leng
 none c r is e =
     subst (Spots (rec-of c) (code_meant (entry c).args.code) (entry c).args.sought) (sym is) (record { answer = e; within = omega arith })
 
-returns : tie.Need-returns
-returns c = let w = c.before.before.before.before in none w _ c.nowhere.ensures (found w _ c.before.enum_told.given.1)
+returns : tie.Need-returns-in-Refused
+returns c = let w = c.before.before.before.before in none w _ c.nowhere.ensures (found w _ c.before.enum_told-1.given.1)
 
-returns-2 : tie.Need-returns-2
-returns-2 c = let w = c.before.before.before.before in none w _ c.nowhere2.ensures (found w _ c.before.enum-told2.given.1)
+returns-2 : tie.Need-returns-in-Over
+returns-2 c = let w = c.before.before.before.before in none w _ c.nowhere-in-Over.ensures (found w _ c.before.enum_told-in-Over-1.given.1)
 
-returns-3 : tie.Need-returns-3
+returns-3 : tie.Need-returns-in-Field
 returns-3 c =
     let w = c.before.before.before.before in
-    let e = c.before.start.given.1 in
-    record { answer = found w _ e; within = subst (StandsIn (rec-of w)) e w.walk-to.ensures.inside }
+    let e = c.before.start-1.given.1 in
+    record { answer = found w _ e; within = subst (StandsIn (rec-of w)) e w.walk_to.ensures.inside }
 
-pub seek-spec : {M : Type 1} → statement M
-seek-spec =
+pub seek_spec : {M : Type 1} → statement M
+seek_spec =
     tie.close
     (tie.spec
     (λ c κs. search rules)

@@ -8,5 +8,5 @@ use Rattle.find_field.proofs.type_of.Tie as tie
 returns : tie.Need-returns
 returns c = c.value.ensures.0 ∙ type-in c.before.before.before.args.rec.now _ c.before.field.ensures
 
-pub type-of-spec : {M : Type 1} → statement M
-type-of-spec = tie.close (tie.spec (λ c κs. search rules) (λ c κs. search rules) returns)
+pub type_of_spec : {M : Type 1} → statement M
+type_of_spec = tie.close (tie.spec (λ c κs. search rules) (λ c κs. search rules) returns)

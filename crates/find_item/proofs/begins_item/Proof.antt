@@ -4,14 +4,14 @@ use borrow.Author.Rules.{rules}
 use Rattle.find_item.proofs.begins_item.Statement.{statement}
 use Rattle.find_item.proofs.begins_item.Tie as tie
 
-returns : tie.Need-returns
-returns c = no_size c.before.args.kind _ c.if1.true
+returns : tie.Need-returns-then-size-eq0
+returns c = no_size c.before.args.kind _ c.if-size-eq0.true
 
-returns-2 : tie.Need-returns-2
-returns-2 c = first_kind c.before.before.args.kind c.before.before.args.size c.before.if1.false c.if2.true
+returns-2 : tie.Need-returns-then-kind-eq-FIRST_TYPE
+returns-2 c = first_kind c.before.before.args.kind c.before.before.args.size c.before.if-size-eq0.false c.if-kind-eq-FIRST_TYPE.true
 
-returns-3 : tie.Need-returns-3
-returns-3 c = other-kind c.before.before.args.kind c.before.before.args.size c.before.if1.false c.if2.false
+returns-3 : tie.Need-returns
+returns-3 c = other-kind c.before.before.args.kind c.before.before.args.size c.before.if-size-eq0.false c.if-kind-eq-FIRST_TYPE.false
 
-pub begins-item-spec : {M : Type 1} → statement M
-begins-item-spec = tie.close (tie.spec returns returns-2 returns-3)
+pub begins_item_spec : {M : Type 1} → statement M
+begins_item_spec = tie.close (tie.spec returns returns-2 returns-3)

@@ -10,9 +10,9 @@ use Rattle.find_item.proofs.bytes_of.Tie as tie
 returns : tie.Need-returns
 returns c =
     let a = c.before.before.before.args in
-    let start = a.field.start.0 in
+    let start = a.field.start-1.0 in
     let size : start + a.field.size - start ≡ a.field.size = omega arith in
     ap (λ (n : ℕ). take n (drop start a.rec.now)) size
 
-pub bytes-of-spec : {M : Type 1} → statement M
-bytes-of-spec = tie.close (tie.spec (λ c. search rules) (λ c. search rules) (λ c. search rules) (λ c. search rules) returns)
+pub bytes_of_spec : {M : Type 1} → statement M
+bytes_of_spec = tie.close (tie.spec (λ c. search rules) (λ c. search rules) (λ c. search rules) (λ c. search rules) returns)

@@ -7,30 +7,30 @@ use Rattle.find_item.proofs.take_next.Tie as tie
 
 -- at an answer of the walk
 abbrev Asked : Type 0
-Asked = tie.After-next-field
+Asked = tie.After-next_field
 
 abbrev entry : Asked → tie.Start
 entry c = c.before.before
 
-returns : tie.Need-returns
+returns : tie.Need-returns-in-Refused
 returns c =
     let a = c.before.before in
-    none-taken _ _ (entry a).requires (refused-ahead _ _ _ a.next_field.ensures _ c.enum_told.given.1)
+    none-taken _ _ (entry a).requires (refused-ahead _ _ _ a.next_field.ensures _ c.enum_told-1.given.1)
 
-returns-2 : tie.Need-returns-2
+returns-2 : tie.Need-returns-in-Over
 returns-2 c =
     let a = c.before.before in
-    none-taken _ _ (entry a).requires (over-ahead _ _ _ a.next_field.ensures c.enum-told2.given.1)
+    none-taken _ _ (entry a).requires (over-ahead _ _ _ a.next_field.ensures c.enum_told-in-Over-1.given.1)
 
-returns-3 : tie.Need-returns-3
+returns-3 : tie.Need-returns-in-Field
 returns-3 c =
     let a = c.before.before.before in
-    let e = c.before.start.given.1 in
+    let e = c.before.start-1.given.1 in
     let o = onward _ _ _ a.next_field.ensures _ _ _ e (entry a).requires in
     some-taken _ _ (entry a).requires _ _ _ _ refl (field-ahead _ _ _ a.next_field.ensures _ _ _ e) o.0 o.1
 
-pub take-next-spec : {M : Type 1} → statement M
-take-next-spec =
+pub take_next_spec : {M : Type 1} → statement M
+take_next_spec =
     tie.close
     (tie.spec
     (λ c κs. search rules)

@@ -8,23 +8,23 @@ use borrow.Author.Rules.{rules}
 use Rattle.find_lines.proofs.block_ends.Statement.{statement}
 use Rattle.find_lines.proofs.block_ends.Tie as tie
 
-abbrev invariant-loop : tie.invariant-loop
+abbrev invariant-loop : tie.invariant-loop-i
 invariant-loop s at lowest₀ i₀ lowest i = (i ≤ 128) × (10 < lowest → NoEnd s at i)
 
-abbrev decreases-loop : tie.decreases-loop
+abbrev decreases-loop : tie.decreases-loop-i
 decreases-loop s at lowest₀ i₀ lowest i = 128 - i
 
-loop-holds : tie.Need-loop-init invariant-loop decreases-loop
+loop-holds : tie.Need-loop-i-init invariant-loop decreases-loop
 loop-holds c = (omega arith, λ e k h. absurd (omega arith))
 
-loop-again : tie.Need-loop-preserved invariant-loop decreases-loop
-loop-again c = (search rules, λ e. below_more _ _ (c.before.before.before.loop.invariant.1 (omega (arith, c.smaller.ensures))) (omega (arith, c.smaller.ensures)))
+loop-again : tie.Need-loop-i-preserved invariant-loop decreases-loop
+loop-again c = (search rules, λ e. below_more _ _ (c.before.before.before.loop-i.invariant.1 (omega (arith, c.smaller-lowest.ensures))) (omega (arith, c.smaller-lowest.ensures)))
 
 returns : tie.Need-returns invariant-loop decreases-loop
-returns c = λ e k h. c.before.loop.invariant.1 (leb-false c.before.loop.lowest 10 e) k (omega arith)
+returns c = λ e k h. c.before.loop-i.invariant.1 (leb-false c.before.loop-i.lowest 10 e) k (omega arith)
 
-pub block-ends-spec : {M : Type 1} → statement M
-block-ends-spec =
+pub block_ends_spec : {M : Type 1} → statement M
+block_ends_spec =
     tie.close
     (tie.spec
     invariant-loop

@@ -8,18 +8,18 @@ use Rattle.find_lines.proofs.meets.Tie as tie
 returns : tie.Need-returns
 returns c = λ e.
     let a = c.before.before.before.before.before.before.args in
-    let kept = c.larger2.ensures in
+    let kept = c.larger-2.ensures in
     let both = c.before in
     let either = both.before in
     let third = either.before in
     let second = third.before in
     let first = second.before in (
       omega (arith, kept.0),
-      tests-fail a.x a.y a.a a.b _ _ _ _ _ first.same.ensures second.same2.ensures third.same3.ensures either.larger.ensures both.smaller.ensures (omega (arith, kept.1)),
+      tests-fail a.x a.y a.a a.b _ _ _ _ _ first.same.ensures second.same-2.ensures third.same-3.ensures either.larger.ensures both.smaller.ensures (omega (arith, kept.1)),
     )
 
-pub meets-spec : {M : Type 1} → statement M
-meets-spec =
+pub meets_spec : {M : Type 1} → statement M
+meets_spec =
     tie.close
     (tie.spec
     (λ c κs. search rules)

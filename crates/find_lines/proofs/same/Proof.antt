@@ -4,11 +4,11 @@ use borrow.Author.Tests.{eq-eqb, ne_eqb}
 use Rattle.find_lines.proofs.same.Statement.{statement}
 use Rattle.find_lines.proofs.same.Tie as tie
 
-returns : tie.Need-returns
-returns c = sym (rw (eq-eqb _ _ c.if1.true))
+returns : tie.Need-returns-then-a-b
+returns c = sym (rw (eq-eqb _ _ c.if-a-b.true))
 
-returns-2 : tie.Need-returns-2
-returns-2 c = sym (rw (ne_eqb _ _ c.if1.false))
+returns-2 : tie.Need-returns
+returns-2 c = sym (rw (ne_eqb _ _ c.if-a-b.false))
 
 pub same_spec : {M : Type 1} → statement M
 same_spec = tie.close (tie.spec returns returns-2)

@@ -11,7 +11,7 @@ use Rattle.find_next.proofs.before_record.Tie as tie
 returns : tie.Need-returns
 returns c =
     let first = c.before.args.first in
-    let is = c.before-line.ensures in (
+    let is = c.before_line.ensures in (
       ap (λ (d : Cursor). d.want) is,
       λ rec least. (
         ap (λ (d : Cursor). trace_of rec least d) is ∙ trace-over rec least first (record { 0 = 0 }) (record { 0 = 0 }),
@@ -19,5 +19,5 @@ returns c =
       ),
     )
 
-pub before-record-spec : {M : Type 1} → statement M
-before-record-spec = tie.close (tie.spec (λ c κs. search rules) returns)
+pub before_record_spec : {M : Type 1} → statement M
+before_record_spec = tie.close (tie.spec (λ c κs. search rules) returns)

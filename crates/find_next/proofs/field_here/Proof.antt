@@ -23,7 +23,7 @@ use Rattle.find_next.proofs.field_here.Tie as tie
 -- ---- what is left of the line
 
 abbrev Part : Type 0
-Part = tie.After-part
+Part = tie.After-part-left
 
 abbrev entry : Part → tie.Start
 entry c = c.before.before.before.before.before.before
@@ -35,10 +35,10 @@ abbrev walk_of : Part → Cursor
 walk_of c = (entry c).args.walk
 
 abbrev left : Part → Bytes
-left c = c.part.result.now
+left c = c.part-left.result.now
 
-abbrev left_is : (c : Part) → left c ≡ slice (walk_of c).at.0 (walk_of c).end.0 (rec-of c)
-left_is c = c.part.ensures
+abbrev left_is : (c : Part) → left c ≡ slice (walk_of c).at.0 (walk_of c).end-1.0 (rec-of c)
+left_is c = c.part-left.ensures
 
 abbrev wanted : Part → List Kind
 wanted c = wanted_of (walk_of c).want
@@ -50,25 +50,25 @@ within c = (size-left (rec-of c) 0 (walk_of c) (left c) (left_is c)).1
 -- ---- how far the field goes
 
 abbrev Cutting : Type 0
-Cutting = tie.After-field-extent
+Cutting = tie.After-field_extent
 
 abbrev cut-part : Cutting → Part
 cut-part c = c.before.before
 
-extent-is : (c : Cutting) → c.field-extent.result ≡ extent_of (is_text (next_kind (wanted (cut-part c)))) (left (cut-part c))
-extent-is c = c.field-extent.ensures ∙ ap (λ (t : Bool). extent_of t (left (cut-part c))) c.before.is-text.ensures
+extent-is : (c : Cutting) → c.field_extent.result ≡ extent_of (is_text (next_kind (wanted (cut-part c)))) (left (cut-part c))
+extent-is c = c.field_extent.ensures ∙ ap (λ (t : Bool). extent_of t (left (cut-part c))) c.before.is_text-text.ensures
 
 abbrev Field : Type 0
-Field = tie.After-known-told
+Field = tie.In-Field
 
 abbrev part_of : Field → Part
 part_of c = cut-part c.before.before.before
 
 abbrev size : Field → ℕ
-size c = c.before.n.given.0.0
+size c = c.before.n-1.given.0.0
 
 size_is : (c : Field) → extent.Field (size c) ≡ extent_of (is_text (next_kind (wanted (part_of c)))) (left (part_of c))
-size_is c = sym c.before.n.given.1 ∙ extent-is c.before.before.before
+size_is c = sym c.before.n-1.given.1 ∙ extent-is c.before.before.before
 
 inside : (c : Field) → size c ≤ length (left (part_of c))
 inside c = let p = part_of c in in_left (rec-of p) 0 (walk_of p) (left p) (left_is p) (size c) (size_is c)
@@ -76,19 +76,19 @@ inside c = let p = part_of c in in_left (rec-of p) 0 (walk_of p) (left p) (left_
 -- ---- the field is judged
 
 abbrev Judged : Type 0
-Judged = tie.After-take-yielded
+Judged = tie.After-take_yielded
 
 abbrev field : Judged → Field
 field c = c.before.before
 
-judged-is : (c : Judged) → judged_of c.take-yielded.result ≡ take_next (wanted (part_of (field c))) (take (size (field c)) (left (part_of (field c))))
+judged-is : (c : Judged) → judged_of c.take_yielded.result ≡ take_next (wanted (part_of (field c))) (take (size (field c)) (left (part_of (field c))))
 judged-is c =
     let g = field c in
     let lent : size g - 0 ≡ size g = omega arith in
-    c.take-yielded.ensures ∙ ap (λ (n : ℕ). take_next (wanted (part_of g)) (take n (left (part_of g)))) lent
+    c.take_yielded.ensures ∙ ap (λ (n : ℕ). take_next (wanted (part_of g)) (take n (left (part_of g)))) lent
 
 abbrev Good : Type 0
-Good = tie.After-known-told3
+Good = tie.In-Next
 
 abbrev good-field : Good → Field
 good-field c = field c.before.before.before
@@ -97,19 +97,19 @@ abbrev good-part : Good → Part
 good-part c = part_of (good-field c)
 
 abbrev then : Good → Want
-then c = c.before.after.given.0.0
+then c = c.before.after-1.given.0.0
 
 took : (c : Good) → take_next (wanted (good-part c)) (take (size (good-field c)) (left (good-part c))) ≡ good (wanted_of (then c))
 unfolding judged_of
-took c = sym (judged-is c.before.before.before) ∙ ap judged_of c.before.after.given.1
+took c = sym (judged-is c.before.before.before) ∙ ap judged_of c.before.after-1.given.1
 
 -- ---- it is no text
 
 abbrev Plain : Type 0
-Plain = tie.Else1
+Plain = tie.Else-text
 
 no_text : (c : Plain) → is_text (next_kind (wanted (good-part c.before))) ≡ false
-no_text c = sym (good-field c.before).before.before.before.before.is-text.ensures ∙ c.if1.false
+no_text c = sym (good-field c.before).before.before.before.before.is_text-text.ensures ∙ c.if-text.false
 
 shorter : (c : Plain) → size (good-field c.before) < length (left (good-part c.before))
 shorter c =
@@ -119,13 +119,13 @@ shorter c =
 -- ---- after a slash
 
 abbrev Slashed : Type 0
-Slashed = tie.After-blanks-len
+Slashed = tie.After-blanks_len
 
 abbrev plain_of : Slashed → Plain
 plain_of c = c.before.before.before.before
 
 abbrev blanks-end : Slashed → ℕ
-blanks-end c = size (good-field (plain_of c).before) + 1 + c.blanks-len.result
+blanks-end c = size (good-field (plain_of c).before) + 1 + c.blanks_len.result
 
 abbrev after : Slashed → Bytes
 after c = drop (size (good-field (plain_of c).before) + 1) (left (good-part (plain_of c).before))
@@ -137,99 +137,99 @@ after_is c =
     take_all (length l - n) (drop n l) (omega (arith, length-drop n l))
 
 blanks-are : (c : Slashed) → blanks-end c ≡ size (good-field (plain_of c).before) + 1 + leading_blanks (after c)
-blanks-are c = ap (λ (n : ℕ). size (good-field (plain_of c).before) + 1 + n) (c.blanks-len.ensures.0 ∙ ap leading_blanks (after_is c))
+blanks-are c = ap (λ (n : ℕ). size (good-field (plain_of c).before) + 1 + n) (c.blanks_len.ensures.0 ∙ ap leading_blanks (after_is c))
 
 blanks-within : (c : Slashed) → blanks-end c ≤ length (left (good-part (plain_of c).before))
 blanks-within c =
     let l = left (good-part (plain_of c).before) in
     let n = size (good-field (plain_of c).before) + 1 in
-    let most : c.blanks-len.result ≤ length (after c) = rw (after_is c) at c.blanks-len.ensures.1 in
+    let most : c.blanks_len.result ≤ length (after c) = rw (after_is c) at c.blanks_len.ensures.1 in
     omega (arith, most, length-drop n l, shorter (plain_of c))
 
 add-t20 : tie.Need-overflow-add-t20
 add-t20 c = omega (arith, within (cut-part c.before.before))
 
-returns : tie.Need-returns
+returns : tie.Need-returns-in_default
 returns c =
     let cut = c.before.before.before in
     let p = cut-part cut in
-    λ least. open-takes (rec-of p) least (walk_of p) (left p) (left_is p) _ c.stop.ensures (sym c.before.enum_told.given.1 ∙ extent-is cut)
+    λ least. open-takes (rec-of p) least (walk_of p) (left p) (left_is p) _ c.stop.ensures (sym c.before.enum_told-1.given.1 ∙ extent-is cut)
 
-part-take-yielded-end : tie.Need-slice-bounds-take-yielded-end
+part-take-yielded-end : tie.Need-slice_bounds-take_yielded-end
 part-take-yielded-end c = inside c
 
 -- it is wrong
-returns-2 : tie.Need-returns-2
+returns-2 : tie.Need-returns-in-Refused
 unfolding judged_of
 returns-2 c =
     let j = c.before.before.before.before in
     let g = field j in
     let p = part_of g in
-    λ least. wrong-takes (rec-of p) least (walk_of p) (left p) (left_is p) (size g) (size_is g) _ _ c.stop2.ensures (sym (judged-is j) ∙ ap judged_of c.before.before.number.given.1)
+    λ least. wrong-takes (rec-of p) least (walk_of p) (left p) (left_is p) (size g) (size_is g) _ _ c.stop-in-Refused.ensures (sym (judged-is j) ∙ ap judged_of c.before.before.number-1.given.1)
 
 -- a text ends the line
-returns-3 : tie.Need-returns-3
+returns-3 : tie.Need-returns-then-text
 returns-3 c =
     let d = c.before.before in
     let g = good-field d in
     let p = good-part d in
-    λ least. text-takes (rec-of p) least (walk_of p) (left p) (left_is p) (size g) (size_is g) (then d) (took d) _ c.before-line.ensures
-    (sym g.before.before.before.before.is-text.ensures ∙ c.before.if1.true)
+    λ least. text-takes (rec-of p) least (walk_of p) (left p) (left_is p) (size g) (size_is g) (then d) (took d) _ c.before_line.ensures
+    (sym g.before.before.before.before.is_text-text.ensures ∙ c.before.if-text.true)
 
-add-f : tie.Need-overflow-add-f
+add-f : tie.Need-overflow_add-f
 add-f c = omega (arith, shorter c)
 
-shared-slice-read-if2 : tie.Need-shared-slice-read-if2
+shared-slice-read-if2 : tie.Need-bounds-left-n
 shared-slice-read-if2 c = shorter c.before
 
 add-t31 : tie.Need-overflow-add-t31
 add-t31 c = omega (arith, within (good-part c.before.before.before), shorter c.before.before)
 
 -- a comma
-returns-4 : tie.Need-returns-4
+returns-4 : tie.Need-returns-then-left-n-ne47
 returns-4 c =
     let d = c.before.before.before in
     let g = good-field d in
     let p = good-part d in
-    λ least. comma-takes (rec-of p) least (walk_of p) (left p) (left_is p) (size g) (size_is g) (then d) (took d) (no_text c.before.before) c.if2.true
+    λ least. comma-takes (rec-of p) least (walk_of p) (left p) (left_is p) (size g) (size_is g) (then d) (took d) (no_text c.before.before) c.if-left-n-ne47.true
 
 sub-blanks-len : tie.Need-overflow-sub-blanks-len
 sub-blanks-len c = omega (arith, shorter c.before.before)
 
-part-blanks-len-start : tie.Need-slice-bounds-blanks-len-start
+part-blanks-len-start : tie.Need-slice_bounds-blanks_len-start
 part-blanks-len-start c = omega (arith, shorter c.before.before)
 
-add-t : tie.Need-overflow-add-t
+add-t : tie.Need-overflow_add-t
 add-t c = omega (arith, blanks-within c)
 
 add-t37 : tie.Need-overflow-add-t37
 add-t37 c = omega (arith, within (good-part (plain_of c.before).before), blanks-within c.before, shorter (plain_of c.before))
 
 -- a slash and a stray byte
-returns-5 : tie.Need-returns-5
+returns-5 : tie.Need-returns-then-t-left
 returns-5 c =
     let b = c.before.before in
     let d = (plain_of b).before in
     let g = good-field d in
     let p = good-part d in
-    λ least. stray-takes (rec-of p) least (walk_of p) (left p) (left_is p) (size g) (size_is g) (then d) (took d) (no_text (plain_of b)) b.before.before.if2.false
-    (blanks-end b) (blanks-are b) _ c.stop3.ensures c.before.if3.true
+    λ least. stray-takes (rec-of p) least (walk_of p) (left p) (left_is p) (size g) (size_is g) (then d) (took d) (no_text (plain_of b)) b.before.before.if-left-n-ne47.false
+    (blanks-end b) (blanks-are b) _ c.stop-then-t-left.ensures c.before.if-t-left.true
 
 add-t34 : tie.Need-overflow-add-t34
 add-t34 c = omega (arith, within (good-part (plain_of c.before).before), shorter (plain_of c.before))
 
 -- a slash
-returns-6 : tie.Need-returns-6
+returns-6 : tie.Need-returns
 returns-6 c =
     let b = c.before.before in
     let d = (plain_of b).before in
     let g = good-field d in
     let p = good-part d in
-    λ least. slash-takes (rec-of p) least (walk_of p) (left p) (left_is p) (size g) (size_is g) (then d) (took d) (no_text (plain_of b)) b.before.before.if2.false
-    (blanks-end b) (blanks-are b) _ c.before-line2.ensures c.before.if3.false (blanks-within b)
+    λ least. slash-takes (rec-of p) least (walk_of p) (left p) (left_is p) (size g) (size_is g) (then d) (took d) (no_text (plain_of b)) b.before.before.if-left-n-ne47.false
+    (blanks-end b) (blanks-are b) _ c.before_line-2.ensures c.before.if-t-left.false (blanks-within b)
 
-pub field-here-spec : {M : Type 1} → statement M
-field-here-spec =
+pub field_here_spec : {M : Type 1} → statement M
+field_here_spec =
     tie.close
     (tie.spec
     (λ c κs. search rules)

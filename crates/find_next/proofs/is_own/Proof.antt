@@ -4,18 +4,18 @@ use borrow.Author.Rules.{rules}
 use Rattle.find_next.proofs.is_own.Statement.{statement}
 use Rattle.find_next.proofs.is_own.Tie as tie
 
-returns : tie.Need-returns
-returns c = let a = c.before.before.before.args in own-past a.rec.now a.least a.start.0 c.if1.true
+returns : tie.Need-returns-then-rec-start
+returns c = let a = c.before.before.before.args in own-past a.rec.now a.least a.start.0 c.if-rec-start.true
 
-returns-2 : tie.Need-returns-2
+returns-2 : tie.Need-returns-then-start-least
 returns-2 c =
     let a = c.before.before.before.before.before.args in
-    own-known a.rec.now a.least a.start.0 c.before.before.if1.false c.if2.true
+    own-known a.rec.now a.least a.start.0 c.before.before.if-rec-start.false c.if-start-least.true
 
-returns-3 : tie.Need-returns-3
+returns-3 : tie.Need-returns
 returns-3 c =
     let a = c.before.before.before.before.before.before.args in
-    own-further a.rec.now a.least a.start.0 c.before.before.before.if1.false _ c.before.if2.false c.begins.ensures
+    own-further a.rec.now a.least a.start.0 c.before.before.before.if-rec-start.false _ c.before.if-start-least.false c.begins.ensures
 
-pub is-own-spec : {M : Type 1} → statement M
-is-own-spec = tie.close (tie.spec returns returns-2 (λ c κs. search rules) returns-3)
+pub is_own_spec : {M : Type 1} → statement M
+is_own_spec = tie.close (tie.spec returns returns-2 (λ c κs. search rules) returns-3)

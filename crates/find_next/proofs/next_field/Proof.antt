@@ -10,28 +10,28 @@ use Rattle.find_next.proofs.next_field.Tie as tie
 -- ---- where the walk stands in a line
 
 abbrev Entered : Type 0
-Entered = tie.After-in-line
+Entered = tie.After-in_line
 
 abbrev entry : Entered → tie.Start
 entry c = c.before.before
 
-enters : (c : Entered) (r : Ahead) → c.in-line.result ≡ r → Enters (entry c).args.rec.now (entry c).args.least (entry c).args.walk r
-enters c r e = subst (Enters (entry c).args.rec.now (entry c).args.least (entry c).args.walk) e c.in-line.ensures
+enters : (c : Entered) (r : Ahead) → c.in_line.result ≡ r → Enters (entry c).args.rec.now (entry c).args.least (entry c).args.walk r
+enters c r e = subst (Enters (entry c).args.rec.now (entry c).args.least (entry c).args.walk) e c.in_line.ensures
 
-returns : tie.Need-returns
-returns c = let e = c.before.before.before in stop-steps _ _ _ _ (enters e _ c.before.why.given.1)
+returns : tie.Need-returns-in-Refused
+returns c = let e = c.before.before.before in stop-steps _ _ _ _ (enters e _ c.before.why-1.given.1)
 
-returns-2 : tie.Need-returns-2
-returns-2 c = let e = c.before.before in over-steps _ _ _ (enters e _ c.enum_told.given.1)
+returns-2 : tie.Need-returns-in-Over
+returns-2 c = let e = c.before.before in over-steps _ _ _ (enters e _ c.enum_told-1.given.1)
 
-returns-3 : tie.Need-returns-3
+returns-3 : tie.Need-returns-in-Line
 returns-3 c =
     let k = c.before in
     let e = k.before.before.before in
-    line-steps _ _ _ _ _ (enters e _ k.before.here.given.1) (c.field-here.ensures (entry e).args.least)
+    line-steps _ _ _ _ _ (enters e _ k.before.here-1.given.1) (c.field_here.ensures (entry e).args.least)
 
-pub next-field-spec : {M : Type 1} → statement M
-next-field-spec =
+pub next_field_spec : {M : Type 1} → statement M
+next_field_spec =
     tie.close
     (tie.spec
     (λ c κs. search rules)

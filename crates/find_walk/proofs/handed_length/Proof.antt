@@ -6,18 +6,18 @@ use borrow.Author.Rules.{rules}
 use Rattle.find_walk.proofs.handed_length.Statement.{statement}
 use Rattle.find_walk.proofs.handed_length.Tie as tie
 
-returns : tie.Need-returns
-returns c = let a = c.before.before.args in plain-length a.kind a.f.now c.if1.true
+returns : tie.Need-returns-then-kind-ne-TEXT
+returns c = let a = c.before.before.args in plain-length a.kind a.f.now c.if-kind-ne-TEXT.true
 
-returns-2 : tie.Need-returns-2
+returns-2 : tie.Need-returns-then-is_one_of
 returns-2 c =
     let a = c.before.before.before.before.args in
-    text-length a.kind a.f.now true c.before.before.if1.false (sym c.before.is-one-of.ensures ∙ c.if2.true)
+    text-length a.kind a.f.now true c.before.before.if-kind-ne-TEXT.false (sym c.before.is_one_of.ensures ∙ c.if-is_one_of.true)
 
-returns-3 : tie.Need-returns-3
+returns-3 : tie.Need-returns
 returns-3 c =
     let a = c.before.before.before.before.args in
-    text-length a.kind a.f.now false c.before.before.if1.false (sym c.before.is-one-of.ensures ∙ c.if2.false)
+    text-length a.kind a.f.now false c.before.before.if-kind-ne-TEXT.false (sym c.before.is_one_of.ensures ∙ c.if-is_one_of.false)
 
-pub handed-length-spec : {M : Type 1} → statement M
-handed-length-spec = tie.close (tie.spec returns (λ c κs. search rules) returns-2 returns-3)
+pub handed_length_spec : {M : Type 1} → statement M
+handed_length_spec = tie.close (tie.spec returns (λ c κs. search rules) returns-2 returns-3)

@@ -7,10 +7,10 @@ use borrow.Author.Rules.{rules}
 use Rattle.find_walk.proofs.put_field.Statement.{statement}
 use Rattle.find_walk.proofs.put_field.Tie as tie
 
-slice-write-out-2 : tie.Need-slice-write-out-2
+slice-write-out-2 : tie.Need-bounds-out-at-2
 slice-write-out-2 c = let a = c.args in omega (arith, length-set a.out.now a.at a.kind)
 
-slice-write-out-3 : tie.Need-slice-write-out-3
+slice-write-out-3 : tie.Need-bounds-out-at-3
 slice-write-out-3 c =
     let a = c.args in
     omega (arith, length-set a.out.now a.at a.kind, length-set (set a.out.now a.at a.kind) (a.at + 1) a.place.0)
@@ -18,8 +18,8 @@ slice-write-out-3 c =
 returns : tie.Need-returns
 returns c = let a = c.args in three-set a.out.now a.at a.kind a.place.0 a.size c.requires
 
-pub put-field-spec : {M : Type 1} → statement M
-put-field-spec =
+pub put_field_spec : {M : Type 1} → statement M
+put_field_spec =
     tie.close
     (tie.spec
     (λ c. search rules)

@@ -11,12 +11,12 @@ use borrow.Author.Rules.{rules}
 use Rattle.find_walk.proofs.put_next.Statement.{statement}
 use Rattle.find_walk.proofs.put_next.Tie as tie
 
-returns : tie.Need-returns
+returns : tie.Need-returns-then-out-at-lt3
 returns c =
     let s = c.before.before.before in
-    record { put = λ h. absurd (omega (arith, h, c.if1.true, s.requires.1)); full = λ h. (refl, refl) }
+    record { put = λ h. absurd (omega (arith, h, c.if-out-at-lt3.true, s.requires.1)); full = λ h. (refl, refl) }
 
-returns-2 : tie.Need-returns-2
+returns-2 : tie.Need-returns
 returns-2 c =
     let put = c.before.before in
     let shown = put.before.before.before in
@@ -25,14 +25,14 @@ returns-2 c =
     let a = s.args in
     let n : a.place.0 + a.size - a.place.0 ≡ a.size = omega arith in
     let lent = ap (λ (m : ℕ). take m (drop a.place.0 a.rec.now)) n in
-    let size = shown.handed-length.ensures ∙ ap (λ (bs : Bytes). cond (eqb 21 a.kind && just slash bs) 0 (length bs)) lent in
+    let size = shown.handed_length-shown.ensures ∙ ap (λ (bs : Bytes). cond (eqb 21 a.kind && just slash bs) 0 (length bs)) lent in
     record {
-      put = λ h. (put.put-field.ensures ∙ ap (λ (l : ℕ). take a.at a.out.now ++ (a.kind ∷ (a.start.0 + a.place.0) ∷ l ∷ drop (a.at + 3) a.out.now)) size, refl);
-      full = λ h. absurd (omega (arith, h, room.if1.false, s.requires.1));
+      put = λ h. (put.put_field.ensures ∙ ap (λ (l : ℕ). take a.at a.out-1.now ++ (a.kind ∷ (a.start.0 + a.place.0) ∷ l ∷ drop (a.at + 3) a.out-1.now)) size, refl);
+      full = λ h. absurd (omega (arith, h, room.if-out-at-lt3.false, s.requires.1));
     }
 
-pub put-next-spec : {M : Type 1} → statement M
-put-next-spec =
+pub put_next_spec : {M : Type 1} → statement M
+put_next_spec =
     tie.close
     (tie.spec
     (λ c. search rules)

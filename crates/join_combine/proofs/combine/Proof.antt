@@ -11,7 +11,7 @@ use Rattle.join_combine.proofs.combine.Tie as tie
 -- ---- A is judged
 
 abbrev First : Type 0
-First = tie.After-judge-file
+First = tie.After-judge_file
 
 abbrev begun : First → tie.Start
 begun c = c.before.before.before.before
@@ -26,56 +26,56 @@ abbrev out_of : First → Bytes
 out_of c = (begun c).args.out.now
 
 -- what a branch knows of the answer
-first-is : (c : First) (v : Judged) → c.judge-file.result ≡ v → JudgedIs v (a-of c)
-first-is c v e = subst (λ (x : Judged). JudgedIs x (a-of c)) e c.judge-file.ensures
+first-is : (c : First) (v : Judged) → c.judge_file.result ≡ v → JudgedIs v (a-of c)
+first-is c v e = subst (λ (x : Judged). JudgedIs x (a-of c)) e c.judge_file.ensures
 
-returns : tie.Need-returns
+returns : tie.Need-returns-in-Refused
 returns c =
     let f = c.before.before.before.before in
-    c.refused.ensures (out_of f) ∙ first-refused (a-of f) (b-of f) (out_of f) _ (first-is f _ c.before.before.why.given.1)
+    c.refused.ensures (out_of f) ∙ first-refused (a-of f) (b-of f) (out_of f) _ (first-is f _ c.before.before.why-1.given.1)
 
 -- ---- A is accepted, and B is judged
 
 abbrev Second : Type 0
-Second = tie.After-judge-file2
+Second = tie.After-judge_file-in-Accepted
 
 abbrev first_of : Second → First
 first_of c = c.before.before.before.before
 
-first_good : (c : Second) → IsGood c.before.before.first.given.0.0 (a-of (first_of c))
-first_good c = first-is (first_of c) _ c.before.before.first.given.1
+first_good : (c : Second) → IsGood c.before.before.first-1.given.0.0 (a-of (first_of c))
+first_good c = first-is (first_of c) _ c.before.before.first-1.given.1
 
-second_is : (c : Second) (v : Judged) → c.judge-file2.result ≡ v → JudgedIs v (b-of (first_of c))
-second_is c v e = subst (λ (x : Judged). JudgedIs x (b-of (first_of c))) e c.judge-file2.ensures
+second_is : (c : Second) (v : Judged) → c.judge_file-in-Accepted.result ≡ v → JudgedIs v (b-of (first_of c))
+second_is c v e = subst (λ (x : Judged). JudgedIs x (b-of (first_of c))) e c.judge_file-in-Accepted.ensures
 
-returns-2 : tie.Need-returns-2
+returns-2 : tie.Need-returns-in-Refused-judge_file
 returns-2 c =
     let s = c.before.before.before.before in
     let f = first_of s in
-    c.refused2.ensures (out_of f)
-    ∙ second-refused (a-of f) (b-of f) (out_of f) _ (first_good s).accepts _ (second_is s _ c.before.before.why2.given.1)
+    c.refused-in-Refused-judge_file.ensures (out_of f)
+    ∙ second-refused (a-of f) (b-of f) (out_of f) _ (first_good s).accepts _ (second_is s _ c.before.before.why-in-Refused-judge_file-2-1.given.1)
 
 -- ---- both are accepted
 
 abbrev Both : Type 0
-Both = tie.After-second
+Both = tie.In-Accepted-judge_file-2
 
-second-good : (c : Both) → IsGood c.second.given.0.0 (b-of (first_of c.before.before))
-second-good c = second_is c.before.before _ c.second.given.1
+second-good : (c : Both) → IsGood c.second-1.given.0.0 (b-of (first_of c.before.before))
+second-good c = second_is c.before.before _ c.second-1.given.1
 
-combine-accepted-requires : tie.Need-combine-accepted-requires
+combine-accepted-requires : tie.Need-combine_accepted-requires
 combine-accepted-requires c κs = let both = c.before.before in (first_good both.before.before, second-good both)
 
-returns-3 : tie.Need-returns-3
+returns-3 : tie.Need-returns-in-Accepted-judge_file
 returns-3 c =
     let both = c.before.before.before.before.before in
     let s = both.before.before in
     let f = first_of s in
-    c.before.before.combine-accepted.ensures
+    c.before.before.combine_accepted.ensures
     ∙ both-accepted (a-of f) (b-of f) (out_of f) _ (first_good s).accepts _ (second-good both).accepts
 
-pub combine-spec : {M : Type 1} → statement M
-combine-spec =
+pub combine_spec : {M : Type 1} → statement M
+combine_spec =
     tie.close
     (tie.spec
     (λ c κs. search rules)

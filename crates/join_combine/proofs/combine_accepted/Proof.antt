@@ -45,36 +45,36 @@ abbrev out_of : Joined → Bytes
 out_of c = (begun c).args.out.now
 
 abbrev sums : Joined → Sum
-sums c = sum_meant (first_of c).summary.total ⊕ sum_meant (second-of c).summary.total
+sums c = sum_meant (first_of c).summary.total-1 ⊕ sum_meant (second-of c).summary.total-1
 
 -- what a branch knows of the answer
 told : (c : Joined) (v : UnitsSum) → c.join.result ≡ v → v ≡ units_within (sums c)
 told c v e = sym e ∙ c.join.ensures
 
-returns-2 : tie.Need-returns-2
+returns-2 : tie.Need-returns-in-Beyond
 returns-2 c =
     let s = c.before.before.before in
-    c.refused-by.ensures (out_of s)
+    c.refused_by.ensures (out_of s)
     ∙ too_large (a-of s) (b-of s) (out_of s) (summary_meant (first_of s).summary) (summary_meant (second-of s).summary)
-    (beyond-most (sums s) (told s _ c.before.enum_told.given.1))
+    (beyond-most (sums s) (told s _ c.before.enum_told-1.given.1))
 
 -- ---- B's header ends
 
 abbrev At : Type 0
-At = tie.After-record-end
+At = tie.After-record_end-header
 
 abbrev sum_of : At → Joined
 sum_of c = c.before.before.before.before
 
 abbrev header_of : At → ℕ
-header_of c = c.record-end.result.0
+header_of c = c.record_end-header.result.0
 
 header_is : (c : At) → header_of c ≡ record_size (first_record (lines_of (b-of (sum_of c))))
-header_is c = c.record-end.ensures.0 ∙ zero-add _
+header_is c = c.record_end-header.ensures.0 ∙ zero-add _
 
 -- the sum is within the largest
-within-sum : (c : At) → Within c.before.before.total.given.0.0 ≡ units_within (sums (sum_of c))
-within-sum c = told (sum_of c) _ c.before.before.total.given.1
+within-sum : (c : At) → Within c.before.before.total-1.given.0.0 ≡ units_within (sums (sum_of c))
+within-sum c = told (sum_of c) _ c.before.before.total-1.given.1
 
 header-fits : (c : At) → header_of c ≤ (second-of (sum_of c)).last.0
 header-fits c = let s = sum_of c in header-first (b-of s) (second-of s) (begun s).pre.1 (header_of c) (header_is c)
@@ -82,10 +82,10 @@ header-fits c = let s = sum_of c in header-first (b-of s) (second-of s) (begun s
 sub_within : tie.Need-overflow-sub-within
 sub_within c = omega (arith, header-fits c)
 
-part-within-start : tie.Need-slice-bounds-within-start
+part-within-start : tie.Need-slice_bounds-within-start
 part-within-start c = omega (arith, header-fits c)
 
-part-within-end : tie.Need-slice-bounds-within-end
+part-within-end : tie.Need-slice_bounds-within-end
 part-within-end c = let s = sum_of c in omega (arith, last-inside (b-of s) (second-of s) (begun s).pre.1)
 
 within-requires : tie.Need-within-requires
@@ -110,30 +110,30 @@ tested c =
     ∙ same_lines (b-of s) (second-of s) (begun s).pre.1 (header_of m) (header_is m) (first_of s).limit
     ∙ ap (λ (l : ℕ). lines_within l (concat (concat (groups_in (b-of s))))) (begun s).pre.0.limit
 
-returns : tie.Need-returns
+returns : tie.Need-returns-then-not-within
 returns c =
     let w = c.before.before in
     let s = sum_of (at_of w) in
-    c.refused-by2.ensures (out_of s)
+    c.refused_by-then-not-within.ensures (out_of s)
     ∙ too_wide (a-of s) (b-of s) (out_of s) (summary_meant (first_of s).summary) (summary_meant (second-of s).summary)
-    (within-most (sums s) _ (within-sum (at_of w))) (sym (tested w) ∙ not-true _ c.before.if1.true)
+    (within-most (sums s) _ (within-sum (at_of w))) (sym (tested w) ∙ not-true _ c.before.if-not-within.true)
 
-combine-fitting-requires : tie.Need-combine-fitting-requires
+combine-fitting-requires : tie.Need-combine_fitting-requires
 combine-fitting-requires c κs =
     let m = at_of c.before.before in
     let s = sum_of m in
     ((begun s).pre.0, (begun s).pre.1, header_is m, within-is (sums s) _ (within-sum m))
 
-returns-3 : tie.Need-returns-3
+returns-3 : tie.Need-returns-else-not-within
 returns-3 c =
     let w = c.before.before.before.before.before in
     let s = sum_of (at_of w) in
-    c.before.before.combine-fitting.ensures
+    c.before.before.combine_fitting.ensures
     ∙ to-fit (a-of s) (b-of s) (out_of s) (summary_meant (first_of s).summary) (summary_meant (second-of s).summary)
-    (within-most (sums s) _ (within-sum (at_of w))) (sym (tested w) ∙ not-false _ c.before.before.before.before.if1.false)
+    (within-most (sums s) _ (within-sum (at_of w))) (sym (tested w) ∙ not-false _ c.before.before.before.before.if-not-within.false)
 
-pub combine-accepted-spec : {M : Type 1} → statement M
-combine-accepted-spec =
+pub combine_accepted_spec : {M : Type 1} → statement M
+combine_accepted_spec =
     tie.close
     (tie.spec
     (λ c κs. search rules)

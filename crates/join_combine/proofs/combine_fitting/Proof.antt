@@ -4,13 +4,13 @@ use native.Mathlib.Omega.{arith}
 use mathlib.Core.Path.{◌≡◌, sym, ap, subst, ◌∙◌}
 use mathlib.Core.List.{◌++◌}
 use lib.ListN.{length, take, drop}
-use Rattle.rules.specs.Bytes.{Bytes}
+use Rattle.rules.specs.bytes-1.{Bytes}
 use Rattle.rules.specs.Lines.{lines_of}
 use Rattle.rules.specs.Limits.{longest_file}
 use Rattle.base_quantities.specs.QuantityMeanings.{sum_meant}
 use Rattle.base_numerals.specs.PutBytes.{Put}
 use Rattle.base_numerals.proofs.PutLaws.{rest-is}
-use Rattle.join_trailer.specs.FreshTrailer.{last_line, trailer_of}
+use Rattle.join_trailer.specs.fresh_trailer-last.{last_line, trailer_of}
 use Rattle.join_combine.specs.CombineAnswers.{combined_result, combined_fitting}
 use Rattle.join_trailer.proofs.TrailerLengths.{in-front}
 use Rattle.join_trailer.proofs.FitsLaws.{too_long, no_room, written, part-most, front-size}
@@ -60,9 +60,9 @@ inside c =
 
 -- once all is measured: the 99, and how long it is
 abbrev Measured : Type 0
-Measured = tie.After-fresh-trailer
+Measured = tie.After-fresh_trailer-last
 
-abbrev counted_of : Measured → tie.After-records-left
+abbrev counted_of : Measured → tie.After-records_left-records
 counted_of c = c.before.before.before
 
 abbrev begun : Measured → At
@@ -75,16 +75,16 @@ abbrev last_of : Measured → Bytes
 last_of c = let s = (begun c).args in last_line (sum_meant s.total) (s.first.summary.groups.0 + s.second.summary.groups.0) (records-of c)
 
 abbrev size_of : Measured → ℕ
-size_of c = c.fresh-trailer.result.length
+size_of c = c.fresh_trailer-last.result.length
 
-fresh : (c : Measured) → c.fresh-trailer.result ≡ trailer_of (last_of c)
-fresh c = c.fresh-trailer.ensures.0 ∙ ap (λ (n : ℕ). trailer_of (last_line (sum_meant (begun c).args.total) n (records-of c))) c.before.before.both.ensures
+fresh : (c : Measured) → c.fresh_trailer-last.result ≡ trailer_of (last_of c)
+fresh c = c.fresh_trailer-last.ensures.0 ∙ ap (λ (n : ℕ). trailer_of (last_line (sum_meant (begun c).args.total) n (records-of c))) c.before.before.both.ensures
 
 -- the result, part by part, and its length
 result : (c : Measured) → let s = begun c in take (x-of s) (a-of s) ++ (take (y_of s - h-of s) (drop (h-of s) (b-of s)) ++ last_of c) ≡ combined_result (a-of s) (b-of s)
 result c =
     let s = begun c in
-    let n = (counted_of c).records-left in
+    let n = (counted_of c).records_left-records in
     let e : h-of s - 0 ≡ h-of s = omega arith in
     let la = ap (λ (xs : Bytes). length (lines_of xs)) (rest-is (x-of s) (a-of s)) in
     let lh = ap (λ (k : ℕ). length (lines_of (take k (b-of s)))) e in
@@ -95,27 +95,27 @@ result c =
 size : (c : Measured) → let s = begun c in (x-of s + (y_of s - h-of s)) + size_of c ≡ length (combined_result (a-of s) (b-of s))
 size c =
     let s = begun c in
-    let last = c.fresh-trailer.ensures in
+    let last = c.fresh_trailer-last.ensures in
     let long : length (last_of c) ≡ size_of c = front-size (last_of c) _ (size_of c) (in-front (last_of c) _ (fresh c)) (omega (arith, last.1, last.2)) in
     omega (arith, ap length (result c), result-size (a-of s) (b-of s) s.args.first s.args.second s.pre.0 s.pre.1 (h-of s) s.pre.2 (last_of c), long)
 
 -- the same, as the slices are lent
 lent : (c : Measured) → let s = begun c in
-    take (x-of s - 0) (drop 0 (a-of s)) ++ (take (y_of s - h-of s) (drop (h-of s) (b-of s)) ++ take (size_of c - 0) (drop 0 c.fresh-trailer.result.bytes))
+    take (x-of s - 0) (drop 0 (a-of s)) ++ (take (y_of s - h-of s) (drop (h-of s) (b-of s)) ++ take (size_of c - 0) (drop 0 c.fresh_trailer-last.result.bytes))
     ≡ combined_result (a-of s) (b-of s)
 lent c =
     let s = begun c in
     let e : x-of s - 0 ≡ x-of s = omega arith in
     let f : size_of c - 0 ≡ size_of c = omega arith in
-    let trailer : take (size_of c - 0) (drop 0 c.fresh-trailer.result.bytes) ≡ last_of c = rw f (in-front (last_of c) _ (fresh c)) in
-    ap (λ (k : ℕ). take k (a-of s) ++ (take (y_of s - h-of s) (drop (h-of s) (b-of s)) ++ take (size_of c - 0) (drop 0 c.fresh-trailer.result.bytes))) e
+    let trailer : take (size_of c - 0) (drop 0 c.fresh_trailer-last.result.bytes) ≡ last_of c = rw f (in-front (last_of c) _ (fresh c)) in
+    ap (λ (k : ℕ). take k (a-of s) ++ (take (y_of s - h-of s) (drop (h-of s) (b-of s)) ++ take (size_of c - 0) (drop 0 c.fresh_trailer-last.result.bytes))) e
     ∙ ap (λ (bs : Bytes). take (x-of s) (a-of s) ++ (take (y_of s - h-of s) (drop (h-of s) (b-of s)) ++ bs)) trailer
     ∙ result c
 
 -- ---- before the records are counted
 
 abbrev Counting : Type 0
-Counting = tie.After-t
+Counting = tie.After-t-1
 
 abbrev counting : Counting → At
 counting c = c.before.before.before.before.before
@@ -123,19 +123,19 @@ counting c = c.before.before.before.before.before
 sub-records-left : tie.Need-overflow-sub-records-left
 sub-records-left c = omega (arith, (inside (counting c)).a-last)
 
-part-records-left-start : tie.Need-slice-bounds-records-left-start
+part-records-left-start : tie.Need-slice_bounds-records_left-start
 part-records-left-start c = omega (arith, (inside (counting c)).a-last)
 
-part-records-left-end-2 : tie.Need-slice-bounds-records-left-end-2
+part-records-left-end-2 : tie.Need-slice_bounds-records_left-end-2
 part-records-left-end-2 c = let i = inside (counting c.before) in omega (arith, i.header, i.b-last)
 
 sub-records-left-3 : tie.Need-overflow-sub-records-left-3
 sub-records-left-3 c = omega (arith, (inside (counting c.before.before)).b-last)
 
-part-records-left-start-3 : tie.Need-slice-bounds-records-left-start-3
+part-records-left-start-3 : tie.Need-slice_bounds-records_left-start-3
 part-records-left-start-3 c = omega (arith, (inside (counting c.before.before)).b-last)
 
-records-left-requires : tie.Need-records-left-requires
+records-left-requires : tie.Need-records_left-records-requires
 records-left-requires c κs =
     let s = counting c.before.before.before in
     let i = inside s in (
@@ -151,33 +151,33 @@ both-requires c κs = let s = counting c.before.before.before.before in (s.pre.0
 
 -- ---- 18, 15
 
-sub-length : tie.Need-overflow-sub-length
+sub-length : tie.Need-overflow_sub-length
 sub-length c = omega (arith, (inside (begun c)).header)
 
-add-length : tie.Need-overflow-add-length
+add-length : tie.Need-overflow_add-length
 add-length c = let i = inside (begun c) in omega (arith, i.a-last, i.b-last, i.a-short, i.b-short)
 
-add-length-2 : tie.Need-overflow-add-length-2
-add-length-2 c = let i = inside (begun c) in omega (arith, i.a-last, i.b-last, i.a-short, i.b-short, c.fresh-trailer.ensures.1)
+add-length-2 : tie.Need-overflow_add-length-2
+add-length-2 c = let i = inside (begun c) in omega (arith, i.a-last, i.b-last, i.a-short, i.b-short, c.fresh_trailer-last.ensures.1)
 
-returns : tie.Need-returns
+returns : tie.Need-returns-then-length-gt-LONGEST_FILE
 unfolding combined_fitting
 returns c =
     let m = c.before.before in
     let s = begun m in
-    c.refused-by.ensures (out_of s) ∙ too_long (combined_result (a-of s) (b-of s)) (out_of s) 0 (omega (arith, size m))
+    c.refused_by.ensures (out_of s) ∙ too_long (combined_result (a-of s) (b-of s)) (out_of s) 0 (omega (arith, size m))
 
-returns-2 : tie.Need-returns-2
+returns-2 : tie.Need-returns-then-out-length
 unfolding combined_fitting
 returns-2 c =
     let m = c.before.before.before in
     let s = begun m in
-    c.refused-by2.ensures (out_of s) ∙ no_room (combined_result (a-of s) (b-of s)) (out_of s) 0 (omega (arith, size m)) (omega (arith, size m))
+    c.refused_by-then-out-length.ensures (out_of s) ∙ no_room (combined_result (a-of s) (b-of s)) (out_of s) 0 (omega (arith, size m)) (omega (arith, size m))
 
 -- ---- it fits
 
 abbrev Fits : Type 0
-Fits = tie.After-bytes
+Fits = tie.After-bytes-1
 
 abbrev measured-of : Fits → Measured
 measured-of c = c.before.before.before
@@ -186,29 +186,29 @@ abbrev fit_of : Fits → At
 fit_of c = begun (measured-of c)
 
 short-enough : (c : Fits) → let s = fit_of c in length (combined_result (a-of s) (b-of s)) ≤ longest_file
-short-enough c = omega (arith, size (measured-of c), c.before.before.if1.false)
+short-enough c = omega (arith, size (measured-of c), c.before.before.if-length-gt-LONGEST_FILE.false)
 
 room : (c : Fits) → let s = fit_of c in length (combined_result (a-of s) (b-of s)) ≤ length (out_of s)
-room c = omega (arith, size (measured-of c), c.before.if2.false)
+room c = omega (arith, size (measured-of c), c.before.if-out-length.false)
 
-part-put-three-end : tie.Need-slice-bounds-put-three-end
+part-put-three-end : tie.Need-slice_bounds-put_three-end
 part-put-three-end c = omega (arith, (inside (fit_of c)).a-last)
 
 sub-put-three-2 : tie.Need-overflow-sub-put-three-2
 sub-put-three-2 c = omega (arith, (inside (fit_of c.before)).header)
 
-part-put-three-start-2 : tie.Need-slice-bounds-put-three-start-2
+part-put-three-start-2 : tie.Need-slice_bounds-put_three-start-2
 part-put-three-start-2 c = omega (arith, (inside (fit_of c.before)).header)
 
-part-put-three-end-2 : tie.Need-slice-bounds-put-three-end-2
+part-put-three-end-2 : tie.Need-slice_bounds-put_three-end-2
 part-put-three-end-2 c = omega (arith, (inside (fit_of c.before)).b-last)
 
-put-three-requires : tie.Need-put-three-requires
+put-three-requires : tie.Need-put_three-requires
 put-three-requires c κs =
     let f = c.before.before.before.before.before in
     subst (λ (bs : Bytes). length bs ≤ length (out_of (fit_of f))) (sym (lent (measured-of f))) (room f)
 
-returns-3 : tie.Need-returns-3
+returns-3 : tie.Need-returns
 unfolding combined_fitting
 returns-3 c =
     let put = c.before.before.put_three in
@@ -217,8 +217,8 @@ returns-3 c =
     written (combined_result (a-of s) (b-of s)) (out_of s) 0 (short-enough f) (room f) put.result put.new.1.1.1.0
     (subst (λ (bs : Bytes). Put bs (out_of s) put.result put.new.1.1.1.0) (lent (measured-of f)) put.ensures)
 
-pub combine-fitting-spec : {M : Type 1} → statement M
-combine-fitting-spec =
+pub combine_fitting_spec : {M : Type 1} → statement M
+combine_fitting_spec =
     tie.close
     (tie.spec
     sub-records-left

@@ -9,23 +9,23 @@ use borrow.Author.Rules.{rules}
 use Rattle.join_combine.proofs.within.Statement.{statement}
 use Rattle.join_combine.proofs.within.Tie as tie
 
-returns : tie.Need-returns
+returns : tie.Need-returns-then-known-limit
 returns c =
     let a = c.before.before.args in
-    sym (is_true _ (within_more a.known a.limit c.if1.true (lines_of a.s.now) c.before.before.requires))
+    sym (is_true _ (within_more a.known a.limit c.if-known-limit.true (lines_of a.s.now) c.before.before.requires))
 
-returns-2 : tie.Need-returns-2
+returns-2 : tie.Need-returns-in-Fine
 returns-2 c =
     let n = c.before.before in
     let a = n.before.before.before.args in
-    none_within a.limit 0 (lines_of a.s.now) (sym n.none-longer.ensures.0 ∙ ap (λ (v : Checked). checked_of v) c.enum_told.given.1)
+    none_within a.limit 0 (lines_of a.s.now) (sym n.none_longer.ensures.0 ∙ ap (λ (v : Checked). checked_of v) c.enum_told-1.given.1)
 
-returns-3 : tie.Need-returns-3
+returns-3 : tie.Need-returns-in-Refused
 returns-3 c =
     let n = c.before.before in
     let a = n.before.before.before.args in
-    none_over a.limit 0 (lines_of a.s.now) _ (sym n.none-longer.ensures.0 ∙ ap (λ (v : Checked). checked_of v) c.enum-told2.given.1)
+    none_over a.limit 0 (lines_of a.s.now) _ (sym n.none_longer.ensures.0 ∙ ap (λ (v : Checked). checked_of v) c.enum_told-in-Refused-1.given.1)
 
-pub within-spec : {M : Type 1} → statement M
-within-spec =
+pub within_spec : {M : Type 1} → statement M
+within_spec =
     tie.close (tie.spec returns (λ c κs. search rules) (λ c. search rules) (λ c. search rules) returns-2 returns-3)

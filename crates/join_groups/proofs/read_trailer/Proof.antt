@@ -14,12 +14,12 @@ returns : tie.Need-returns
 returns c =
     let r = lines_of c.before.before.before.before.before.before.args.rec.now in
     let total = c.before.before.before in (
-      c.adds.ensures ∙ ap amount_adds (total.amount-in.ensures ∙ ap amount_read total.before.field.ensures ∙ total-found (fields_of group_trailer) r),
-      c.before.value.ensures.0 ∙ ap value_of c.before.before.field2.ensures ∙ records-found (fields_of group_trailer) r,
+      c.adds.ensures ∙ ap amount_adds (total.amount_in-total.ensures ∙ ap amount_read total.before.field.ensures ∙ total-found (fields_of group_trailer) r),
+      c.before.value-records.ensures.0 ∙ ap value_of c.before.before.field-2.ensures ∙ records-found (fields_of group_trailer) r,
     )
 
-pub read-trailer-spec : {M : Type 1} → statement M
-read-trailer-spec =
+pub read_trailer_spec : {M : Type 1} → statement M
+read_trailer_spec =
     tie.close
     (tie.spec
     (λ c κs. search rules)

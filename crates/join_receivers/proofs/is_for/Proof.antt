@@ -8,5 +8,5 @@ use Rattle.join_receivers.proofs.is_for.Tie as tie
 returns : tie.Need-returns
 returns c = c.same_bytes.ensures ∙ ap (same_bytes c.before.before.before.before.args.name.now) c.before.field.ensures
 
-pub is-for-spec : {M : Type 1} → statement M
-is-for-spec = tie.close (tie.spec (λ c κs. search rules) (λ c κs. search rules) returns)
+pub is_for_spec : {M : Type 1} → statement M
+is_for_spec = tie.close (tie.spec (λ c κs. search rules) (λ c κs. search rules) returns)

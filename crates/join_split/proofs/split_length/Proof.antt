@@ -14,7 +14,7 @@ use Rattle.join_split.proofs.split_length.Tie as tie
 
 -- once the rest is taken
 abbrev Took : Type 0
-Took = tie.After-struct-known
+Took = tie.After-struct_known-1
 
 abbrev name_of : Took → Bytes
 name_of c = c.before.before.before.before.before.before.before.args.name.now
@@ -28,31 +28,31 @@ header_of c = c.before.before.before.before.before.before.before.args.header
 known : (c : Took) → Opened (file-of c) (header_of c)
 known c = let p = c.before.before.before.before.before.before.before.requires in opened (file-of c) p.0.0 (header_of c) p.0.1 p.1
 
-sizes : (c : Took) → let r = c.before.before.before.take_rest.result in (header_of c + r.bytes) + r.last.length ≡ length (split_result (name_of c) (file-of c))
+sizes : (c : Took) → let r = c.before.before.before.take_rest-rest.result in (header_of c + r.bytes) + r.last-1.length ≡ length (split_result (name_of c) (file-of c))
 sizes c =
-    let r = c.before.before.before.take_rest.result in
-    let rest = c.before.before.before.take_rest.ensures in
+    let r = c.before.before.before.take_rest-rest.result in
+    let rest = c.before.before.before.take_rest-rest.ensures in
     omega (
       arith,
       rest.count,
-      front-size (split_last (name_of c) (file-of c)) r.last.bytes r.last.length rest.is_last (omega (arith, rest.last-most)),
+      front-size (split_last (name_of c) (file-of c)) r.last-1.bytes r.last-1.length rest.is_last (omega (arith, rest.last-most)),
       result-size (name_of c) (file-of c) (header_of c) (known c),
     )
 
 small : (c : Took) → length (split_result (name_of c) (file-of c)) ≤ 16777216 + 64
 small c = omega (arith, result-most (name_of c) (file-of c) (header_of c) (known c), (known c).not-too-long)
 
-add-result : tie.Need-overflow-add-result
+add-result : tie.Need-overflow_add-result
 add-result c = omega (arith, sizes c, small c)
 
-add-result-2 : tie.Need-overflow-add-result-2
+add-result-2 : tie.Need-overflow_add-result-2
 add-result-2 c = omega (arith, sizes c.before, small c.before)
 
 returns : tie.Need-returns
 returns c = sizes c.before
 
-pub split-length-spec : {M : Type 1} → statement M
-split-length-spec =
+pub split_length_spec : {M : Type 1} → statement M
+split_length_spec =
     tie.close
     (tie.spec
     (λ c. search rules)

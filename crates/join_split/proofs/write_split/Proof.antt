@@ -5,7 +5,7 @@ use mathlib.Core.Path.{◌≡◌, ap, subst, ◌∙◌}
 use mathlib.Core.List.{◌++◌}
 use borrow.Rule.Slice.PartMut.{mid_of, put_mid}
 use lib.ListN.{length, take, drop}
-use Rattle.rules.specs.Bytes.{Bytes}
+use Rattle.rules.specs.bytes-1.{Bytes}
 use Rattle.base_numerals.specs.PutBytes.{Put}
 use Rattle.base_slices.specs.WroteBytes.{Wrote}
 use Rattle.base_slices.proofs.WroteLaws.{wrote-first, wrote-part, wrote-last, has_room, within-rest}
@@ -46,12 +46,12 @@ ends_with result before o last out bytes size r after w e p =
 -- ---- once the rest is taken
 
 abbrev Took : Type 0
-Took = tie.After-struct-known
+Took = tie.After-struct_known-1
 
-abbrev rest_of : Took → tie.After-take-rest
+abbrev rest_of : Took → tie.After-take_rest-rest
 rest_of c = c.before.before.before.before.before
 
-abbrev header-put : Took → tie.After-put
+abbrev header-put : Took → tie.After-put-o
 header-put c = (rest_of c).before.before.before.before
 
 abbrev begun : Took → tie.Start
@@ -69,53 +69,53 @@ out_of c = (begun c).args.out.now
 -- what the slice holds
 abbrev holds : Took → Bytes
 holds c =
-    let put = (header-put c).put in
-    put_mid put.result (length put.last.0 - put.result) put.last.0 (rest_of c).take_rest.new.1.1.1.0
+    let put = (header-put c).put-o in
+    put_mid put.result (length put.last-1.0 - put.result) put.last-1.0 (rest_of c).take_rest-rest.new.1.1.1.0
 
-wrote : (c : Took) → Wrote (split_result (name_of c) (file-of c)) (out_of c) ((header-put c).put.result + (rest_of c).take_rest.result.bytes) (split_last (name_of c) (file-of c)) (holds c)
+wrote : (c : Took) → Wrote (split_result (name_of c) (file-of c)) (out_of c) ((header-put c).put-o.result + (rest_of c).take_rest-rest.result.bytes) (split_last (name_of c) (file-of c)) (holds c)
 wrote c =
-    let put = (header-put c).put in
-    let rest = (rest_of c).take_rest in
-    after-groups (name_of c) (file-of c) (out_of c) (begun c).args.header (begun c).requires.0 (begun c).requires.1 put.result put.last.0 put.ensures rest.result.bytes _ rest.ensures.put
+    let put = (header-put c).put-o in
+    let rest = (rest_of c).take_rest-rest in
+    after-groups (name_of c) (file-of c) (out_of c) (begun c).args.header (begun c).requires.0 (begun c).requires.1 put.result put.last-1.0 put.ensures rest.result.bytes _ rest.ensures.put
 
 small : (c : Took) → length (out_of c) < 18446744073709551616
 small c = omega arith
 
-part-put-end : tie.Need-slice-bounds-put-end
+part-put-end : tie.Need-slice_bounds-put-end
 part-put-end c = let s = c.before.before.before.before in (known s.args.file.now s.args.header s.requires.0).inside
 
-add-o : tie.Need-overflow-add-o
+add-o : tie.Need-overflow_add-o
 add-o c = omega (arith, (wrote c).room)
 
 sub-put-2 : tie.Need-overflow-sub-put-2
 sub-put-2 c = omega (arith, (wrote c).room, (wrote c).long)
 
-part-put-start-2 : tie.Need-slice-bounds-put-start-2
+part-put-start-2 : tie.Need-slice_bounds-put-start-2
 part-put-start-2 c = omega (arith, (wrote c).room, (wrote c).long)
 
 -- ---- once the 99 is put
 
 abbrev Put99 : Type 0
-Put99 = tie.After-put2
+Put99 = tie.After-put-o-2
 
 abbrev took_of : Put99 → Took
 took_of c = c.before.before.before.before
 
-add-o-2 : tie.Need-overflow-add-o-2
+add-o-2 : tie.Need-overflow_add-o-2
 add-o-2 c =
     let last = c.before.before in
     let m = took_of last in
-    omega (arith, stays_within _ _ _ _ _ _ _ _ (wrote m) last.put2.ensures, small m)
+    omega (arith, stays_within _ _ _ _ _ _ _ _ (wrote m) last.put-o-2.ensures, small m)
 
 returns : tie.Need-returns
 returns c =
     let last = c.before.before in
     let m = took_of last in
-    let rest = (rest_of m).take_rest in
-    ends_with _ _ _ _ _ rest.result.last.bytes rest.result.last.length _ _ (wrote m) rest.ensures.is_last last.put2.ensures
+    let rest = (rest_of m).take_rest-rest in
+    ends_with _ _ _ _ _ rest.result.last.bytes-1 rest.result.last.length _ _ (wrote m) rest.ensures.is_last last.put-o-2.ensures
 
-pub write-split-spec : {M : Type 1} → statement M
-write-split-spec =
+pub write_split_spec : {M : Type 1} → statement M
+write_split_spec =
     tie.close
     (tie.spec
     (λ c. search rules)

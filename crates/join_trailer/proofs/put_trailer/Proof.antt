@@ -11,16 +11,16 @@ use Rattle.join_trailer.proofs.put_trailer.Tie as tie
 
 -- ---- the five calls that put, each after the one before
 
-abbrev code_put : tie.After-put-total → tie.After-put
+abbrev code_put : tie.After-put_total-o → tie.After-put-o
 code_put c = c.before.before.before.before
 
-abbrev total-put : tie.After-put-digits-after → tie.After-put-total
+abbrev total-put : tie.After-put_digits_after-o → tie.After-put_total-o
 total-put c = c.before.before.before.before
 
-abbrev groups-put : tie.After-put-digits-after2 → tie.After-put-digits-after
+abbrev groups-put : tie.After-put_digits_after-o-2 → tie.After-put_digits_after-o
 groups-put c = c.before.before.before.before
 
-abbrev records-put : tie.After-put2 → tie.After-put-digits-after2
+abbrev records-put : tie.After-put-o-2 → tie.After-put_digits_after-o-2
 records-put c = c.before.before.before.before.before
 
 returns : tie.Need-returns
@@ -37,14 +37,14 @@ returns c =
     let records : Bytes = comma ∷ decimal a.records.0 in
     let groups : Bytes = comma ∷ decimal a.groups.0 in
     let total = total_bytes (sum_meant a.total) in
-    let w₁ = wrote-first (57 ∷ 57 ∷ comma ∷ []) (total ++ (groups ++ (records ++ last))) a.out.now code_call.put.result code_call.put.last.0 s.pre code_call.put.ensures in
-    let w₂ = wrote-part _ _ _ total (groups ++ (records ++ last)) _ _ _ w₁ total-call.put-total.ensures in
-    let w₃ = wrote-part _ _ _ groups (records ++ last) _ _ _ w₂ groups-call.put-digits-after.ensures in
-    let w₄ = wrote-part _ _ _ records last _ _ _ w₃ records-call.put-digits-after2.ensures in
-    wrote-last _ _ _ last _ _ _ w₄ end-call.put2.ensures
+    let w₁ = wrote-first (57 ∷ 57 ∷ comma ∷ []) (total ++ (groups ++ (records ++ last))) a.out-1.now code_call.put-o.result code_call.put-o.last.0 s.pre code_call.put-o.ensures in
+    let w₂ = wrote-part _ _ _ total (groups ++ (records ++ last)) _ _ _ w₁ total-call.put_total-o.ensures in
+    let w₃ = wrote-part _ _ _ groups (records ++ last) _ _ _ w₂ groups-call.put_digits_after-o.ensures in
+    let w₄ = wrote-part _ _ _ records last _ _ _ w₃ records-call.put_digits_after-o-2.ensures in
+    wrote-last _ _ _ last _ _ _ w₄ end-call.put-o-2.ensures
 
-pub put-trailer-spec : {M : Type 1} → statement M
-put-trailer-spec =
+pub put_trailer_spec : {M : Type 1} → statement M
+put_trailer_spec =
     tie.close
     (tie.spec
     (λ c. search rules)

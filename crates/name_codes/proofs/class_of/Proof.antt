@@ -5,34 +5,34 @@ use Rattle.name_codes.proofs.TableLaws.{no-letter}
 use Rattle.name_codes.proofs.class_of.Statement.{statement}
 use Rattle.name_codes.proofs.class_of.Tie as tie
 
-status : tie.Need-returns
+status : tie.Need-returns-in-115
 unfolding entry_meant
-status c = rw c.match.keys1 refl
+status c = rw c.in-115.keys1 refl
 
-credit-summary : tie.Need-returns-2
+credit-summary : tie.Need-returns-in-67
 unfolding entry_meant
-credit-summary c = rw c.match.keys2 refl
+credit-summary c = rw c.in-115.keys2 refl
 
-credit-detail : tie.Need-returns-3
+credit-detail : tie.Need-returns-in-99
 unfolding entry_meant
-credit-detail c = rw c.match.keys3 refl
+credit-detail c = rw c.in-115.keys3 refl
 
-debit-summary : tie.Need-returns-4
+debit-summary : tie.Need-returns-in-68
 unfolding entry_meant
-debit-summary c = rw c.match.keys4 refl
+debit-summary c = rw c.in-115.keys4 refl
 
-debit-detail : tie.Need-returns-5
+debit-detail : tie.Need-returns-in-100
 unfolding entry_meant
-debit-detail c = rw c.match.keys5 refl
+debit-detail c = rw c.in-115.keys5 refl
 
-non-monetary : tie.Need-returns-6
+non-monetary : tie.Need-returns-in-110
 unfolding entry_meant
-non-monetary c = rw c.match.keys6 refl
+non-monetary c = rw c.in-115.keys6 refl
 
-unlisted : tie.Need-returns-7
+unlisted : tie.Need-returns-in_default
 unlisted c =
-    let others = c.match.rest in
+    let others = c.in-115.rest in
     sym (no-letter c.before.args.letter others.0.0.0.0.0.1 others.0.0.0.0.1 others.0.0.0.1 others.0.0.1 others.0.1 others.1)
 
-pub class-of-spec : {M : Type 1} → statement M
-class-of-spec = tie.close (tie.spec status credit-summary credit-detail debit-summary debit-detail non-monetary unlisted)
+pub class_of_spec : {M : Type 1} → statement M
+class_of_spec = tie.close (tie.spec status credit-summary credit-detail debit-summary debit-detail non-monetary unlisted)

@@ -8,13 +8,13 @@ use Rattle.name_codes.proofs.TableLaws.{entries_from, letter_at}
 use Rattle.name_codes.proofs.letter_of.Statement.{statement}
 use Rattle.name_codes.proofs.letter_of.Tie as tie
 
-returns : tie.Need-returns
+returns : tie.Need-returns-then-code-gt999
 unfolding entry_meant
-returns c = sym (over-unlisted c.before.args.code c.if1.true)
+returns c = sym (over-unlisted c.before.args.code c.if-code-gt999.true)
 
-returns-2 : tie.Need-returns-2
+returns-2 : tie.Need-returns
 unfolding entries_from entry_in entry_of
 returns-2 c = letter_at c.before.args.code (search rules)
 
-pub letter-of-spec : {M : Type 1} → statement M
-letter-of-spec = tie.close (tie.spec returns (λ c. search rules) returns-2)
+pub letter_of_spec : {M : Type 1} → statement M
+letter_of_spec = tie.close (tie.spec returns (λ c. search rules) returns-2)

@@ -16,16 +16,16 @@ use Rattle.part_details.proofs.text_in.Tie as tie
 sub-rec : tie.Need-overflow-sub-rec
 sub-rec c = c.before.requires.0
 
-part-rec-start : tie.Need-slice-bounds-rec-start
+part-rec-start : tie.Need-slice_bounds-rec-start
 part-rec-start c = c.before.requires.0
 
-part-rec-end : tie.Need-slice-bounds-rec-end
+part-rec-end : tie.Need-slice_bounds-rec-end
 part-rec-end c = c.before.requires.1
 
 -- ---- the search has found the text's place in the record
 
 abbrev Sought : Type 0
-Sought = tie.After-seek
+Sought = tie.After-seek-text
 
 abbrev begun : Sought → tie.Start
 begun c = c.before.before.before
@@ -42,19 +42,19 @@ to-of c = (begun c).args.to.0
 abbrev rec-of : Sought → Bytes
 rec-of c = take (to-of c - from-of c) (drop (from-of c) (file-of c))
 
-fits : (c : Sought) → c.seek.result.start.0 + c.seek.result.length ≤ to-of c - from-of c
-fits c = omega (arith, c.seek.ensures.within, length-take (to-of c - from-of c) (drop (from-of c) (file-of c)))
+fits : (c : Sought) → c.seek-text.result.start.0 + c.seek-text.result.length ≤ to-of c - from-of c
+fits c = omega (arith, c.seek-text.ensures.within, length-take (to-of c - from-of c) (drop (from-of c) (file-of c)))
 
-add-end : tie.Need-overflow-add-end
+add-end : tie.Need-overflow_add-end
 add-end c = omega (arith, fits c.before.before, (begun c.before.before).requires.1, (begun c.before.before).well-formed)
 
-part-is-one-of-end : tie.Need-slice-bounds-is-one-of-end
-part-is-one-of-end c = c.before.before.seek.ensures.within
+part-is-one-of-end : tie.Need-slice_bounds-is_one_of-end
+part-is-one-of-end c = c.before.before.seek-text.ensures.within
 
 -- ---- whether it is a lone slash
 
 abbrev Tested : Type 0
-Tested = tie.After-is-one-of
+Tested = tie.After-is_one_of
 
 abbrev sought-of : Tested → Sought
 sought-of c = c.before.before.before.before
@@ -62,26 +62,26 @@ sought-of c = c.before.before.before.before
 abbrev found_in : Tested → Found
 found_in c = in_detail text (rec-of (sought-of c))
 
-tested : (c : Tested) → c.is-one-of.result ≡ just slash (found_in c).bytes
+tested : (c : Tested) → c.is_one_of.result ≡ just slash (found_in c).bytes
 tested c =
     let s = sought-of c in
-    c.is-one-of.ensures ∙ ap (just slash) (spot-bytes text (rec-of s) _ _ s.seek.ensures.answer)
+    c.is_one_of.ensures ∙ ap (just slash) (spot-bytes text (rec-of s) _ _ s.seek-text.ensures.answer)
 
-returns : tie.Need-returns
+returns : tie.Need-returns-then-is_one_of
 returns c =
     let t = c.before in
-    record { answer = no-piece (from-of (sought-of t)) (found_in t) (sym (tested t) ∙ c.if1.true); inside = zero-le }
+    record { answer = no-piece (from-of (sought-of t)) (found_in t) (sym (tested t) ∙ c.if-is_one_of.true); inside = zero-le }
 
-add-in-file : tie.Need-overflow-add-in-file
+add-in-file : tie.Need-overflow_add-in_file
 add-in-file c = let s = sought-of c.before in omega (arith, fits s, (begun s).pre.0, (begun s).pre.1, (begun s).good)
 
-returns-2 : tie.Need-returns-2
+returns-2 : tie.Need-returns
 returns-2 c =
     let t = c.before in
     let s = sought-of t in
-    let found = spot_is text (rec-of s) (spot_meant (rec-of s) s.seek.result) s.seek.ensures.answer in
+    let found = spot_is text (rec-of s) (spot_meant (rec-of s) s.seek-text.result) s.seek-text.ensures.answer in
     record {
-      answer = some-piece (file-of s) (from-of s) (to-of s) _ _ (found_in t) found (begun s).pre.0 (fits s) (sym (tested t) ∙ c.if1.false);
+      answer = some-piece (file-of s) (from-of s) (to-of s) _ _ (found_in t) found (begun s).pre.0 (fits s) (sym (tested t) ∙ c.if-is_one_of.false);
       inside = omega (arith, fits s, (begun s).pre.0, (begun s).pre.1);
     }
 

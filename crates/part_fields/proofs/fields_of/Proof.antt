@@ -24,7 +24,7 @@ use Rattle.part_fields.proofs.fields_of.Tie as tie
 -- ---- where the walk ended
 
 abbrev Walked : Type 0
-Walked = tie.After-walk-to
+Walked = tie.After-walk_to
 
 abbrev entry : Walked → tie.Start
 entry c = c.before.before.before.before
@@ -41,72 +41,72 @@ before c = (entry c).args.out.now
 abbrev all : Walked → Trace
 all c = trace_of_record (rec-of c) 1 (code_meant (entry c).args.code)
 
-end_is : (c : Walked) (r : Reached) → c.walk-to.result ≡ r → reached_meant (rec-of c) r ≡ walk_end 0 (start_of c) (all c)
-end_is c r e = ap (λ (x : Reached). reached_meant (rec-of c) x) (sym e) ∙ c.walk-to.ensures.answer
+end_is : (c : Walked) (r : Reached) → c.walk_to.result ≡ r → reached_meant (rec-of c) r ≡ walk_end 0 (start_of c) (all c)
+end_is c r e = ap (λ (x : Reached). reached_meant (rec-of c) x) (sym e) ∙ c.walk_to.ensures.answer
 
 -- ---- after so many fields
 
 abbrev Tested : Type 0
-Tested = tie.After-has-room
+Tested = tie.After-has_room
 
 abbrev walked : Tested → Walked
 walked c = c.before.before.before.before.before
 
 abbrev count : Tested → ℕ
-count c = c.before.before.count.given.0.0.0
+count c = c.before.before.count-1.given.0.0.0
 
 count-is : (c : Tested) → over_after (count c) ≡ walk_end 0 (start_of (walked c)) (all (walked c))
-count-is c = end_is (walked c) _ c.before.before.count.given.1
+count-is c = end_is (walked c) _ c.before.before.count-1.given.1
 
 room : (c : Tested) (b : Bool) → c.has_room.result ≡ b → leb (3 * count c) (length (before (walked c))) ≡ b
 room c b e = sym c.has_room.ensures ∙ e
 
-returns : tie.Need-returns
+returns : tie.Need-returns-then-not-has_room
 returns c =
     let t = c.before.before in
     let k = walked t in
-    ap (λ (x : Fields). fields_meant x (before k)) c.refuse2.ensures
-    ∙ no-room-gives (start_of k) (all k) (before k) (count t) (count-is t) (room t false (flip _ _ c.before.if1.true))
+    ap (λ (x : Fields). fields_meant x (before k)) c.refuse-then-not-has_room.ensures
+    ∙ no-room-gives (start_of k) (all k) (before k) (count t) (count-is t) (room t false (flip _ _ c.before.if-not-has_room.true))
 
 -- put into the slice itself
-returns-2 : tie.Need-returns-2
+returns-2 : tie.Need-returns-then-n-gt-HELD
 returns-2 c =
     let h = c.before.before in
     let t = h.before.before.before.before in
     let k = walked t in
-    let fits = room t true (flip _ _ h.before.before.before.if1.false) in
-    gives (start_of k) (all k) (before k) (count t) (count-is t) h.walk-to2.new.1.1.1.1.1.0 fits
-    (h.walk-to2.ensures.out ∙ all-put (start_of k) (all k) (before k) (count t) (count-is t) (before k) (leb-true (3 * count t) (length (before k)) fits))
+    let fits = room t true (flip _ _ h.before.before.before.if-not-has_room.false) in
+    gives (start_of k) (all k) (before k) (count t) (count-is t) h.walk_to-then-n-gt-HELD.new.1.1.1.1.1.0 fits
+    (h.walk_to-then-n-gt-HELD.ensures.out ∙ all-put (start_of k) (all k) (before k) (count t) (count-is t) (before k) (leb-true (3 * count t) (length (before k)) fits))
 
-returns-3 : tie.Need-returns-3
+returns-3 : tie.Need-returns-in-Refused
 returns-3 c =
     let k = c.before.before.before.before in
-    refused-gives (start_of k) (all k) (before k) _ (end_is k _ c.before.why.given.1)
+    refused-gives (start_of k) (all k) (before k) _ (end_is k _ c.before.why-1.given.1)
 
-returns-4 : tie.Need-returns-4
+returns-4 : tie.Need-returns-in-Field
 returns-4 c =
     let k = c.before.before.before.before in
-    absurd (met-never (start_of k) (all k) (before k) _ _ (end_is k _ c.before.enum_told.given.1))
+    absurd (met-never (start_of k) (all k) (before k) _ _ (end_is k _ c.before.enum_told-1.given.1))
 
 -- put into the space of the call's own, then copied
-returns-5 : tie.Need-returns-5
+returns-5 : tie.Need-returns-else-n-gt-HELD
 returns-5 c =
     let p = c.before.before in
     let t = p.before.before.before.before.before.before in
     let k = walked t in
-    let held = k.walk-to.last.1.1.1.1.1.0 in
-    let few = p.before.before.before.before.if2.false in
-    let filled = k.walk-to.ensures.out ∙ all-put (start_of k) (all k) (before k) (count t) (count-is t) _ (omega (arith, few)) in
+    let held = k.walk_to.last.1.1.1.1.1.0 in
+    let few = p.before.before.before.before.if-n-gt-HELD.false in
+    let filled = k.walk_to.ensures.out ∙ all-put (start_of k) (all k) (before k) (count t) (count-is t) _ (omega (arith, few)) in
     let whole : 3 * count t - 0 ≡ 3 * count t = omega arith in
     let lent = ap (λ (n : ℕ). take n held) whole ∙ ap (λ (ns : List ℕ). take (3 * count t) ns) filled in
-    let fits = room t true (flip _ _ p.before.before.before.before.before.if1.false) in
-    gives (start_of k) (all k) (before k) (count t) (count-is t) p.put-numbers.new.0 fits
-    (copied (numbers_passed 0 (start_of k) (all k)) _ (before k) p.put-numbers.new.0 (3 * count t) p.put-numbers.result
+    let fits = room t true (flip _ _ p.before.before.before.before.before.if-not-has_room.false) in
+    gives (start_of k) (all k) (before k) (count t) (count-is t) p.put_numbers.new.0 fits
+    (copied (numbers_passed 0 (start_of k) (all k)) _ (before k) p.put_numbers.new.0 (3 * count t) p.put_numbers.result
     (numbers-size (start_of k) (all k) (before k) (count t) (count-is t))
-    (subst (λ (src : List ℕ). Put src (before k) p.put-numbers.result p.put-numbers.new.0) lent p.put-numbers.ensures) fits)
+    (subst (λ (src : List ℕ). Put src (before k) p.put_numbers.result p.put_numbers.new.0) lent p.put_numbers.ensures) fits)
 
-pub fields-of-spec : {M : Type 1} → statement M
-fields-of-spec =
+pub fields_of_spec : {M : Type 1} → statement M
+fields_of_spec =
     tie.close
     (tie.spec
     (λ c. search rules)

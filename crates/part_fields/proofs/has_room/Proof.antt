@@ -7,17 +7,17 @@ use borrow.Author.Rules.{rules}
 use Rattle.part_fields.proofs.has_room.Statement.{statement}
 use Rattle.part_fields.proofs.has_room.Tie as tie
 
-returns : tie.Need-returns
-returns c = let a = c.before.args in sym (lt-leb (3 * a.fields) a.room (omega (arith, c.if1.true)))
+returns : tie.Need-returns-then-room-fields
+returns c = let a = c.before.args in sym (lt-leb (3 * a.fields) a.room (omega (arith, c.if-room-fields.true)))
 
-returns-2 : tie.Need-returns-2
-returns-2 c = let a = c.before.before.args in sym (lt-leb (3 * a.fields) a.room (omega (arith, c.if2.true, c.before.if1.false)))
+returns-2 : tie.Need-returns-then-room-fields-2
+returns-2 c = let a = c.before.before.args in sym (lt-leb (3 * a.fields) a.room (omega (arith, c.if-room-fields-2.true, c.before.if-room-fields.false)))
 
-returns-3 : tie.Need-returns-3
-returns-3 c = let a = c.before.before.before.args in sym (lt-leb (3 * a.fields) a.room (omega (arith, c.if3.true, c.before.if2.false, c.before.before.if1.false)))
+returns-3 : tie.Need-returns-then-room-fields-3
+returns-3 c = let a = c.before.before.before.args in sym (lt-leb (3 * a.fields) a.room (omega (arith, c.if-room-fields-3.true, c.before.if-room-fields-2.false, c.before.before.if-room-fields.false)))
 
-returns-4 : tie.Need-returns-4
-returns-4 c = let a = c.before.before.before.args in sym (le-leb (3 * a.fields) a.room (omega (arith, c.if3.false, c.before.if2.false, c.before.before.if1.false)))
+returns-4 : tie.Need-returns
+returns-4 c = let a = c.before.before.before.args in sym (le-leb (3 * a.fields) a.room (omega (arith, c.if-room-fields-3.false, c.before.if-room-fields-2.false, c.before.before.if-room-fields.false)))
 
-pub has-room-spec : {M : Type 1} → statement M
-has-room-spec = tie.close (tie.spec returns returns-2 (λ c. search rules) returns-3 returns-4)
+pub has_room_spec : {M : Type 1} → statement M
+has_room_spec = tie.close (tie.spec returns returns-2 (λ c. search rules) returns-3 returns-4)

@@ -9,15 +9,15 @@ use borrow.Author.Rules.{rules}
 use Rattle.part_groups.proofs.account.Statement.{statement}
 use Rattle.part_groups.proofs.account.Tie as tie
 
-bytes-of-requires : tie.Need-bytes-of-requires
-bytes-of-requires c κs = c.find-account.ensures.1
+bytes-of-requires : tie.Need-bytes_of-requires
+bytes-of-requires c κs = c.find_account.ensures.1
 
 returns : tie.Need-returns
 unfolding account_part
 returns c =
     let a = c.before.before.before.args in
-    let f = c.before.find-account in
+    let f = c.before.find_account in
     c.bytes_of.ensures ∙ named-slice a.file.now (account_at a.file.now a.g a.n) (part_meant f.result) f.ensures.0 (account-is-slice a.file.now a.g a.n)
 
-pub account-spec : {M : Type 1} → statement M
-account-spec = tie.close (tie.spec (λ c κs. search rules) bytes-of-requires returns)
+pub account_spec : {M : Type 1} → statement M
+account_spec = tie.close (tie.spec (λ c κs. search rules) bytes-of-requires returns)

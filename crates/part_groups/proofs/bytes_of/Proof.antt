@@ -10,10 +10,10 @@ use Rattle.part_groups.proofs.bytes_of.Tie as tie
 returns : tie.Need-returns
 returns c =
     let a = c.before.before.before.args in
-    let size : a.part.start.0 + a.part.length - a.part.start.0 ≡ a.part.length = omega arith in
-    ap (λ (n : ℕ). take n (drop a.part.start.0 a.file.now)) size
+    let size : a.part.start-1.0 + a.part.length - a.part.start-1.0 ≡ a.part.length = omega arith in
+    ap (λ (n : ℕ). take n (drop a.part.start-1.0 a.file.now)) size
 
-pub bytes-of-spec : {M : Type 1} → statement M
-bytes-of-spec =
+pub bytes_of_spec : {M : Type 1} → statement M
+bytes_of_spec =
     tie.close
     (tie.spec (λ c. search rules) (λ c. search rules) (λ c. search rules) (λ c. search rules) returns)

@@ -6,14 +6,14 @@ use borrow.Author.Rules.{rules}
 use Rattle.part_groups.proofs.find_account.Statement.{statement}
 use Rattle.part_groups.proofs.find_account.Tie as tie
 
-part-within-requires : tie.Need-part-within-requires
-part-within-requires c κs = c.find-group.ensures.1
+part-within-requires : tie.Need-part_within-requires
+part-within-requires c κs = c.find_group.ensures.1
 
 returns : tie.Need-returns
 unfolding group_part account_part account_at in_accounts
 returns c =
     let a = c.before.before.before.args in
-    (c.part-within.ensures.found (group_at a.file.now a.g) c.before.find-group.ensures.0 (outer-group a.file.now a.g), c.part-within.ensures.inside)
+    (c.part_within.ensures.found (group_at a.file.now a.g) c.before.find_group.ensures.0 (outer-group a.file.now a.g), c.part_within.ensures.inside)
 
-pub find-account-spec : {M : Type 1} → statement M
-find-account-spec = tie.close (tie.spec (λ c κs. search rules) part-within-requires returns)
+pub find_account_spec : {M : Type 1} → statement M
+find_account_spec = tie.close (tie.spec (λ c κs. search rules) part-within-requires returns)

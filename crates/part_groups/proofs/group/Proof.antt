@@ -9,15 +9,15 @@ use borrow.Author.Rules.{rules}
 use Rattle.part_groups.proofs.group.Statement.{statement}
 use Rattle.part_groups.proofs.group.Tie as tie
 
-bytes-of-requires : tie.Need-bytes-of-requires
-bytes-of-requires c κs = c.find-group.ensures.1
+bytes-of-requires : tie.Need-bytes_of-requires
+bytes-of-requires c κs = c.find_group.ensures.1
 
 returns : tie.Need-returns
 unfolding group_part
 returns c =
     let a = c.before.before.before.args in
-    let f = c.before.find-group in
+    let f = c.before.find_group in
     c.bytes_of.ensures ∙ named-slice a.file.now (group_at a.file.now a.n) (part_meant f.result) f.ensures.0 (group-is-slice a.file.now a.n)
 
-pub group-spec : {M : Type 1} → statement M
-group-spec = tie.close (tie.spec (λ c κs. search rules) bytes-of-requires returns)
+pub group_spec : {M : Type 1} → statement M
+group_spec = tie.close (tie.spec (λ c κs. search rules) bytes-of-requires returns)

@@ -16,24 +16,24 @@ use borrow.Author.Rules.{rules}
 use Rattle.part_groups.proofs.nth_part.Statement.{statement}
 use Rattle.part_groups.proofs.nth_part.Tie as tie
 
-abbrev invariant-loop : tie.invariant-loop
+abbrev invariant-loop : tie.invariant-loop-opening
 invariant-loop s opening closing n at₀ left₀ at left =
     (at ≤ length s)
     × ((e : Envelope (code_meant opening) (code_meant closing) (file_records s))
     → Left (code_meant opening) (code_meant closing) e.others s (part_in 0 (cut_at (code_meant opening) (code_meant closing) (file_records s)) n) at left)
 
-abbrev decreases-loop : tie.decreases-loop
+abbrev decreases-loop : tie.decreases-loop-opening
 decreases-loop s opening closing n at₀ left₀ at left = length s - at
 
-loop-holds : tie.Need-loop-init invariant-loop decreases-loop
-loop-holds c = (omega (arith, c.record-end.ensures.1), started _ _ _ _ _ c.record-end.ensures.0)
+loop-holds : tie.Need-loop-opening-init invariant-loop decreases-loop
+loop-holds c = (omega (arith, c.record_end-at.ensures.1), started _ _ _ _ _ c.record_end-at.ensures.0)
 
 -- ---- in a turn, once the part's end is known
 
 abbrev Turn : Type 0
-Turn = tie.After-next-line-of invariant-loop decreases-loop
+Turn = tie.After-next_line_of-e invariant-loop decreases-loop
 
-abbrev head : Turn → tie.At-loop invariant-loop decreases-loop
+abbrev head : Turn → tie.At-loop-opening invariant-loop decreases-loop
 head c = c.before.before.before.before
 
 abbrev entry : Turn → tie.Start invariant-loop decreases-loop
@@ -49,66 +49,66 @@ abbrev closing-of : Turn → rules.Code
 closing-of c = code_meant (entry c).args.closing
 
 abbrev at_of : Turn → ℕ
-at_of c = (head c).loop.at
+at_of c = (head c).loop-opening.at
 
 -- where its first record ends, and where it ends
 abbrev first-end : Turn → ℕ
-first-end c = c.before.record-end2.result.0
+first-end c = c.before.record_end-after.result.0
 
 abbrev end_of : Turn → ℕ
-end_of c = c.next-line-of.result.0
+end_of c = c.next_line_of-e.result.0
 
 begun : (c : Turn) → same_bytes (code_bytes (opening_of c)) (take 3 (drop (at_of c) (s-of c))) ≡ true
-begun c = sym c.before.before.before.begins.ensures ∙ c.before.before.if1.true
+begun c = sym c.before.before.before.begins.ensures ∙ c.before.before.loop-opening-test.true
 
 places : (c : Turn) → (at_of c < end_of c) × (end_of c ≤ length (s-of c))
 places c =
     spans (opening_of c) (closing-of c) (s-of c) (at_of c) (first-end c) (end_of c) (begun c)
-    (head c).loop.invariant.0 c.before.record-end2.ensures c.next-line-of.ensures
+    (head c).loop-opening.invariant.0 c.before.record_end-after.ensures c.next_line_of-e.ensures
 
-sub-length : tie.Need-overflow-sub-length invariant-loop decreases-loop
+sub-length : tie.Need-overflow_sub-length invariant-loop decreases-loop
 sub-length c = omega (arith, places c.before)
 
 -- it is the one sought
-returns : tie.Need-returns invariant-loop decreases-loop
+returns : tie.Need-returns-then-left-eq0 invariant-loop decreases-loop
 returns c =
     let t = c.before in
     record {
       found = λ e.
           hit (opening_of t) (closing-of t) e.others e.apart (s-of t) (at_of t) (first-end t) (end_of t) (begun t)
-          t.before.record-end2.ensures.0 t.next-line-of.ensures.0 _ _ c.if2.true ((head t).loop.invariant.1 e);
+          t.before.record_end-after.ensures.0 t.next_line_of-e.ensures.0 _ _ c.if-left-eq0.true ((head t).loop-opening.invariant.1 e);
       inside = omega (arith, places t);
     }
 
 -- the search goes on after it
-loop-less : tie.Need-loop-smaller invariant-loop decreases-loop
+loop-less : tie.Need-loop-opening-smaller invariant-loop decreases-loop
 loop-less c = omega (arith, places c.before)
 
-loop-again : tie.Need-loop-preserved invariant-loop decreases-loop
+loop-again : tie.Need-loop-opening-preserved invariant-loop decreases-loop
 loop-again c =
     let t = c.before in (
       (places t).1,
       λ e.
           go (opening_of t) (closing-of t) e.others e.apart (s-of t) (at_of t) (first-end t) (end_of t) (begun t)
-          t.before.record-end2.ensures.0 t.next-line-of.ensures.0 _ _ (omega arith) ((head t).loop.invariant.1 e),
+          t.before.record_end-after.ensures.0 t.next_line_of-e.ensures.0 _ _ (omega arith) ((head t).loop-opening.invariant.1 e),
     )
 
 -- ---- no part is left
 
-returns-2 : tie.Need-returns-2 invariant-loop decreases-loop
+returns-2 : tie.Need-returns invariant-loop decreases-loop
 returns-2 c =
     let l = c.before.before.before in
     let a = l.before.before.before.args in
     record {
       found = λ e.
-          c.no-part.ensures
+          c.no_part.ensures
           ∙ missed (code_meant a.opening) (code_meant a.closing) e.others e.apart a.s.now _ _ _
-          (sym c.before.before.begins.ensures ∙ c.before.if1.false) (l.loop.invariant.1 e);
-      inside = subst (Inside a.s.now) (sym c.no-part.ensures) (omega arith);
+          (sym c.before.before.begins.ensures ∙ c.before.loop-opening-test.false) (l.loop-opening.invariant.1 e);
+      inside = subst (Inside a.s.now) (sym c.no_part.ensures) (omega arith);
     }
 
-pub nth-part-spec : {M : Type 1} → statement M
-nth-part-spec =
+pub nth_part_spec : {M : Type 1} → statement M
+nth_part_spec =
     tie.close
     (tie.spec
     invariant-loop

@@ -15,24 +15,24 @@ use Rattle.part_groups.proofs.part_within.Tie as tie
 
 -- ---- the outer part was refused
 
-returns : tie.Need-returns
+returns : tie.Need-returns-then-why-ne0
 returns c =
     let a = c.before.before.before.before.before.args in
     record {
-      found = λ o e u. c.no-part.ensures ∙ same-refusal (part_meant a.outer) o _ e c.before.if1.true;
-      inside = subst (Inside a.file.now) (sym c.no-part.ensures) (omega arith);
+      found = λ o e u. c.no_part.ensures ∙ same-refusal (part_meant a.outer) o _ e c.before.if-why-ne0.true;
+      inside = subst (Inside a.file.now) (sym c.no_part.ensures) (omega arith);
     }
 
-add-to : tie.Need-overflow-add-to
+add-to : tie.Need-overflow_add-to
 add-to c = omega (arith, c.before.before.before.before.before.before.requires)
 
-part-nth-part-end : tie.Need-slice-bounds-nth-part-end
+part-nth-part-end : tie.Need-slice_bounds-nth_part-end
 part-nth-part-end c = omega (arith, c.before.before.before.before.before.before.requires)
 
 -- ---- once the inner part was sought
 
 abbrev Sought : Type 0
-Sought = tie.After-nth-part
+Sought = tie.After-nth_part-inner
 
 abbrev begun : Sought → tie.Start
 begun c = c.before.before.before.before.before.before.before.before
@@ -50,32 +50,32 @@ abbrev outer-of : Sought → PartAnswer
 outer-of c = part_meant (begun c).args.outer
 
 abbrev inner_of : Sought → PartAnswer
-inner_of c = part_meant c.nth-part.result
+inner_of c = part_meant c.nth_part-inner.result
 
 fits : (c : Sought) → (outer-of c).start + ((inner_of c).start + (inner_of c).len) ≤ length (file-of c)
-fits c = inner-fits (opening_of c) (closing-of c) (file-of c) _ (outer-of c) (inner_of c) c.before.before.before.before.if1.false c.nth-part.ensures (begun c).requires
+fits c = inner-fits (opening_of c) (closing-of c) (file-of c) _ (outer-of c) (inner_of c) c.before.before.before.before.if-why-ne0.false c.nth_part-inner.ensures (begun c).requires
 
-returns-2 : tie.Need-returns-2
+returns-2 : tie.Need-returns-then-missing-ne0
 returns-2 c =
     let s = c.before.before.before in
     record {
-      found = inner-refused (opening_of s) (closing-of s) (file-of s) _ (outer-of s) (inner_of s) s.before.before.before.before.if1.false s.nth-part.ensures c.if2.true;
+      found = inner-refused (opening_of s) (closing-of s) (file-of s) _ (outer-of s) (inner_of s) s.before.before.before.before.if-why-ne0.false s.nth_part-inner.ensures c.if-missing-ne0.true;
       inside = omega (arith, fits s);
     }
 
-add_start : tie.Need-overflow-add-start
+add_start : tie.Need-overflow_add-start
 add_start c = let s = c.before.before.before.before.before in omega (arith, (begun s).well-formed, fits s)
 
-returns-3 : tie.Need-returns-3
+returns-3 : tie.Need-returns
 returns-3 c =
     let s = c.before.before.before.before.before in
     record {
-      found = inner-found (opening_of s) (closing-of s) (file-of s) _ (outer-of s) (inner_of s) s.before.before.before.before.if1.false s.nth-part.ensures c.before.before.if2.false;
+      found = inner-found (opening_of s) (closing-of s) (file-of s) _ (outer-of s) (inner_of s) s.before.before.before.before.if-why-ne0.false s.nth_part-inner.ensures c.before.before.if-missing-ne0.false;
       inside = omega (arith, fits s);
     }
 
-pub part-within-spec : {M : Type 1} → statement M
-part-within-spec =
+pub part_within_spec : {M : Type 1} → statement M
+part_within_spec =
     tie.close
     (tie.spec
     (λ c κs. search rules)

@@ -8,44 +8,44 @@ use borrow.Author.Rules.{rules}
 use Rattle.part_items.proofs.item.Statement.{statement}
 use Rattle.part_items.proofs.item.Tie as tie
 
-returns : tie.Need-returns
+returns : tie.Need-returns-then-refusal-ne0
 returns c =
     let p = c.before.before.before.before in
     let a = p.before.before.args in
-    c.no_item.ensures ∙ account-refused a.file.now a.g a.a a.n (part_meant p.find-account.result) p.find-account.ensures.0 c.before.if1.true
+    c.no_item.ensures ∙ account-refused a.file.now a.g a.a a.n (part_meant p.find_account-part.result) p.find_account-part.ensures.0 c.before.if-refusal-ne0.true
 
 -- where the 03 was searched
 abbrev Searched : Type 0
-Searched = tie.After-item-in
+Searched = tie.After-item_in
 
-abbrev part_of : Searched → tie.After-find-account
+abbrev part_of : Searched → tie.After-find_account-part
 part_of c = c.before.before.before.before.before.before.before
 
-add-to : tie.Need-overflow-add-to
-add-to c = let p = c.before.before.before.before.before in omega (arith, p.find-account.ensures.1, p.before.before.well-formed)
+add-to : tie.Need-overflow_add-to
+add-to c = let p = c.before.before.before.before.before in omega (arith, p.find_account-part.ensures.1, p.before.before.well-formed)
 
-part_end : tie.Need-slice-bounds-item-in-end
-part_end c = c.before.before.before.before.before.find-account.ensures.1
+part_end : tie.Need-slice_bounds-item_in-end
+part_end c = c.before.before.before.before.before.find_account-part.ensures.1
 
-returns-2 : tie.Need-returns-2
+returns-2 : tie.Need-returns-in-NoItem
 returns-2 c =
     let s = c.before.before.before in
     let p = part_of s in
     let a = p.before.before.args in
-    c.no-item2.ensures
-    ∙ none_found a.file.now a.n (part_meant p.find-account.result) a.g a.a p.find-account.ensures.0 s.before.before.before.before.if1.false
-    (sym (ap found_meant c.before.enum_told.given.1) ∙ s.item_in.ensures)
+    c.no_item-in-NoItem.ensures
+    ∙ none_found a.file.now a.n (part_meant p.find_account-part.result) a.g a.a p.find_account-part.ensures.0 s.before.before.before.before.if-refusal-ne0.false
+    (sym (ap found_meant c.before.enum_told-1.given.1) ∙ s.item_in.ensures)
 
-returns-3 : tie.Need-returns-3
+returns-3 : tie.Need-returns-in-Item
 returns-3 c =
     let s = c.before.before.before in
     let p = part_of s in
     let a = p.before.before.args in
-    one_found a.file.now a.n (part_meant p.find-account.result) a.g a.a p.find-account.ensures.0 s.before.before.before.before.if1.false _
-    (sym (ap found_meant c.before.type-code.given.1) ∙ s.item_in.ensures)
+    one_found a.file.now a.n (part_meant p.find_account-part.result) a.g a.a p.find_account-part.ensures.0 s.before.before.before.before.if-refusal-ne0.false _
+    (sym (ap found_meant c.before.type_code-1.given.1) ∙ s.item_in.ensures)
 
-pub item-spec : {M : Type 1} → statement M
-item-spec =
+pub item_spec : {M : Type 1} → statement M
+item_spec =
     tie.close
     (tie.spec
     (λ c κs. search rules)

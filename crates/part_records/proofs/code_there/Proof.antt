@@ -11,50 +11,50 @@ use borrow.Author.Rules.{rules}
 use Rattle.part_records.proofs.code_there.Statement.{statement}
 use Rattle.part_records.proofs.code_there.Tie as tie
 
-abbrev invariant-loop : tie.invariant-loop
+abbrev invariant-loop : tie.invariant-loop-i
 invariant-loop file start codes i₀ i = (i ≤ 8) × (code_of (first_line (drop start.0 file)) ≡ code_in (drop i (meant codes)) (first_line (drop start.0 file)))
 
-abbrev decreases-loop : tie.decreases-loop
+abbrev decreases-loop : tie.decreases-loop-i
 decreases-loop file start codes i₀ i = 8 - i
 
 -- ---- at a code
 
 abbrev Asked : Type 0
-Asked = tie.After-begins2 invariant-loop decreases-loop
+Asked = tie.After-begins-in-loop-i invariant-loop decreases-loop
 
 abbrev there : Asked → Bytes
 there c = let a = c.before.before.before.before.before.before.before.args in drop a.start.0 a.file.now
 
-loop-holds : tie.Need-loop-init invariant-loop decreases-loop
+loop-holds : tie.Need-loop-i-init invariant-loop decreases-loop
 unfolding code_of meant
 loop-holds c = (omega arith, refl)
 
 -- a detail, at once
-returns : tie.Need-returns invariant-loop decreases-loop
+returns : tie.Need-returns-then-begins invariant-loop decreases-loop
 returns c =
     let b = c.before in
     let a = b.before.before.args in
-    sym (detail-found (drop a.start.0 a.file.now) (sym b.begins.ensures ∙ c.if1.true))
+    sym (detail-found (drop a.start.0 a.file.now) (sym b.begins.ensures ∙ c.if-begins.true))
 
-returns-2 : tie.Need-returns-2 invariant-loop decreases-loop
+returns-2 : tie.Need-returns-then-begins-2 invariant-loop decreases-loop
 returns-2 c =
     let a = c.before in
-    sym (a.before.before.before.loop.invariant.1 ∙ code-found (there a) _ a.before.before.before.loop.i _ a.before.before.loop-test.true (sym a.begins2.ensures ∙ c.if2.true))
+    sym (a.before.before.before.loop-i.invariant.1 ∙ code-found (there a) _ a.before.before.before.loop-i.i _ a.before.before.loop-i-test.true (sym a.begins-in-loop-i.ensures ∙ c.if-begins-2.true))
 
-loop-again : tie.Need-loop-preserved invariant-loop decreases-loop
+loop-again : tie.Need-loop-i-preserved invariant-loop decreases-loop
 loop-again c =
     let a = c.before in
-    let l = a.before.before.before.loop in
-    (omega (arith, a.before.before.loop-test.true), l.invariant.1 ∙ code-passed (there a) _ l.i _ a.before.before.loop-test.true (sym a.begins2.ensures ∙ c.if2.false))
+    let l = a.before.before.before.loop-i in
+    (omega (arith, a.before.before.loop-i-test.true), l.invariant.1 ∙ code-passed (there a) _ l.i _ a.before.before.loop-i-test.true (sym a.begins-in-loop-i.ensures ∙ c.if-begins-2.false))
 
-returns-3 : tie.Need-returns-3 invariant-loop decreases-loop
+returns-3 : tie.Need-returns invariant-loop decreases-loop
 returns-3 c =
-    let l = c.before.loop in
+    let l = c.before.loop-i in
     let a = c.before.before.before.before.before.args in
-    sym (l.invariant.1 ∙ none_left (drop a.start.0 a.file.now) _ l.i c.loop-test.false)
+    sym (l.invariant.1 ∙ none_left (drop a.start.0 a.file.now) _ l.i c.loop-i-test.false)
 
-pub code-there-spec : {M : Type 1} → statement M
-code-there-spec =
+pub code_there_spec : {M : Type 1} → statement M
+code_there_spec =
     tie.close
     (tie.spec
     invariant-loop

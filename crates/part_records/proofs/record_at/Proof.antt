@@ -5,7 +5,7 @@ use mathlib.Core.Path.{◌≡◌, sym, ap, ◌∙◌}
 use mathlib.Core.Option.{some}
 use lib.ListN.{length, drop}
 use Rattle.rules.specs.Bytes.{Bytes}
-use Rattle.rules.specs.Lines.{code_of}
+use Rattle.rules.specs.lines-1.{code_of}
 use Rattle.base_codes.specs.CodeMeaning.{code_meant}
 use Rattle.read_lines.specs.LineLengths.{first_line}
 use Rattle.read_lines.specs.LineAnswers.{code_found}
@@ -19,7 +19,7 @@ use Rattle.part_records.proofs.record_at.Tie as tie
 abbrev Next : Type 0
 Next = tie.After-begins
 
-abbrev coded : Next → tie.After-code-there
+abbrev coded : Next → tie.After-code_there
 coded c = c.before.before.before.before.before
 
 abbrev entry : Next → tie.Start
@@ -32,32 +32,32 @@ abbrev start_of : Next → ℕ
 start_of c = (entry c).args.start.0
 
 abbrev next_of : Next → ℕ
-next_of c = c.before.next-line.result.0
+next_of c = c.before.next_line-next.result.0
 
 next-in : (c : Next) → (start_of c ≤ next_of c) × (next_of c ≤ length (file-of c))
-next-in c = (omega (arith, c.before.next-line.ensures.0), omega (arith, (coded c).before.if1.false, c.before.next-line.ensures.1))
+next-in c = (omega (arith, c.before.next_line-next.ensures.0), omega (arith, (coded c).before.if-file-start.false, c.before.next_line-next.ensures.1))
 
-code_is : (c : Next) → some (code_meant c.before.before.before.code.given.0.0) ≡ code_of (first_line (drop (start_of c) (file-of c)))
-code_is c = sym (ap code_found c.before.before.before.code.given.1) ∙ (coded c).code-there.ensures
+code_is : (c : Next) → some (code_meant c.before.before.before.code-1.given.0.0) ≡ code_of (first_line (drop (start_of c) (file-of c)))
+code_is c = sym (ap code_found c.before.before.before.code-1.given.1) ∙ (coded c).code_there.ensures
 
 -- ---- after the record's 88 lines
 
 abbrev Ended : Type 0
-Ended = tie.After-further-lines
+Ended = tie.After-further_lines-further
 
 abbrev next : Ended → Next
 next c = c.before.before
 
-ends : (c : Ended) → c.further-lines.result.end.0 ≤ length (file-of (next c))
-ends c = omega (arith, (next-in (next c)).1, c.further-lines.ensures.within)
+ends : (c : Ended) → c.further_lines-further.result.end.0 ≤ length (file-of (next c))
+ends c = omega (arith, (next-in (next c)).1, c.further_lines-further.ensures.within)
 
-starts : (c : Ended) → start_of (next c) + c.further-lines.result.count.0 ≤ c.further-lines.result.end.0
-starts c = omega (arith, (next-in (next c)).0, c.further-lines.ensures.few)
+starts : (c : Ended) → start_of (next c) + c.further_lines-further.result.count.0 ≤ c.further_lines-further.result.end.0
+starts c = omega (arith, (next-in (next c)).0, c.further_lines-further.ensures.few)
 
-returns : tie.Need-returns
+returns : tie.Need-returns-then-file-start
 returns c =
     let a = c.before.before.before.before.args in
-    past_finds a.file.now a.start.0 _ c.refuse.ensures c.before.if1.true
+    past_finds a.file.now a.start.0 _ c.refuse.ensures c.before.if-file-start.true
 
 add-t15 : tie.Need-overflow-add-t15
 add-t15 c = let e = c.before.before.before in omega (arith, ends e, starts e, (entry (next e)).well-formed)
@@ -65,31 +65,31 @@ add-t15 c = let e = c.before.before.before in omega (arith, ends e, starts e, (e
 sub-t17 : tie.Need-overflow-sub-t17
 sub-t17 c = omega (arith, starts c.before.before.before.before.before)
 
-returns-2 : tie.Need-returns-2
+returns-2 : tie.Need-returns-then-begins
 returns-2 c =
     let e = c.before.before.before.before.before in
     let n = next e in
-    coded-finds (file-of n) (start_of n) (coded n).before.if1.left _ (code_is n)
-    (next_of n) e.further-lines.result.count.0 e.further-lines.result.end.0
-    n.before.next-line.ensures.0 e.further-lines.ensures.count e.further-lines.ensures.ends (ends e) (omega (arith, starts e))
+    coded-finds (file-of n) (start_of n) (coded n).before.if-file-start.left _ (code_is n)
+    (next_of n) e.further_lines-further.result.count.0 e.further_lines-further.result.end.0
+    n.before.next_line-next.ensures.0 e.further_lines-further.ensures.count e.further_lines-further.ensures.ends (ends e) (omega (arith, starts e))
 
 sub-t19 : tie.Need-overflow-sub-t19
 sub-t19 c = (next-in c.before.before.before).0
 
-returns-3 : tie.Need-returns-3
+returns-3 : tie.Need-returns-in-None
 returns-3 c =
     let found = c.before.before.before in
     let a = found.before.before.before.before.args in
-    uncoded-finds a.file.now a.start.0 found.before.if1.false _ c.refuse2.ensures (sym (ap code_found c.before.enum_told.given.1) ∙ found.code-there.ensures)
+    uncoded-finds a.file.now a.start.0 found.before.if-file-start.false _ c.refuse-in-None.ensures (sym (ap code_found c.before.enum_told-1.given.1) ∙ found.code_there.ensures)
 
-returns-4 : tie.Need-returns-4
+returns-4 : tie.Need-returns-else-begins
 returns-4 c =
     let n = c.before.before.before in
-    single-finds (file-of n) (start_of n) (coded n).before.if1.false _ (code_is n)
-    (next_of n) n.before.next-line.ensures.0 (sym n.begins.ensures ∙ c.before.before.if2.false) (next-in n).1 (next-in n).0
+    single-finds (file-of n) (start_of n) (coded n).before.if-file-start.false _ (code_is n)
+    (next_of n) n.before.next_line-next.ensures.0 (sym n.begins.ensures ∙ c.before.before.if-begins.false) (next-in n).1 (next-in n).0
 
-pub record-at-spec : {M : Type 1} → statement M
-record-at-spec =
+pub record_at_spec : {M : Type 1} → statement M
+record_at_spec =
     tie.close
     (tie.spec
     (λ c κs. search rules)

@@ -9,27 +9,27 @@ use Rattle.read_field_ends.proofs.FieldLengthLaws.{until_stop, until-on, until_e
 use Rattle.read_field_ends.proofs.blanks_len.Statement.{statement}
 use Rattle.read_field_ends.proofs.blanks_len.Tie as tie
 
-abbrev invariant-loop : tie.invariant-loop
+abbrev invariant-loop : tie.invariant-loop-i
 invariant-loop f i₀ i = (i ≤ length f) × (i + until no_blank (drop i f) ≡ until no_blank f)
 
-abbrev decreases-loop : tie.decreases-loop
+abbrev decreases-loop : tie.decreases-loop-i
 decreases-loop f i₀ i = length f - i
 
-returns : tie.Need-returns invariant-loop decreases-loop
+returns : tie.Need-returns-then-f-i-ne32 invariant-loop decreases-loop
 returns c =
     let l = c.before.before.before in
-    (until_stop no_blank _ _ l.loop.invariant.1 c.before.before.loop-test.true (blank_none _ c.if1.true) ∙ blanks-until _, omega arith)
+    (until_stop no_blank _ _ l.loop-i.invariant.1 c.before.before.loop-i-test.true (blank_none _ c.if-f-i-ne32.true) ∙ blanks-until _, omega arith)
 
-loop-again : tie.Need-loop-preserved invariant-loop decreases-loop
+loop-again : tie.Need-loop-i-preserved invariant-loop decreases-loop
 loop-again c =
     let l = c.before.before.before in
-    (omega arith, until-on no_blank _ _ l.loop.invariant.1 c.before.before.loop-test.true (blank-here _ c.if1.false))
+    (omega arith, until-on no_blank _ _ l.loop-i.invariant.1 c.before.before.loop-i-test.true (blank-here _ c.if-f-i-ne32.false))
 
-returns-2 : tie.Need-returns-2 invariant-loop decreases-loop
-returns-2 c = (until_end no_blank _ _ c.before.loop.invariant.1 c.loop-test.false ∙ blanks-until _, omega arith)
+returns-2 : tie.Need-returns invariant-loop decreases-loop
+returns-2 c = (until_end no_blank _ _ c.before.loop-i.invariant.1 c.loop-i-test.false ∙ blanks-until _, omega arith)
 
-pub blanks-len-spec : {M : Type 1} → statement M
-blanks-len-spec =
+pub blanks_len_spec : {M : Type 1} → statement M
+blanks_len_spec =
     tie.close
     (tie.spec
     invariant-loop

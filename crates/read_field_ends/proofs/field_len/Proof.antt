@@ -9,32 +9,32 @@ use Rattle.read_field_ends.proofs.FieldLengthLaws.{until_stop, until-on, until_e
 use Rattle.read_field_ends.proofs.field_len.Statement.{statement}
 use Rattle.read_field_ends.proofs.field_len.Tie as tie
 
-abbrev invariant-loop : tie.invariant-loop
+abbrev invariant-loop : tie.invariant-loop-i
 invariant-loop f i₀ i = (i ≤ length f) × (i + until is_mark (drop i f) ≡ until is_mark f)
 
-abbrev decreases-loop : tie.decreases-loop
+abbrev decreases-loop : tie.decreases-loop-i
 decreases-loop f i₀ i = length f - i
 
-returns : tie.Need-returns invariant-loop decreases-loop
+returns : tie.Need-returns-then-f-i-eq44 invariant-loop decreases-loop
 returns c =
     let l = c.before.before.before in
-    (until_stop is_mark _ _ l.loop.invariant.1 c.before.before.loop-test.true (mark-comma _ c.if1.true), omega arith)
+    (until_stop is_mark _ _ l.loop-i.invariant.1 c.before.before.loop-i-test.true (mark-comma _ c.if-f-i-eq44.true), omega arith)
 
-returns-2 : tie.Need-returns-2 invariant-loop decreases-loop
+returns-2 : tie.Need-returns-then-f-i-eq47 invariant-loop decreases-loop
 returns-2 c =
     let l = c.before.before.before.before in
-    (until_stop is_mark _ _ l.before.loop.invariant.1 l.loop-test.true (mark-slash _ c.if2.true), omega arith)
+    (until_stop is_mark _ _ l.before.loop-i.invariant.1 l.loop-i-test.true (mark-slash _ c.if-f-i-eq47.true), omega arith)
 
-loop-again : tie.Need-loop-preserved invariant-loop decreases-loop
+loop-again : tie.Need-loop-i-preserved invariant-loop decreases-loop
 loop-again c =
     let l = c.before.before.before.before in
-    (omega arith, until-on is_mark _ _ l.before.loop.invariant.1 l.loop-test.true (mark-none _ c.before.before.if1.false c.if2.false))
+    (omega arith, until-on is_mark _ _ l.before.loop-i.invariant.1 l.loop-i-test.true (mark-none _ c.before.before.if-f-i-eq44.false c.if-f-i-eq47.false))
 
-returns-3 : tie.Need-returns-3 invariant-loop decreases-loop
-returns-3 c = (until_end is_mark _ _ c.before.loop.invariant.1 c.loop-test.false, omega arith)
+returns-3 : tie.Need-returns invariant-loop decreases-loop
+returns-3 c = (until_end is_mark _ _ c.before.loop-i.invariant.1 c.loop-i-test.false, omega arith)
 
-pub field-len-spec : {M : Type 1} → statement M
-field-len-spec =
+pub field_len_spec : {M : Type 1} → statement M
+field_len_spec =
     tie.close
     (tie.spec
     invariant-loop

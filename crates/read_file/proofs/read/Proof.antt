@@ -6,15 +6,15 @@ use Rattle.read_file.specs.declared.Judged.{Judged}
 use Rattle.read_file.proofs.read.Statement.{statement}
 use Rattle.read_file.proofs.read.Tie as tie
 
-returns : tie.Need-returns
+returns : tie.Need-returns-in-Accepted
 returns c =
     let j = c.before.before.before.before in
-    sym (subst (λ (v : Judged). JudgedIs v j.before.before.args.file.now) c.before.before.good2.given.1 j.judge-file.ensures).accepts
+    sym (subst (λ (v : Judged). JudgedIs v j.before.before.args.file.now) c.before.before.good2.given.1 j.judge_file.ensures).accepts
 
-returns-2 : tie.Need-returns-2
+returns-2 : tie.Need-returns-in-Refused
 returns-2 c =
     let j = c.before.before.before in
-    sym (subst (λ (v : Judged). JudgedIs v j.before.before.args.file.now) c.before.why.given.1 j.judge-file.ensures)
+    sym (subst (λ (v : Judged). JudgedIs v j.before.before.args.file.now) c.before.why-1.given.1 j.judge_file.ensures)
 
 pub read_spec : {M : Type 1} → statement M
 read_spec = tie.close (tie.spec (λ c κs. search rules) (λ c. search rules) (λ c. search rules) returns returns-2)

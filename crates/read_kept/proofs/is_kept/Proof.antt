@@ -5,26 +5,26 @@ use borrow.Author.Rules.{rules}
 use Rattle.read_kept.proofs.is_kept.Statement.{statement}
 use Rattle.read_kept.proofs.is_kept.Tie as tie
 
-returns : tie.Need-returns
-returns c = rw (sym c.before.before.kept_for.ensures ∙ ap keep_meant c.enum_told.given.1)
+returns : tie.Need-returns-in-Amount
+returns c = rw (sym c.before.before.kept_for.ensures ∙ ap keep_meant c.enum_told-1.given.1)
 
-returns-2 : tie.Need-returns-2
-returns-2 c = rw (sym c.before.before.kept_for.ensures ∙ ap keep_meant c.enum-told2.given.1)
+returns-2 : tie.Need-returns-in-Total
+returns-2 c = rw (sym c.before.before.kept_for.ensures ∙ ap keep_meant c.enum_told-in-Total-1.given.1)
 
-returns-3 : tie.Need-returns-3
-returns-3 c = rw (sym c.before.before.kept_for.ensures ∙ ap keep_meant c.enum-told3.given.1)
+returns-3 : tie.Need-returns-in-Count
+returns-3 c = rw (sym c.before.before.kept_for.ensures ∙ ap keep_meant c.enum_told-in-Count-1.given.1)
 
-returns-4 : tie.Need-returns-4
-returns-4 c = rw (sym c.before.before.kept_for.ensures ∙ ap keep_meant c.enum-told4.given.1)
+returns-4 : tie.Need-returns-in-Records
+returns-4 c = rw (sym c.before.before.kept_for.ensures ∙ ap keep_meant c.enum_told-in-Records-1.given.1)
 
-returns-5 : tie.Need-returns-5
-returns-5 c = rw (sym c.before.before.kept_for.ensures ∙ ap keep_meant c.enum-told5.given.1)
+returns-5 : tie.Need-returns-in-Length
+returns-5 c = rw (sym c.before.before.kept_for.ensures ∙ ap keep_meant c.enum_told-in-Length-1.given.1)
 
-returns-6 : tie.Need-returns-6
-returns-6 c = rw (sym c.before.before.kept_for.ensures ∙ ap keep_meant c.enum-told6.given.1)
+returns-6 : tie.Need-returns-in-Nothing
+returns-6 c = rw (sym c.before.before.kept_for.ensures ∙ ap keep_meant c.enum_told-in-Nothing-1.given.1)
 
-pub is-kept-spec : {M : Type 1} → statement M
-is-kept-spec =
+pub is_kept_spec : {M : Type 1} → statement M
+is_kept_spec =
     tie.close
     (tie.spec
     (λ c κs. search rules)

@@ -5,17 +5,17 @@ use Rattle.read_line_checks.proofs.LineCheckLaws.{first-stop}
 use Rattle.read_line_checks.proofs.scan_record.Statement.{statement}
 use Rattle.read_line_checks.proofs.scan_record.Tie as tie
 
-scan-further-requires : tie.Need-scan-further-requires
-scan-further-requires c κs = (omega arith, rw c.before.code.given.1 at c.before.before.before.good-line.ensures)
+scan-further-requires : tie.Need-scan_further-requires
+scan-further-requires c κs = (omega arith, rw c.before.code-1.given.1 at c.before.before.before.good_line.ensures)
 
-returns-2 : tie.Need-returns-2
+returns-2 : tie.Need-returns-in-Refused
 returns-2 c =
     let a = c.before.before.before.before.before.before.args in
-    let g = rw c.before.why.given.1 at c.before.before.before.good-line.ensures in
+    let g = rw c.before.why-1.given.1 at c.before.before.before.good_line.ensures in
     record { stops = first-stop a.limit a.s.now (omega arith) _ g.0; some_byte = omega arith; within = omega (arith, g.1) }
 
-pub scan-record-spec : {M : Type 1} → statement M
-scan-record-spec =
+pub scan_record_spec : {M : Type 1} → statement M
+scan_record_spec =
     tie.close
     (tie.spec
     (λ c. search rules)

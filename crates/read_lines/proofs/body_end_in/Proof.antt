@@ -13,23 +13,23 @@ use Rattle.read_lines.proofs.body_end_in.Tie as tie
 add-if1 : tie.Need-overflow-add-if1
 add-if1 c =
     let a = c.before.before.before.before.args in
-    let e = c.before.before.body-end.result.0 in
-    let h = next-within a.s.now a.start.0 e (e + c.before.end-len.result) c.before.before.body-end.ensures.0 (rw c.before.end-len.ensures) in
+    let e = c.before.before.body_end-e.result.0 in
+    let h = next-within a.s.now a.start.0 e (e + c.before.end_len.result) c.before.before.body_end-e.ensures.0 (rw c.before.end_len.ensures) in
     omega arith
 
-returns : tie.Need-returns
+returns : tie.Need-returns-then-e-end_len
 returns c =
     let a = c.before.before.before.before.before.args in
-    let e = c.before.before.before.body-end.result.0 in
-    body-in a.s.now a.size a.start.0 e (e + c.before.before.end-len.result) c.before.before.before.body-end.ensures.0 (rw c.before.before.end-len.ensures) c.if1.true
+    let e = c.before.before.before.body_end-e.result.0 in
+    body-in a.s.now a.size a.start.0 e (e + c.before.before.end_len.result) c.before.before.before.body_end-e.ensures.0 (rw c.before.before.end_len.ensures) c.if-e-end_len.true
 
-returns-2 : tie.Need-returns-2
+returns-2 : tie.Need-returns
 returns-2 c =
     let a = c.before.before.before.before.before.before.before.args in
-    c.body-end2.ensures.0 ∙ ap (λ (bs : Bytes). a.start.0 + body_len (drop a.start.0 bs)) c.before.front.ensures
+    c.body_end.ensures.0 ∙ ap (λ (bs : Bytes). a.start.0 + body_len (drop a.start.0 bs)) c.before.front.ensures
 
-pub body-end-in-spec : {M : Type 1} → statement M
-body-end-in-spec =
+pub body_end_in_spec : {M : Type 1} → statement M
+body_end_in_spec =
     tie.close
     (tie.spec
     (λ c κs. search rules)

@@ -21,104 +21,104 @@ s-1 c = c.before.before.args.s.now
 abbrev at_1 : tie.After-begins → ℕ
 at_1 c = c.before.before.args.start.0
 
-abbrev s-2 : tie.After-begins2 → Bytes
+abbrev s-2 : tie.After-begins-2 → Bytes
 s-2 c = s-1 c.before.before
 
-abbrev at-2 : tie.After-begins2 → ℕ
+abbrev at-2 : tie.After-begins-2 → ℕ
 at-2 c = at_1 c.before.before
 
-abbrev s-3 : tie.After-begins3 → Bytes
+abbrev s-3 : tie.After-begins-3 → Bytes
 s-3 c = s-2 c.before.before
 
-abbrev at-3 : tie.After-begins3 → ℕ
+abbrev at-3 : tie.After-begins-3 → ℕ
 at-3 c = at-2 c.before.before
 
-abbrev s-4 : tie.After-begins4 → Bytes
+abbrev s-4 : tie.After-begins-4 → Bytes
 s-4 c = s-3 c.before.before
 
-abbrev at-4 : tie.After-begins4 → ℕ
+abbrev at-4 : tie.After-begins-4 → ℕ
 at-4 c = at-3 c.before.before
 
-abbrev s-5 : tie.After-begins5 → Bytes
+abbrev s-5 : tie.After-begins-5 → Bytes
 s-5 c = s-4 c.before.before
 
-abbrev at_5 : tie.After-begins5 → ℕ
+abbrev at_5 : tie.After-begins-5 → ℕ
 at_5 c = at-4 c.before.before
 
-abbrev s-6 : tie.After-begins6 → Bytes
+abbrev s-6 : tie.After-begins-6 → Bytes
 s-6 c = s-5 c.before.before
 
-abbrev at-6 : tie.After-begins6 → ℕ
+abbrev at-6 : tie.After-begins-6 → ℕ
 at-6 c = at_5 c.before.before
 
-abbrev s-7 : tie.After-begins7 → Bytes
+abbrev s-7 : tie.After-begins-7 → Bytes
 s-7 c = s-6 c.before.before
 
-abbrev at_7 : tie.After-begins7 → ℕ
+abbrev at_7 : tie.After-begins-7 → ℕ
 at_7 c = at-6 c.before.before
 
-abbrev s-8 : tie.After-begins8 → Bytes
+abbrev s-8 : tie.After-begins-8 → Bytes
 s-8 c = s-7 c.before.before
 
-abbrev at_8 : tie.After-begins8 → ℕ
+abbrev at_8 : tie.After-begins-8 → ℕ
 at_8 c = at_7 c.before.before
 
-left-1 : (c : tie.Else1) → Left 1 (s-1 c.before) (at_1 c.before)
+left-1 : (c : tie.Else-begins) → Left 1 (s-1 c.before) (at_1 c.before)
 unfolding code_of
-left-1 c = code-after (s-1 c.before) (at_1 c.before) file_header (drop 1 all_codes) c.before.begins.result c.before.begins.ensures c.if1.false
+left-1 c = code-after (s-1 c.before) (at_1 c.before) file_header (drop 1 all_codes) c.before.begins.result c.before.begins.ensures c.if-begins.false
 
-left-2 : (c : tie.Else2) → Left 2 (s-2 c.before) (at-2 c.before)
-left-2 c = left-1 c.before.before ∙ code-after (s-2 c.before) (at-2 c.before) group_header (drop 2 all_codes) c.before.begins2.result c.before.begins2.ensures c.if2.false
+left-2 : (c : tie.Else-begins-2) → Left 2 (s-2 c.before) (at-2 c.before)
+left-2 c = left-1 c.before.before ∙ code-after (s-2 c.before) (at-2 c.before) group_header (drop 2 all_codes) c.before.begins-2.result c.before.begins-2.ensures c.if-begins-2.false
 
-left-3 : (c : tie.Else3) → Left 3 (s-3 c.before) (at-3 c.before)
-left-3 c = left-2 c.before.before ∙ code-after (s-3 c.before) (at-3 c.before) account_header (drop 3 all_codes) c.before.begins3.result c.before.begins3.ensures c.if3.false
+left-3 : (c : tie.Else-begins-3) → Left 3 (s-3 c.before) (at-3 c.before)
+left-3 c = left-2 c.before.before ∙ code-after (s-3 c.before) (at-3 c.before) account_header (drop 3 all_codes) c.before.begins-3.result c.before.begins-3.ensures c.if-begins-3.false
 
-left-4 : (c : tie.Else4) → Left 4 (s-4 c.before) (at-4 c.before)
-left-4 c = left-3 c.before.before ∙ code-after (s-4 c.before) (at-4 c.before) detail (drop 4 all_codes) c.before.begins4.result c.before.begins4.ensures c.if4.false
+left-4 : (c : tie.Else-begins-4) → Left 4 (s-4 c.before) (at-4 c.before)
+left-4 c = left-3 c.before.before ∙ code-after (s-4 c.before) (at-4 c.before) detail (drop 4 all_codes) c.before.begins-4.result c.before.begins-4.ensures c.if-begins-4.false
 
-left-5 : (c : tie.Else5) → Left 5 (s-5 c.before) (at_5 c.before)
-left-5 c = left-4 c.before.before ∙ code-after (s-5 c.before) (at_5 c.before) account_trailer (drop 5 all_codes) c.before.begins5.result c.before.begins5.ensures c.if5.false
+left-5 : (c : tie.Else-begins-5) → Left 5 (s-5 c.before) (at_5 c.before)
+left-5 c = left-4 c.before.before ∙ code-after (s-5 c.before) (at_5 c.before) account_trailer (drop 5 all_codes) c.before.begins-5.result c.before.begins-5.ensures c.if-begins-5.false
 
-left-6 : (c : tie.Else6) → Left 6 (s-6 c.before) (at-6 c.before)
-left-6 c = left-5 c.before.before ∙ code-after (s-6 c.before) (at-6 c.before) group_trailer (drop 6 all_codes) c.before.begins6.result c.before.begins6.ensures c.if6.false
+left-6 : (c : tie.Else-begins-6) → Left 6 (s-6 c.before) (at-6 c.before)
+left-6 c = left-5 c.before.before ∙ code-after (s-6 c.before) (at-6 c.before) group_trailer (drop 6 all_codes) c.before.begins-6.result c.before.begins-6.ensures c.if-begins-6.false
 
-left-7 : (c : tie.Else7) → Left 7 (s-7 c.before) (at_7 c.before)
-left-7 c = left-6 c.before.before ∙ code-after (s-7 c.before) (at_7 c.before) file_trailer (drop 7 all_codes) c.before.begins7.result c.before.begins7.ensures c.if7.false
+left-7 : (c : tie.Else-begins-7) → Left 7 (s-7 c.before) (at_7 c.before)
+left-7 c = left-6 c.before.before ∙ code-after (s-7 c.before) (at_7 c.before) file_trailer (drop 7 all_codes) c.before.begins-7.result c.before.begins-7.ensures c.if-begins-7.false
 
-left-8 : (c : tie.Else8) → Left 8 (s-8 c.before) (at_8 c.before)
-left-8 c = left-7 c.before.before ∙ code-after (s-8 c.before) (at_8 c.before) continuation (drop 8 all_codes) c.before.begins8.result c.before.begins8.ensures c.if8.false
+left-8 : (c : tie.Else-begins-8) → Left 8 (s-8 c.before) (at_8 c.before)
+left-8 c = left-7 c.before.before ∙ code-after (s-8 c.before) (at_8 c.before) continuation (drop 8 all_codes) c.before.begins-8.result c.before.begins-8.ensures c.if-begins-8.false
 
-returns : tie.Need-returns
+returns : tie.Need-returns-then-begins
 unfolding code_of
-returns c = sym (code_here (s-1 c.before) (at_1 c.before) file_header (drop 1 all_codes) c.before.begins.result c.before.begins.ensures c.if1.true)
+returns c = sym (code_here (s-1 c.before) (at_1 c.before) file_header (drop 1 all_codes) c.before.begins.result c.before.begins.ensures c.if-begins.true)
 
-returns-2 : tie.Need-returns-2
-returns-2 c = sym (left-1 c.before.before ∙ code_here (s-2 c.before) (at-2 c.before) group_header (drop 2 all_codes) c.before.begins2.result c.before.begins2.ensures c.if2.true)
+returns-2 : tie.Need-returns-then-begins-2
+returns-2 c = sym (left-1 c.before.before ∙ code_here (s-2 c.before) (at-2 c.before) group_header (drop 2 all_codes) c.before.begins-2.result c.before.begins-2.ensures c.if-begins-2.true)
 
-returns-3 : tie.Need-returns-3
-returns-3 c = sym (left-2 c.before.before ∙ code_here (s-3 c.before) (at-3 c.before) account_header (drop 3 all_codes) c.before.begins3.result c.before.begins3.ensures c.if3.true)
+returns-3 : tie.Need-returns-then-begins-3
+returns-3 c = sym (left-2 c.before.before ∙ code_here (s-3 c.before) (at-3 c.before) account_header (drop 3 all_codes) c.before.begins-3.result c.before.begins-3.ensures c.if-begins-3.true)
 
-returns-4 : tie.Need-returns-4
-returns-4 c = sym (left-3 c.before.before ∙ code_here (s-4 c.before) (at-4 c.before) detail (drop 4 all_codes) c.before.begins4.result c.before.begins4.ensures c.if4.true)
+returns-4 : tie.Need-returns-then-begins-4
+returns-4 c = sym (left-3 c.before.before ∙ code_here (s-4 c.before) (at-4 c.before) detail (drop 4 all_codes) c.before.begins-4.result c.before.begins-4.ensures c.if-begins-4.true)
 
-returns-5 : tie.Need-returns-5
-returns-5 c = sym (left-4 c.before.before ∙ code_here (s-5 c.before) (at_5 c.before) account_trailer (drop 5 all_codes) c.before.begins5.result c.before.begins5.ensures c.if5.true)
+returns-5 : tie.Need-returns-then-begins-5
+returns-5 c = sym (left-4 c.before.before ∙ code_here (s-5 c.before) (at_5 c.before) account_trailer (drop 5 all_codes) c.before.begins-5.result c.before.begins-5.ensures c.if-begins-5.true)
 
-returns-6 : tie.Need-returns-6
-returns-6 c = sym (left-5 c.before.before ∙ code_here (s-6 c.before) (at-6 c.before) group_trailer (drop 6 all_codes) c.before.begins6.result c.before.begins6.ensures c.if6.true)
+returns-6 : tie.Need-returns-then-begins-6
+returns-6 c = sym (left-5 c.before.before ∙ code_here (s-6 c.before) (at-6 c.before) group_trailer (drop 6 all_codes) c.before.begins-6.result c.before.begins-6.ensures c.if-begins-6.true)
 
-returns-7 : tie.Need-returns-7
-returns-7 c = sym (left-6 c.before.before ∙ code_here (s-7 c.before) (at_7 c.before) file_trailer (drop 7 all_codes) c.before.begins7.result c.before.begins7.ensures c.if7.true)
+returns-7 : tie.Need-returns-then-begins-7
+returns-7 c = sym (left-6 c.before.before ∙ code_here (s-7 c.before) (at_7 c.before) file_trailer (drop 7 all_codes) c.before.begins-7.result c.before.begins-7.ensures c.if-begins-7.true)
 
-returns-8 : tie.Need-returns-8
-returns-8 c = sym (left-7 c.before.before ∙ code_here (s-8 c.before) (at_8 c.before) continuation (drop 8 all_codes) c.before.begins8.result c.before.begins8.ensures c.if8.true)
+returns-8 : tie.Need-returns-then-begins-8
+returns-8 c = sym (left-7 c.before.before ∙ code_here (s-8 c.before) (at_8 c.before) continuation (drop 8 all_codes) c.before.begins-8.result c.before.begins-8.ensures c.if-begins-8.true)
 
-returns-9 : tie.Need-returns-9
+returns-9 : tie.Need-returns
 unfolding code_in
 returns-9 c = sym (left-8 c)
 
-pub code-at-spec : {M : Type 1} → statement M
-code-at-spec =
+pub code_at_spec : {M : Type 1} → statement M
+code_at_spec =
     tie.close
     (tie.spec
     (λ c κs. search rules)

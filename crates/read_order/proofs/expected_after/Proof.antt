@@ -3,26 +3,26 @@ use borrow.Author.Rules.{rules}
 use Rattle.read_order.proofs.expected_after.Statement.{statement}
 use Rattle.read_order.proofs.expected_after.Tie as tie
 
-returns : tie.Need-returns
-returns c = rw c.enum_told.given.1
+returns : tie.Need-returns-in-FileHeader
+returns c = rw c.enum_told-1.given.1
 
-returns-2 : tie.Need-returns-2
-returns-2 c = rw c.enum-told2.given.1
+returns-2 : tie.Need-returns-in-GroupHeader
+returns-2 c = rw c.enum_told-in-GroupHeader-1.given.1
 
-returns-3 : tie.Need-returns-3
-returns-3 c = rw c.enum-told3.given.1
+returns-3 : tie.Need-returns-in-AccountHeader
+returns-3 c = rw c.enum_told-in-AccountHeader-1.given.1
 
-returns-4 : tie.Need-returns-4
-returns-4 c = rw c.enum-told4.given.1
+returns-4 : tie.Need-returns-in-Detail
+returns-4 c = rw c.enum_told-in-Detail-1.given.1
 
-returns-5 : tie.Need-returns-5
-returns-5 c = rw c.enum-told5.given.1
+returns-5 : tie.Need-returns-in-AccountTrailer
+returns-5 c = rw c.enum_told-in-AccountTrailer-1.given.1
 
-returns-6 : tie.Need-returns-6
-returns-6 c = rw c.enum-told6.given.1
+returns-6 : tie.Need-returns-in-GroupTrailer
+returns-6 c = rw c.enum_told-in-GroupTrailer-1.given.1
 
-pub expected-after-spec : {M : Type 1} → statement M
-expected-after-spec =
+pub expected_after_spec : {M : Type 1} → statement M
+expected_after_spec =
     tie.close
     (tie.spec
     (λ c. search rules)

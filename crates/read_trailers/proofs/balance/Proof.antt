@@ -5,40 +5,40 @@ use Rattle.read_trailers.specs.TrailerChecks.{balanced_k}
 use Rattle.read_trailers.proofs.balance.Statement.{statement}
 use Rattle.read_trailers.proofs.balance.Tie as tie
 
-returns : tie.Need-returns
+returns : tie.Need-returns-in-FileHeader
 unfolding balanced_k
-returns c = rw c.enum_told.given.1
+returns c = rw c.enum_told-1.given.1
 
-returns-2 : tie.Need-returns-2
+returns-2 : tie.Need-returns-in-GroupHeader
 unfolding balanced_k
-returns-2 c = rw c.enum-told2.given.1
+returns-2 c = rw c.enum_told-in-GroupHeader-1.given.1
 
-returns-3 : tie.Need-returns-3
+returns-3 : tie.Need-returns-in-AccountHeader
 unfolding balanced_k
-returns-3 c = rw c.enum-told3.given.1
+returns-3 c = rw c.enum_told-in-AccountHeader-1.given.1
 
-returns-4 : tie.Need-returns-4
+returns-4 : tie.Need-returns-in-Detail
 unfolding balanced_k
-returns-4 c = rw c.enum-told4.given.1
+returns-4 c = rw c.enum_told-in-Detail-1.given.1
 
-returns-5 : tie.Need-returns-5
+returns-5 : tie.Need-returns-in-AccountTrailer
 unfolding balanced_k
-returns-5 c = c.right-account.ensures ∙ sym (rw c.before.enum-told5.given.1)
+returns-5 c = c.right_account.ensures ∙ sym (rw c.before.enum_told-in-AccountTrailer-1.given.1)
 
-returns-6 : tie.Need-returns-6
+returns-6 : tie.Need-returns-in-GroupTrailer
 unfolding balanced_k
-returns-6 c = c.right-trailer.ensures ∙ sym (rw c.before.enum-told6.given.1)
+returns-6 c = c.right_trailer.ensures ∙ sym (rw c.before.enum_told-in-GroupTrailer-1.given.1)
 
-returns-7 : tie.Need-returns-7
+returns-7 : tie.Need-returns-in-FileTrailer
 unfolding balanced_k
-returns-7 c = c.right-trailer2.ensures ∙ sym (rw c.before.enum-told7.given.1)
+returns-7 c = c.right_trailer-in-FileTrailer.ensures ∙ sym (rw c.before.enum_told-in-FileTrailer-1.given.1)
 
-returns-8 : tie.Need-returns-8
+returns-8 : tie.Need-returns-in-Continuation
 unfolding balanced_k
-returns-8 c = rw c.enum-told8.given.1
+returns-8 c = rw c.enum_told-in-Continuation-1.given.1
 
-pub balance-spec : {M : Type 1} → statement M
-balance-spec =
+pub balance_spec : {M : Type 1} → statement M
+balance_spec =
     tie.close
     (tie.spec
     (λ c. search rules)

@@ -3,15 +3,15 @@ use Rattle.read_trailers.proofs.TrailerLaws.{count-fine, count-wrong}
 use Rattle.read_trailers.proofs.right_count.Statement.{statement}
 use Rattle.read_trailers.proofs.right_count.Tie as tie
 
-returns : tie.Need-returns
+returns : tie.Need-returns-then-n-count
 returns c =
     let a = c.before.before.before.before.before.before.args in
-    count-wrong a.n.0 a.kept c.if1.true
+    count-wrong a.n.0 a.kept c.if-n-count.true
 
-returns-2 : tie.Need-returns-2
+returns-2 : tie.Need-returns
 returns-2 c =
     let a = c.before.before.before.before.before.before.args in
-    count-fine a.n.0 a.kept c.if1.false
+    count-fine a.n.0 a.kept c.if-n-count.false
 
-pub right-count-spec : {M : Type 1} → statement M
-right-count-spec = tie.close (tie.spec returns returns-2)
+pub right_count_spec : {M : Type 1} → statement M
+right_count_spec = tie.close (tie.spec returns returns-2)

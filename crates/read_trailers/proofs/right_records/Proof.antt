@@ -4,15 +4,15 @@ use Rattle.read_trailers.proofs.TrailerLaws.{records-fine, records-wrong}
 use Rattle.read_trailers.proofs.right_records.Statement.{statement}
 use Rattle.read_trailers.proofs.right_records.Tie as tie
 
-returns : tie.Need-returns
+returns : tie.Need-returns-then-n-records
 returns c =
     let a = c.before.before.before.before.before.before.before.args in
-    records-wrong (summary_meant a.s) a.kept c.if1.true
+    records-wrong (summary_meant a.s) a.kept c.if-n-records.true
 
-returns-2 : tie.Need-returns-2
+returns-2 : tie.Need-returns
 returns-2 c =
     let a = c.before.before.before.before.before.before.before.args in
-    records-fine (summary_meant a.s) a.kept c.if1.false
+    records-fine (summary_meant a.s) a.kept c.if-n-records.false
 
-pub right-records-spec : {M : Type 1} → statement M
-right-records-spec = tie.close (tie.spec returns returns-2)
+pub right_records_spec : {M : Type 1} → statement M
+right_records_spec = tie.close (tie.spec returns returns-2)

@@ -6,38 +6,38 @@ use Rattle.read_trailers.specs.TrailerChecks.{trailer_k}
 use Rattle.read_trailers.proofs.right_trailer.Statement.{statement}
 use Rattle.read_trailers.proofs.right_trailer.Tie as tie
 
-returns : tie.Need-returns
+returns : tie.Need-returns-in-Refused
 unfolding trailer_k
-returns c = sym (rw (sym c.before.before.before.sum-within.ensures ∙ ap checked_of c.before.why.given.1))
+returns c = sym (rw (sym c.before.before.before.sum_within.ensures ∙ ap checked_of c.before.why-1.given.1))
 
-returns-2 : tie.Need-returns-2
+returns-2 : tie.Need-returns-in-Refused-right_total
 unfolding trailer_k
 returns-2 c =
     sym (rw (
-      sym c.before.before.before.before.before.before.sum-within.ensures ∙ ap checked_of c.before.before.before.before.enum_told.given.1,
-      sym c.before.before.before.right-total.ensures ∙ ap checked_of c.before.why2.given.1,
+      sym c.before.before.before.before.before.before.sum_within.ensures ∙ ap checked_of c.before.before.before.before.enum_told-1.given.1,
+      sym c.before.before.before.right_total.ensures ∙ ap checked_of c.before.why-in-Refused-right_total-1.given.1,
     ))
 
-returns-3 : tie.Need-returns-3
+returns-3 : tie.Need-returns-in-Refused-right_count
 unfolding trailer_k
 returns-3 c =
     sym (rw (
-      sym c.before.before.before.before.before.before.before.before.before.sum-within.ensures ∙ ap checked_of c.before.before.before.before.before.before.before.enum_told.given.1,
-      sym c.before.before.before.before.before.before.right-total.ensures ∙ ap checked_of c.before.before.before.before.enum-told2.given.1,
-      sym c.before.before.before.right-count.ensures ∙ ap checked_of c.before.why3.given.1,
+      sym c.before.before.before.before.before.before.before.before.before.sum_within.ensures ∙ ap checked_of c.before.before.before.before.before.before.before.enum_told-1.given.1,
+      sym c.before.before.before.before.before.before.right_total.ensures ∙ ap checked_of c.before.before.before.before.enum_told-in-Fine-right_total-1.given.1,
+      sym c.before.before.before.right_count.ensures ∙ ap checked_of c.before.why-in-Refused-right_count-1.given.1,
     ))
 
-returns-4 : tie.Need-returns-4
+returns-4 : tie.Need-returns
 unfolding trailer_k
 returns-4 c =
-    c.right-records.ensures ∙ sym (rw (
-      sym c.before.before.before.before.before.before.before.before.before.sum-within.ensures ∙ ap checked_of c.before.before.before.before.before.before.before.enum_told.given.1,
-      sym c.before.before.before.before.before.before.right-total.ensures ∙ ap checked_of c.before.before.before.before.enum-told2.given.1,
-      sym c.before.before.before.right-count.ensures ∙ ap checked_of c.before.enum-told3.given.1,
+    c.right_records.ensures ∙ sym (rw (
+      sym c.before.before.before.before.before.before.before.before.before.sum_within.ensures ∙ ap checked_of c.before.before.before.before.before.before.before.enum_told-1.given.1,
+      sym c.before.before.before.before.before.before.right_total.ensures ∙ ap checked_of c.before.before.before.before.enum_told-in-Fine-right_total-1.given.1,
+      sym c.before.before.before.right_count.ensures ∙ ap checked_of c.before.enum_told-in-Fine-right_count-1.given.1,
     ))
 
-pub right-trailer-spec : {M : Type 1} → statement M
-right-trailer-spec =
+pub right_trailer_spec : {M : Type 1} → statement M
+right_trailer_spec =
     tie.close
     (tie.spec
     (λ c κs. search rules)

@@ -9,32 +9,32 @@ use Rattle.base_digits.proofs.ReadingLaws.{go_on, stop, done}
 use Rattle.read_values.proofs.is_clean.Statement.{statement}
 use Rattle.read_values.proofs.is_clean.Tie as tie
 
-abbrev invariant-loop : tie.invariant-loop
+abbrev invariant-loop : tie.invariant-loop-i
 invariant-loop f i₀ i = (i ≤ length f) × (all in_field (drop i f) ≡ all in_field f)
 
-abbrev decreases-loop : tie.decreases-loop
+abbrev decreases-loop : tie.decreases-loop-i
 decreases-loop f i₀ i = length f - i
 
-loop-holds : tie.Need-loop-init invariant-loop decreases-loop
+loop-holds : tie.Need-loop-i-init invariant-loop decreases-loop
 loop-holds c = (zero-le, refl)
 
-returns : tie.Need-returns invariant-loop decreases-loop
+returns : tie.Need-returns-then-not-in_field invariant-loop decreases-loop
 returns c =
     let d = c.before in
     let t = d.before.before in
-    stop in_field _ _ t.before.loop.invariant.1 t.loop-test.true (sym d.in_field.ensures ∙ not-true _ c.if1.true)
+    stop in_field _ _ t.before.loop-i.invariant.1 t.loop-i-test.true (sym d.in_field.ensures ∙ not-true _ c.if-not-in_field.true)
 
-loop-again : tie.Need-loop-preserved invariant-loop decreases-loop
+loop-again : tie.Need-loop-i-preserved invariant-loop decreases-loop
 loop-again c =
     let d = c.before in
     let t = d.before.before in
-    (search rules, go_on in_field _ _ t.before.loop.invariant.1 t.loop-test.true (sym d.in_field.ensures ∙ not-false _ c.if1.false))
+    (search rules, go_on in_field _ _ t.before.loop-i.invariant.1 t.loop-i-test.true (sym d.in_field.ensures ∙ not-false _ c.if-not-in_field.false))
 
-returns-2 : tie.Need-returns-2 invariant-loop decreases-loop
-returns-2 c = done in_field _ _ c.before.loop.invariant.1 c.loop-test.false
+returns-2 : tie.Need-returns invariant-loop decreases-loop
+returns-2 c = done in_field _ _ c.before.loop-i.invariant.1 c.loop-i-test.false
 
-pub is-clean-spec : {M : Type 1} → statement M
-is-clean-spec =
+pub is_clean_spec : {M : Type 1} → statement M
+is_clean_spec =
     tie.close
     (tie.spec
     invariant-loop

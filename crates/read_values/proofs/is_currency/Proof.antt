@@ -4,14 +4,14 @@ use borrow.Author.Rules.{rules}
 use Rattle.read_values.proofs.is_currency.Statement.{statement}
 use Rattle.read_values.proofs.is_currency.Tie as tie
 
-returns : tie.Need-returns
-returns c = currency-none _ c.if1.true
+returns : tie.Need-returns-then-f-eq0
+returns c = currency-none _ c.if-f-eq0.true
 
-returns-2 : tie.Need-returns-2
-returns-2 c = currency-not _ c.before.if1.false c.if2.true
+returns-2 : tie.Need-returns-then-f-ne3
+returns-2 c = currency-not _ c.before.if-f-eq0.false c.if-f-ne3.true
 
-returns-3 : tie.Need-returns-3
-returns-3 c = currency-three _ c.before.before.if1.false _ c.before.if2.false c.all-between.ensures
+returns-3 : tie.Need-returns
+returns-3 c = currency-three _ c.before.before.if-f-eq0.false _ c.before.if-f-ne3.false c.all_between.ensures
 
-pub is-currency-spec : {M : Type 1} → statement M
-is-currency-spec = tie.close (tie.spec returns returns-2 (λ c κs. search rules) returns-3)
+pub is_currency_spec : {M : Type 1} → statement M
+is_currency_spec = tie.close (tie.spec returns returns-2 (λ c κs. search rules) returns-3)

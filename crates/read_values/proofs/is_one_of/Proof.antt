@@ -6,15 +6,15 @@ use borrow.Author.Rules.{rules}
 use Rattle.read_values.proofs.is_one_of.Statement.{statement}
 use Rattle.read_values.proofs.is_one_of.Tie as tie
 
-returns : tie.Need-returns
-returns c = sym (not-one _ _ _ c.if1.true)
+returns : tie.Need-returns-then-f-ne1
+returns c = sym (not-one _ _ _ c.if-f-ne1.true)
 
-returns-2 : tie.Need-returns-2
-returns-2 c = sym (one _ _ _ c.before.before.if1.false ∙ below _ _ _ c.if2.true)
+returns-2 : tie.Need-returns-then-f-lo
+returns-2 c = sym (one _ _ _ c.before.before.if-f-ne1.false ∙ below _ _ _ c.if-f-lo.true)
 
-returns-3 : tie.Need-returns-3
-returns-3 c = from_low _ _ _ c.before.if2.false ∙ sym (one _ _ _ c.before.before.before.if1.false)
+returns-3 : tie.Need-returns
+returns-3 c = from_low _ _ _ c.before.if-f-lo.false ∙ sym (one _ _ _ c.before.before.before.if-f-ne1.false)
 
-pub is-one-of-spec : {M : Type 1} → statement M
-is-one-of-spec =
+pub is_one_of_spec : {M : Type 1} → statement M
+is_one_of_spec =
     tie.close (tie.spec returns (λ c. search rules) returns-2 (λ c. search rules) returns-3)

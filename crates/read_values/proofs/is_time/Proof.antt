@@ -11,42 +11,42 @@ use Rattle.read_values.proofs.is_time.Statement.{statement}
 use Rattle.read_values.proofs.is_time.Tie as tie
 
 -- four digits, where the first test let it pass
-four : (k : tie.Else1) → digits 4 4 k.before.before.before.args.f.now ≡ true
-four k = sym k.before.is-digits.ensures ∙ not-false _ k.if1.false
+four : (k : tie.Else-not-is_digits) → digits 4 4 k.before.before.before.args.f.now ≡ true
+four k = sym k.before.is_digits.ensures ∙ not-false _ k.if-not-is_digits.false
 
-returns : tie.Need-returns
-returns c = time-not _ (sym c.before.is-digits.ensures ∙ not-true _ c.if1.true)
+returns : tie.Need-returns-then-not-is_digits
+returns c = time-not _ (sym c.before.is_digits.ensures ∙ not-true _ c.if-not-is_digits.true)
 
-returns-2 : tie.Need-returns-2
-returns-2 c = time-2400 _ _ (four c.before.before) c.before.value.ensures.0 c.if2.true
+returns-2 : tie.Need-returns-then-n-eq-END_OF_DAY
+returns-2 c = time-2400 _ _ (four c.before.before) c.before.value-n.ensures.0 c.if-n-eq-END_OF_DAY.true
 
-returns-3 : tie.Need-returns-3
-returns-3 c = time-9999 _ _ (four c.before.before.before) c.before.before.value.ensures.0 c.if3.true
+returns-3 : tie.Need-returns-then-n-eq-NO_TIME
+returns-3 c = time-9999 _ _ (four c.before.before.before) c.before.before.value-n.ensures.0 c.if-n-eq-NO_TIME.true
 
-part-value-end : tie.Need-slice-bounds-value-end
+part-value-end : tie.Need-slice_bounds-value-end
 part-value-end c = omega (arith, digits-length 4 _ (four c.before.before.before))
 
-part-value-end-2 : tie.Need-slice-bounds-value-end-2
+part-value-end-2 : tie.Need-slice_bounds-value-end-2
 part-value-end-2 c = omega (arith, digits-length 4 _ (four c.before.before.before.before.before))
 
-returns-4 : tie.Need-returns-4
+returns-4 : tie.Need-returns-then-hours-gt23
 returns-4 c =
     let m = c.before in
     let h = m.before.before in
     let z = h.before.before in
     let v = z.before.before in
-    time-late _ _ (four v.before) v.value.ensures.0 _ _ h.value2.ensures.0 m.value3.ensures.0 z.before.if2.false z.if3.false c.if4.true
+    time-late _ _ (four v.before) v.value-n.ensures.0 _ _ h.value-hours.ensures.0 m.value-minutes.ensures.0 z.before.if-n-eq-END_OF_DAY.false z.if-n-eq-NO_TIME.false c.if-hours-gt23.true
 
-returns-5 : tie.Need-returns-5
+returns-5 : tie.Need-returns
 returns-5 c =
     let m = c.before in
     let h = m.before.before in
     let z = h.before.before in
     let v = z.before.before in
-    time-minutes _ _ (four v.before) v.value.ensures.0 _ _ h.value2.ensures.0 m.value3.ensures.0 z.before.if2.false z.if3.false c.if4.false
+    time-minutes _ _ (four v.before) v.value-n.ensures.0 _ _ h.value-hours.ensures.0 m.value-minutes.ensures.0 z.before.if-n-eq-END_OF_DAY.false z.if-n-eq-NO_TIME.false c.if-hours-gt23.false
 
-pub is-time-spec : {M : Type 1} → statement M
-is-time-spec =
+pub is_time_spec : {M : Type 1} → statement M
+is_time_spec =
     tie.close
     (tie.spec
     (λ c κs. search rules)

@@ -33,14 +33,14 @@ use Rattle.read_walk.proofs.WalkLaws.{took-bad, took-good, open-here, field-with
 use Rattle.read_walk.proofs.walk_lines.Statement.{statement}
 use Rattle.read_walk.proofs.walk_lines.Tie as tie
 
-abbrev invariant-loop : tie.invariant-loop
+abbrev invariant-loop : tie.invariant-loop-n
 invariant-loop rest rec want₀ kept₀ slash₀ at e a₀ want kept slash a =
     (a ≤ e)
     × (e ≤ length rec)
     × Fits (length rec) kept₀.before.0 (point (wanted_of want) kept slash.0)
     × (walk_cells_k (point (wanted_of want₀) kept₀ slash₀.0) (cells_from a₀ (slice a₀ e rec)) ≡ walk_cells_k (point (wanted_of want) kept slash.0) (cells_from a (slice a e rec)))
 
-abbrev decreases-loop : tie.decreases-loop
+abbrev decreases-loop : tie.decreases-loop-n
 decreases-loop rest rec want₀ kept₀ slash₀ at e a₀ want kept slash a = e - a
 
 abbrev invariant-walk : tie.invariant-walk
@@ -55,7 +55,7 @@ decreases-walk rest rec want₀ kept₀ slash₀ at₀ want kept slash at = leng
 -- ---- at a line: the record, the line's start and end, the next line, and the walk where the line starts
 
 abbrev Line : Type 0
-Line = tie.After-end-len invariant-loop decreases-loop invariant-walk decreases-walk
+Line = tie.After-end_len invariant-loop decreases-loop invariant-walk decreases-walk
 
 abbrev entry : Line → tie.Start invariant-loop decreases-loop invariant-walk decreases-walk
 entry c = c.before.before.before.before.before.before.before
@@ -67,10 +67,10 @@ abbrev start_of : Line → ℕ
 start_of c = c.before.before.before.walk.at
 
 abbrev end_of : Line → ℕ
-end_of c = c.before.body-end-in.result.0
+end_of c = c.before.body_end_in-e.result.0
 
 abbrev next_of : Line → ℕ
-next_of c = end_of c + c.end-len.result
+next_of c = end_of c + c.end_len.result
 
 abbrev from-of : Line → WalkK
 from-of c =
@@ -79,48 +79,48 @@ from-of c =
 
 -- the walk where the record starts
 abbrev Made : Type 0
-Made = tie.After-none invariant-loop decreases-loop invariant-walk decreases-walk
+Made = tie.After-none-kept invariant-loop decreases-loop invariant-walk decreases-walk
 
 abbrev first_of : Made → WalkK
-first_of c = point (wanted_of c.before.before.before.args.first) c.none.result 0
+first_of c = point (wanted_of c.before.before.before.args.first) c.none-kept.result 0
 
 first-is : (c : Made) → first_of c ≡ point (wanted_of c.before.before.before.args.first) (nothing_kept c.before.before.before.args.before.0) 0
-first-is c = ap (λ (k : Kept). point (wanted_of c.before.before.before.args.first) k 0) c.none.ensures
+first-is c = ap (λ (k : Kept). point (wanted_of c.before.before.before.args.first) k 0) c.none-kept.ensures
 
 -- the magnitudes before, as they are kept where the record starts, and where a line does
-same-before : (c : Made) → c.none.result.before.0 ≡ c.before.before.before.args.before.0
-same-before c = ap (λ (k : Kept). k.before.0) c.none.ensures
+same-before : (c : Made) → c.none-kept.result.before.0 ≡ c.before.before.before.args.before.0
+same-before c = ap (λ (k : Kept). k.before.0) c.none-kept.ensures
 
 abbrev before_of : Line → ℕ
 before_of c = c.before.before.before.walk.auto.before.0
 
-kept-before : (c : Line) → before_of c ≡ c.before.before.before.before.none.result.before.0
+kept-before : (c : Line) → before_of c ≡ c.before.before.before.before.none-kept.result.before.0
 kept-before c = c.before.before.before.walk.invariant.1.kept.before
 
 some_byte : (c : Line) → start_of c < length (rec-of c)
-some_byte c = c.before.before.if1.false
+some_byte c = c.before.before.if-rec-at.false
 
 end_is : (c : Line) → end_of c ≡ start_of c + body_len (drop (start_of c) (rec-of c))
-end_is c = c.before.body-end-in.ensures ∙ ap (λ (bs : Bytes). start_of c + body_len (drop (start_of c) bs)) (sym (entry c).requires)
+end_is c = c.before.body_end_in-e.ensures ∙ ap (λ (bs : Bytes). start_of c + body_len (drop (start_of c) bs)) (sym (entry c).requires)
 
 ends : (c : Line) → end_of c ≤ length (rec-of c)
 ends c = omega (arith, some_byte c, end_is c, run-le is_end (drop (start_of c) (rec-of c)), length-drop (start_of c) (rec-of c))
 
 next-at : (c : Line) → next_of c ≡ start_of c + line_len (drop (start_of c) (rec-of c))
 next-at c =
-    next-is (rec-of c) (start_of c) (end_of c) (next_of c) (end_is c) (ap (λ (n : ℕ). end_of c + n) c.end-len.ensures)
+    next-is (rec-of c) (start_of c) (end_of c) (next_of c) (end_is c) (ap (λ (n : ℕ). end_of c + n) c.end_len.ensures)
 
 within : (c : Line) → next_of c ≤ length (rec-of c)
 within c =
     omega (
       arith,
       some_byte c,
-      next-within (rec-of c) (start_of c) (end_of c) (next_of c) (end_is c) (ap (λ (n : ℕ). end_of c + n) c.end-len.ensures),
+      next-within (rec-of c) (start_of c) (end_of c) (next_of c) (end_is c) (ap (λ (n : ℕ). end_of c + n) c.end_len.ensures),
     )
 
 after : (c : Line) → start_of c < next_of c
 after c =
-    next-after (rec-of c) (start_of c) (end_of c) (next_of c) (end_is c) (ap (λ (n : ℕ). end_of c + n) c.end-len.ensures) (some_byte c)
+    next-after (rec-of c) (start_of c) (end_of c) (next_of c) (end_is c) (ap (λ (n : ℕ). end_of c + n) c.end_len.ensures) (some_byte c)
 
 -- a walk that stops at this place answers so
 stopped-at : (rec : Bytes) (first : Want) (before number place : ℕ) (r : Walked) → r ≡ Refused (record { number = number; place = record { 0 = place } })
@@ -143,53 +143,53 @@ go_on c v r =
 -- ---- at a field: its line, where it starts, and the walk there
 
 abbrev Head : Type 0
-Head = tie.At-loop invariant-loop decreases-loop invariant-walk decreases-walk
+Head = tie.At-loop-n invariant-loop decreases-loop invariant-walk decreases-walk
 
 abbrev line : Head → Line
 line c = c.before.before
 
 abbrev at_of : Head → ℕ
-at_of c = c.loop.a
+at_of c = c.loop-n.a
 
 abbrev here : Head → WalkK
-here c = point (wanted_of c.loop.want) c.loop.auto c.loop.slash.0
+here c = point (wanted_of c.loop-n.want) c.loop-n.auto c.loop-n.slash.0
 
 abbrev left : Head → Bytes
 left c = slice (at_of c) (end_of (line c)) (rec-of (line c))
 
 abbrev wants-text : Head → Bool
-wants-text c = is_text (next_kind (wanted_of c.loop.want))
+wants-text c = is_text (next_kind (wanted_of c.loop-n.want))
 
 -- ---- how far the field goes
 
 abbrev Cutting : Type 0
-Cutting = tie.After-field-extent invariant-loop decreases-loop invariant-walk decreases-walk
+Cutting = tie.After-field_extent invariant-loop decreases-loop invariant-walk decreases-walk
 
-extent-is : (c : Cutting) → c.field-extent.result ≡ extent_of (wants-text c.before.before.before) (left c.before.before.before)
+extent-is : (c : Cutting) → c.field_extent.result ≡ extent_of (wants-text c.before.before.before) (left c.before.before.before)
 extent-is c =
     let h = c.before.before.before in
-    c.field-extent.ensures
-    ∙ ap (λ (t : Bool). extent_of t (take (end_of (line h) - at_of h) (drop (at_of h) (rec-of (line h))))) c.before.before.is-text.ensures
-    ∙ ap (λ (bs : Bytes). extent_of (wants-text h) bs) (part_slice (at_of h) (end_of (line h)) (rec-of (line h)) h.loop.invariant.0)
+    c.field_extent.ensures
+    ∙ ap (λ (t : Bool). extent_of t (take (end_of (line h) - at_of h) (drop (at_of h) (rec-of (line h))))) c.before.before.is_text-text.ensures
+    ∙ ap (λ (bs : Bytes). extent_of (wants-text h) bs) (part_slice (at_of h) (end_of (line h)) (rec-of (line h)) h.loop-n.invariant.0)
 
 abbrev Field : Type 0
-Field = tie.After-known-told invariant-loop decreases-loop invariant-walk decreases-walk
+Field = tie.In-Field invariant-loop decreases-loop invariant-walk decreases-walk
 
 abbrev head : Field → Head
 head c = c.before.before.before.before.before.before
 
-abbrev asked : Field → tie.After-is-text invariant-loop decreases-loop invariant-walk decreases-walk
+abbrev asked : Field → tie.After-is_text-text invariant-loop decreases-loop invariant-walk decreases-walk
 asked c = c.before.before.before.before.before
 
 abbrev size : Field → ℕ
-size c = c.before.n.given.0.0
+size c = c.before.n-1.given.0.0
 
 field-extent : (c : Field) → extent.Field (size c) ≡ extent_of (wants-text (head c)) (left (head c))
-field-extent c = sym c.before.n.given.1 ∙ extent-is c.before.before.before
+field-extent c = sym c.before.n-1.given.1 ∙ extent-is c.before.before.before
 
 inside : (c : Field) → at_of (head c) + size c ≤ end_of (line (head c))
 inside c =
-    field-within (rec-of (line (head c))) (here (head c)) (at_of (head c)) (end_of (line (head c))) (head c).loop.invariant.0 (head c).loop.invariant.1 (size c) (field-extent c)
+    field-within (rec-of (line (head c))) (here (head c)) (at_of (head c)) (end_of (line (head c))) (head c).loop-n.invariant.0 (head c).loop-n.invariant.1 (size c) (field-extent c)
 
 abbrev bytes : Field → Bytes
 bytes c = slice (at_of (head c)) (at_of (head c) + size c) (rec-of (line (head c)))
@@ -201,24 +201,24 @@ lent c = part_slice (at_of (head c)) (at_of (head c) + size c) (rec-of (line (he
 -- ---- the field is kept
 
 abbrev Noted : Type 0
-Noted = tie.Joined3 invariant-loop decreases-loop invariant-walk decreases-walk
+Noted = tie.Joined-is_kept invariant-loop decreases-loop invariant-walk decreases-walk
 
 abbrev noted-field : Noted → Field
 noted-field c = c.before.before
 
-kept-is : (c : Noted) → c.if3.auto ≡ keep_read (purpose (next_kind (here (head (noted-field c))).wanted)) (here (head (noted-field c))).kept (at_of (head (noted-field c))) (bytes (noted-field c))
+kept-is : (c : Noted) → c.if-is_kept.auto ≡ keep_read (purpose (next_kind (here (head (noted-field c))).wanted)) (here (head (noted-field c))).kept (at_of (head (noted-field c))) (bytes (noted-field c))
 kept-is c =
     let g = noted-field c in
     let h = head g in
     ⊎_elim
     (λ t. t.3 ∙ t.2.ensures ∙ ap (λ (bs : Bytes). keep_read (purpose (next_kind (here h).wanted)) (here h).kept (at_of h) bs) (lent g))
-    (λ t. t.1 ∙ kept-for-nothing (purpose (next_kind (here h).wanted)) (here h).kept (at_of h) (bytes g) (sym c.before.is-kept.ensures ∙ t.0.left))
-    c.if3.branch
+    (λ t. t.1 ∙ kept-for-nothing (purpose (next_kind (here h).wanted)) (here h).kept (at_of h) (bytes g) (sym c.before.is_kept.ensures ∙ t.0.left))
+    c.if-is_kept.branch-raw
 
 -- ---- the field is judged
 
 abbrev Judged : Type 0
-Judged = tie.After-take-detail-first invariant-loop decreases-loop invariant-walk decreases-walk
+Judged = tie.After-take_detail_first invariant-loop decreases-loop invariant-walk decreases-walk
 
 abbrev noted : Judged → Noted
 noted c = c.before.before
@@ -226,61 +226,61 @@ noted c = c.before.before
 abbrev field : Judged → Field
 field c = noted-field (noted c)
 
-judged-is : (c : Judged) → judged_of c.take-detail-first.result ≡ take_next (here (head (field c))).wanted (bytes (field c))
-judged-is c = c.take-detail-first.ensures ∙ ap (λ (bs : Bytes). take_next (here (head (field c))).wanted bs) (lent (field c))
+judged-is : (c : Judged) → judged_of c.take_detail_first.result ≡ take_next (here (head (field c))).wanted (bytes (field c))
+judged-is c = c.take_detail_first.ensures ∙ ap (λ (bs : Bytes). take_next (here (head (field c))).wanted bs) (lent (field c))
 
 abbrev Good : Type 0
-Good = tie.After-known-told3 invariant-loop decreases-loop invariant-walk decreases-walk
+Good = tie.In-Next invariant-loop decreases-loop invariant-walk decreases-walk
 
 abbrev good-field : Good → Field
 good-field c = field c.before.before.before
 
 abbrev then : Good → WalkK
-then c = point (wanted_of c.before.next.given.0.0) (noted c.before.before.before).if3.kept (here (head (good-field c))).last_slash
+then c = point (wanted_of c.before.next-1.given.0.0) (noted c.before.before.before).if-is_kept.kept (here (head (good-field c))).last_slash
 
 took : (c : Good) → taken_k (at_of (head (good-field c))) (bytes (good-field c)) (here (head (good-field c))) ≡ fine (then c)
 unfolding judged_of
 took c =
     let j = c.before.before.before in
     took-good (at_of (head (field j))) (bytes (field j)) (here (head (field j))) _ _
-    (sym (judged-is j) ∙ ap judged_of c.before.next.given.1) (kept-is (noted j))
+    (sym (judged-is j) ∙ ap judged_of c.before.next-1.given.1) (kept-is (noted j))
 
 fits : (c : Good) → Fits (length (rec-of (line (head (good-field c))))) (before_of (line (head (good-field c)))) (then c)
 fits c =
     let h = head (good-field c) in
-    taken-fits (length (rec-of (line h))) _ (at_of h) (bytes (good-field c)) (here h) (then c) (took c) (omega (arith, h.loop.inv.0, h.loop.inv.1)) h.loop.inv.2
+    taken-fits (length (rec-of (line h))) _ (at_of h) (bytes (good-field c)) (here h) (then c) (took c) (omega (arith, h.loop-n.inv.0, h.loop-n.inv.1)) h.loop-n.inv.2
 
 -- ---- the field is no text
 
 abbrev Plain : Type 0
-Plain = tie.Else4 invariant-loop decreases-loop invariant-walk decreases-walk
+Plain = tie.Else-text invariant-loop decreases-loop invariant-walk decreases-walk
 
 no_text : (c : Plain) → wants-text (head (good-field c.before)) ≡ false
-no_text c = sym (asked (good-field c.before)).is-text.ensures ∙ c.if4.false
+no_text c = sym (asked (good-field c.before)).is_text-text.ensures ∙ c.if-text.false
 
 short : (c : Plain) → at_of (head (good-field c.before)) + size (good-field c.before) < end_of (line (head (good-field c.before)))
 short c =
     let g = good-field c.before in
     field-short (rec-of (line (head g))) (here (head g)) (at_of (head g)) (end_of (line (head g)))
-    (head g).loop.inv.0 (head g).loop.inv.1 (size g) (field-extent g) (no_text c)
+    (head g).loop-n.inv.0 (head g).loop-n.inv.1 (size g) (field-extent g) (no_text c)
 
 -- ---- after a slash, blanks
 
 abbrev Blanks : Type 0
-Blanks = tie.After-blanks-len invariant-loop decreases-loop invariant-walk decreases-walk
+Blanks = tie.After-blanks_len invariant-loop decreases-loop invariant-walk decreases-walk
 
 abbrev blank-field : Blanks → Field
 blank-field c = good-field c.before.before.before.before.before
 
 abbrev blanks-end : Blanks → ℕ
-blanks-end c = at_of (head (blank-field c)) + size (blank-field c) + 1 + c.blanks-len.result
+blanks-end c = at_of (head (blank-field c)) + size (blank-field c) + 1 + c.blanks_len.result
 
 blanks-from : (c : Blanks) → blanks-end c ≡ at_of (head (blank-field c)) + size (blank-field c) + 1
     + leading_blanks (slice (at_of (head (blank-field c)) + size (blank-field c) + 1) (end_of (line (head (blank-field c)))) (rec-of (line (head (blank-field c)))))
 blanks-from c =
     let g = blank-field c in
     let h = head g in
-    ap (λ (n : ℕ). at_of h + size g + 1 + n) (c.blanks-len.ensures.0
+    ap (λ (n : ℕ). at_of h + size g + 1 + n) (c.blanks_len.ensures.0
     ∙ ap leading_blanks (part_slice (at_of h + size g + 1) (end_of (line h)) (rec-of (line h)) (omega (arith, short c.before.before.before.before))))
 
 blanks-in : (c : Blanks) → blanks-end c ≤ end_of (line (head (blank-field c)))
@@ -290,68 +290,68 @@ blanks-in c =
     let s = short c.before.before.before.before in
     omega (
       arith,
-      c.blanks-len.ensures.1,
+      c.blanks_len.ensures.1,
       ap length (part_slice (at_of h + size g + 1) (end_of (line h)) (rec-of (line h)) (omega arith)),
-      length-slice (at_of h + size g + 1) (end_of (line h)) (rec-of (line h)) h.loop.inv.1,
+      length-slice (at_of h + size g + 1) (end_of (line h)) (rec-of (line h)) h.loop-n.inv.1,
     )
 
 walk-holds : tie.Need-walk-init invariant-loop decreases-loop invariant-walk decreases-walk
-walk-holds c = (zero-le, fits-same _ _ _ (first_of c) (sym (same-before c)) (start_fits _ _ (first_of c) c.none.ensures refl), refl)
+walk-holds c = (zero-le, fits-same _ _ _ (first_of c) (sym (same-before c)) (start_fits _ _ (first_of c) c.none-kept.ensures refl), refl)
 
-add_a : tie.Need-overflow-add-a invariant-loop decreases-loop invariant-walk decreases-walk
-add_a c = omega (arith, c.before.if1.false)
+add_a : tie.Need-overflow_add-a invariant-loop decreases-loop invariant-walk decreases-walk
+add_a c = omega (arith, c.before.if-rec-at.false)
 
-add_at : tie.Need-overflow-add-at invariant-loop decreases-loop invariant-walk decreases-walk
+add_at : tie.Need-overflow_add-at invariant-loop decreases-loop invariant-walk decreases-walk
 add_at c = omega (arith, within c)
 
-loop-holds : tie.Need-loop-init invariant-loop decreases-loop invariant-walk decreases-walk
+loop-holds : tie.Need-loop-n-init invariant-loop decreases-loop invariant-walk decreases-walk
 loop-holds c = (omega arith, ends c.before, fits-same _ _ _ (from-of c.before) (sym (kept-before c.before)) c.before.before.before.before.walk.invariant.1, refl)
 
-add-f : tie.Need-overflow-add-f invariant-loop decreases-loop invariant-walk decreases-walk
+add-f : tie.Need-overflow_add-f invariant-loop decreases-loop invariant-walk decreases-walk
 add-f c = omega (arith, inside c, ends (line (head c)))
 
-part-keep-end : tie.Need-slice-bounds-keep-end invariant-loop decreases-loop invariant-walk decreases-walk
+part-keep-end : tie.Need-slice_bounds-keep-end invariant-loop decreases-loop invariant-walk decreases-walk
 part-keep-end c = let g = c.before.before in omega (arith, inside g, ends (line (head g)))
 
-part-take-detail-first-end : tie.Need-slice-bounds-take-detail-first-end invariant-loop decreases-loop invariant-walk decreases-walk
+part-take-detail-first-end : tie.Need-slice_bounds-take_detail_first-end invariant-loop decreases-loop invariant-walk decreases-walk
 part-take-detail-first-end c = let g = noted-field c in omega (arith, inside g, ends (line (head g)))
 
-walk-less : tie.Need-walk-smaller invariant-loop decreases-loop invariant-walk decreases-walk
+walk-less : tie.Need-walk-smaller-then-text invariant-loop decreases-loop invariant-walk decreases-walk
 walk-less c = let l = line (head (good-field c.before)) in omega (arith, after l, within l)
 
-walk-again : tie.Need-walk-preserved invariant-loop decreases-loop invariant-walk decreases-walk
+walk-again : tie.Need-walk-preserved-then-text invariant-loop decreases-loop invariant-walk decreases-walk
 walk-again c =
     let g = good-field c.before in
     let h = head g in (
       within (line h),
       fits-same _ _ _ (then c.before) (kept-before (line h)) (fits c.before),
-      go_on (line h) (then c.before) (h.loop.inv.3
+      go_on (line h) (then c.before) (h.loop-n.inv.3
           ∙ text-here (rec-of (line h)) (here h) (at_of h) (end_of (line h))
-          h.loop.inv.0 h.loop.inv.1 (size g) (field-extent g) (then c.before)
-          (sym (asked (good-field c.before)).is-text.ensures ∙ c.if4.true) (took c.before)),
+          h.loop-n.inv.0 h.loop-n.inv.1 (size g) (field-extent g) (then c.before)
+          (sym (asked (good-field c.before)).is_text-text.ensures ∙ c.if-text.true) (took c.before)),
     )
 
 add-a-2 : tie.Need-overflow-add-a-2 invariant-loop decreases-loop invariant-walk decreases-walk
 add-a-2 c = let l = line (head (good-field c.before)) in omega (arith, short c, ends l, (entry l).good)
 
-shared-slice-read-if5 : tie.Need-shared-slice-read-if5 invariant-loop decreases-loop invariant-walk decreases-walk
+shared-slice-read-if5 : tie.Need-bounds-rec-f invariant-loop decreases-loop invariant-walk decreases-walk
 shared-slice-read-if5 c = omega (arith, short c.before, ends (line (head (good-field c.before.before))))
 
 sub-blanks-len : tie.Need-overflow-sub-blanks-len invariant-loop decreases-loop invariant-walk decreases-walk
 sub-blanks-len c = omega (arith, short c.before.before)
 
-part-blanks-len-start : tie.Need-slice-bounds-blanks-len-start invariant-loop decreases-loop invariant-walk decreases-walk
+part-blanks-len-start : tie.Need-slice_bounds-blanks_len-start invariant-loop decreases-loop invariant-walk decreases-walk
 part-blanks-len-start c = omega (arith, short c.before.before)
 
-add-t : tie.Need-overflow-add-t invariant-loop decreases-loop invariant-walk decreases-walk
+add-t : tie.Need-overflow_add-t invariant-loop decreases-loop invariant-walk decreases-walk
 add-t c =
     let l = line (head (blank-field c)) in
     omega (arith, blanks-in c, ends l, (entry l).good)
 
-walk-less-2 : tie.Need-walk-smaller-2 invariant-loop decreases-loop invariant-walk decreases-walk
+walk-less-2 : tie.Need-walk-smaller invariant-loop decreases-loop invariant-walk decreases-walk
 walk-less-2 c = let l = line (head (good-field c.before.before.before.before.before.before)) in omega (arith, after l, within l)
 
-walk-again-2 : tie.Need-walk-preserved-2 invariant-loop decreases-loop invariant-walk decreases-walk
+walk-again-2 : tie.Need-walk-preserved invariant-loop decreases-loop invariant-walk decreases-walk
 walk-again-2 c =
     let good = c.before.before.before.before.before.before in
     let plain = c.before.before.before.before.before in
@@ -360,71 +360,71 @@ walk-again-2 c =
     let b = blanks-from c.before in (
       within (line h),
       record { kept = (fits-same _ _ _ (then good) (kept-before (line h)) (fits good)).kept; slash = omega (arith, short plain, ends (line h)) },
-      go_on (line h) _ (h.loop.inv.3
+      go_on (line h) _ (h.loop-n.inv.3
           ∙ blanks-here (rec-of (line h)) (here h) (at_of h) (end_of (line h))
-          h.loop.inv.0 h.loop.inv.1 (size g) (field-extent g)
-          (no_text plain) (then good) (took good) c.before.before.before.if5.true _ b c.if6.false (blanks-in c.before)),
+          h.loop-n.inv.0 h.loop-n.inv.1 (size g) (field-extent g)
+          (no_text plain) (then good) (took good) c.before.before.before.if-rec-f-eq47.true _ b c.if-t-e.false (blanks-in c.before)),
     )
 
-loop-less : tie.Need-loop-smaller invariant-loop decreases-loop invariant-walk decreases-walk
+loop-less : tie.Need-loop-n-smaller invariant-loop decreases-loop invariant-walk decreases-walk
 loop-less c = omega (arith, short c.before.before)
 
-loop-again : tie.Need-loop-preserved invariant-loop decreases-loop invariant-walk decreases-walk
+loop-again : tie.Need-loop-n-preserved invariant-loop decreases-loop invariant-walk decreases-walk
 loop-again c =
     let good = c.before.before.before in
     let plain = c.before.before in
     let g = good-field good in
     let h = head g in (
       omega (arith, short plain),
-      h.loop.inv.1,
+      h.loop-n.inv.1,
       fits good,
-      h.loop.inv.3
+      h.loop-n.inv.3
           ∙ comma-here (rec-of (line h)) (here h) (at_of h) (end_of (line h))
-          h.loop.inv.0 h.loop.inv.1 (size g) (field-extent g)
-          (no_text plain) (then good) (took good) c.if5.false,
+          h.loop-n.inv.0 h.loop-n.inv.1 (size g) (field-extent g)
+          (no_text plain) (then good) (took good) c.if-rec-f-eq47.false,
     )
 
-returns : tie.Need-returns invariant-loop decreases-loop invariant-walk decreases-walk
+returns : tie.Need-returns-then-rec-at invariant-loop decreases-loop invariant-walk decreases-walk
 returns c =
     let w = c.before.before in
     let s = w.before.before.before.before.args.rec.now in
     let p = point (wanted_of w.walk.want) w.walk.auto w.walk.slash.0 in
     record {
       answer = from_end _ _ (lines_of s) (first_of w.before) (first-is w.before) p _
-          (w.walk.invariant.2 ∙ lines_end s p w.walk.at c.before.if1.true) c.finish.ensures;
+          (w.walk.invariant.2 ∙ lines_end s p w.walk.at c.before.if-rec-at.true) c.finish.ensures;
       bounds = end-bounds _ _ c.finish.result p c.finish.ensures (fits-same _ _ _ p (same-before w.before) w.walk.invariant.1);
     }
 
-returns-2 : tie.Need-returns-2 invariant-loop decreases-loop invariant-walk decreases-walk
+returns-2 : tie.Need-returns-then-e-a invariant-loop decreases-loop invariant-walk decreases-walk
 returns-2 c =
     let l = c.before.before in
     stopped-at _ _ _ 7 (start_of l + 3) c.stop.result c.stop.ensures
-    (stop l 7 (start_of l + 3) (short-here (rec-of l) (from-of l) (start_of l + 3) (end_of l) c.before.if2.true))
+    (stop l 7 (start_of l + 3) (short-here (rec-of l) (from-of l) (start_of l + 3) (end_of l) c.before.if-e-a.true))
     (omega (arith, some_byte l))
 
-returns-3 : tie.Need-returns-3 invariant-loop decreases-loop invariant-walk decreases-walk
+returns-3 : tie.Need-returns-in_default invariant-loop decreases-loop invariant-walk decreases-walk
 returns-3 c =
     let d = c.before in
     let h = d.before.before.before.before.before in
-    stopped-at _ _ _ 7 (end_of (line h)) c.stop2.result c.stop2.ensures
-    (stop (line h) 7 (end_of (line h)) (h.loop.invariant.3 ∙ open-here (rec-of (line h)) (here h) (at_of h) (end_of (line h))
-    h.loop.invariant.0 h.loop.invariant.1 (sym d.enum_told.given.1 ∙ extent-is d.before.before)))
+    stopped-at _ _ _ 7 (end_of (line h)) c.stop-in_default.result c.stop-in_default.ensures
+    (stop (line h) 7 (end_of (line h)) (h.loop-n.invariant.3 ∙ open-here (rec-of (line h)) (here h) (at_of h) (end_of (line h))
+    h.loop-n.invariant.0 h.loop-n.invariant.1 (sym d.enum_told-1.given.1 ∙ extent-is d.before.before)))
     (omega (arith, ends (line h)))
 
-returns-4 : tie.Need-returns-4 invariant-loop decreases-loop invariant-walk decreases-walk
+returns-4 : tie.Need-returns-in-Refused invariant-loop decreases-loop invariant-walk decreases-walk
 unfolding judged_of
 returns-4 c =
     let d = c.before in
     let g = field d.before.before.before in
     let h = head g in
-    stopped-at _ _ _ _ (at_of h) c.stop3.result c.stop3.ensures
-    (stop (line h) _ (at_of h) (h.loop.inv.3
+    stopped-at _ _ _ _ (at_of h) c.stop-in-Refused.result c.stop-in-Refused.ensures
+    (stop (line h) _ (at_of h) (h.loop-n.inv.3
     ∙ wrong-here (rec-of (line h)) (here h) (at_of h) (end_of (line h))
-    h.loop.inv.0 h.loop.inv.1 (size g) (field-extent g) _
-    (took-bad (at_of h) (bytes g) (here h) _ (sym (judged-is d.before.before.before) ∙ ap judged_of d.before.number.given.1))))
-    (omega (arith, ends (line h), h.loop.inv.0))
+    h.loop-n.inv.0 h.loop-n.inv.1 (size g) (field-extent g) _
+    (took-bad (at_of h) (bytes g) (here h) _ (sym (judged-is d.before.before.before) ∙ ap judged_of d.before.number-1.given.1))))
+    (omega (arith, ends (line h), h.loop-n.inv.0))
 
-returns-5 : tie.Need-returns-5 invariant-loop decreases-loop invariant-walk decreases-walk
+returns-5 : tie.Need-returns-then-t-e invariant-loop decreases-loop invariant-walk decreases-walk
 returns-5 c =
     let d = c.before in
     let good = d.before.before.before.before.before.before in
@@ -432,15 +432,15 @@ returns-5 c =
     let g = good-field good in
     let h = head g in
     let b = blanks-from d.before in
-    stopped-at _ _ _ 7 _ c.stop4.result c.stop4.ensures
-    (stop (line h) 7 _ (h.loop.inv.3
+    stopped-at _ _ _ 7 _ c.stop-then-t-e.result c.stop-then-t-e.ensures
+    (stop (line h) 7 _ (h.loop-n.inv.3
     ∙ byte-here (rec-of (line h)) (here h) (at_of h) (end_of (line h))
-    h.loop.inv.0 h.loop.inv.1 (size g) (field-extent g)
-    (no_text plain) (then good) (took good) d.before.before.before.if5.true _ b d.if6.true))
-    (omega (arith, ends (line h), d.if6.true))
+    h.loop-n.inv.0 h.loop-n.inv.1 (size g) (field-extent g)
+    (no_text plain) (then good) (took good) d.before.before.before.if-rec-f-eq47.true _ b d.if-t-e.true))
+    (omega (arith, ends (line h), d.if-t-e.true))
 
-pub walk-lines-spec : {M : Type 1} → statement M
-walk-lines-spec =
+pub walk_lines_spec : {M : Type 1} → statement M
+walk_lines_spec =
     tie.close
     (tie.spec
     invariant-loop

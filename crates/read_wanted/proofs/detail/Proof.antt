@@ -6,28 +6,28 @@ use borrow.Author.Rules.{rules}
 use Rattle.read_wanted.proofs.detail.Statement.{statement}
 use Rattle.read_wanted.proofs.detail.Tie as tie
 
-returns : tie.Need-returns
+returns : tie.Need-returns-in-SummaryOrDetail
 unfolding judged_of and_then wanted_of
-returns c = rw c.enum_told.given.1
+returns c = rw c.enum_told-1.given.1
 
-returns-2 : tie.Need-returns-2
+returns-2 : tie.Need-returns-in-NonMonetary
 unfolding judged_of and_then wanted_of
-returns-2 c = rw c.enum-told2.given.1
+returns-2 c = rw c.enum_told-in-NonMonetary-1.given.1
 
-returns-3 : tie.Need-returns-3
+returns-3 : tie.Need-returns-in-Status
 unfolding judged_of and_then wanted_of
-returns-3 c = rw c.enum-told3.given.1
+returns-3 c = rw c.enum_told-in-Status-1.given.1
 
-returns-4 : tie.Need-returns-4
+returns-4 : tie.Need-returns-in-SummaryOnly
 unfolding judged_of and_then wanted_of
-returns-4 c = rw c.enum-told4.given.1
+returns-4 c = rw c.enum_told-in-SummaryOnly-1.given.1
 
-returns-5 : tie.Need-returns-5
+returns-5 : tie.Need-returns-in-Unknown
 unfolding judged_of and_then wanted_of
-returns-5 c = rw c.enum-told5.given.1
+returns-5 c = rw c.enum_told-in-Unknown-1.given.1
 
-pub detail-spec : {M : Type 1} → statement M
-detail-spec =
+pub detail_spec : {M : Type 1} → statement M
+detail_spec =
     tie.close
     (tie.spec
     (λ c. search rules)

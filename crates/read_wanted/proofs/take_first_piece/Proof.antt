@@ -5,12 +5,12 @@ use borrow.Author.Rules.{rules}
 use Rattle.read_wanted.proofs.take_first_piece.Statement.{statement}
 use Rattle.read_wanted.proofs.take_first_piece.Tie as tie
 
-returns : tie.Need-returns
-returns c = text-none _ (sym c.before.is-one-of.ensures ∙ c.if1.true)
+returns : tie.Need-returns-then-is_one_of
+returns c = text-none _ (sym c.before.is_one_of.ensures ∙ c.if-is_one_of.true)
 
-returns-2 : tie.Need-returns-2
-returns-2 c = text-some _ _ (sym c.before.before.is-one-of.ensures ∙ c.before.if1.false) c.take-piece.ensures
+returns-2 : tie.Need-returns
+returns-2 c = text-some _ _ (sym c.before.before.is_one_of.ensures ∙ c.before.if-is_one_of.false) c.take_piece.ensures
 
-pub take-first-piece-spec : {M : Type 1} → statement M
-take-first-piece-spec =
+pub take_first_piece_spec : {M : Type 1} → statement M
+take_first_piece_spec =
     tie.close (tie.spec (λ c κs. search rules) returns (λ c κs. search rules) returns-2)

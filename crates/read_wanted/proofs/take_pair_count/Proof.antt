@@ -6,22 +6,22 @@ use borrow.Author.Rules.{rules}
 use Rattle.read_wanted.proofs.take_pair_count.Statement.{statement}
 use Rattle.read_wanted.proofs.take_pair_count.Tie as tie
 
-returns : tie.Need-returns
-returns c = pairs-not _ _ (sym c.before.is-digits.ensures ∙ not-true _ c.if1.true)
+returns : tie.Need-returns-then-not-is_digits
+returns c = pairs-not _ _ (sym c.before.is_digits.ensures ∙ not-true _ c.if-not-is_digits.true)
 
-returns-2 : tie.Need-returns-2
+returns-2 : tie.Need-returns-then-n-lt1
 returns-2 c =
     let v = c.before in
     let d = v.before in
-    pairs-zero _ _ _ (sym d.before.is-digits.ensures ∙ not-false _ d.if1.false) v.value.ensures.0 c.if2.true
+    pairs-zero _ _ _ (sym d.before.is_digits.ensures ∙ not-false _ d.if-not-is_digits.false) v.value-n.ensures.0 c.if-n-lt1.true
 
-returns-3 : tie.Need-returns-3
+returns-3 : tie.Need-returns
 returns-3 c =
     let v = c.before.before in
     let d = v.before in
-    pairs-some _ _ _ (sym d.before.is-digits.ensures ∙ not-false _ d.if1.false) v.value.ensures.0 _ c.before.if2.false c.next-pair.ensures
+    pairs-some _ _ _ (sym d.before.is_digits.ensures ∙ not-false _ d.if-not-is_digits.false) v.value-n.ensures.0 _ c.before.if-n-lt1.false c.next_pair.ensures
 
-pub take-pair-count-spec : {M : Type 1} → statement M
-take-pair-count-spec =
+pub take_pair_count_spec : {M : Type 1} → statement M
+take_pair_count_spec =
     tie.close
     (tie.spec (λ c κs. search rules) returns (λ c κs. search rules) returns-2 (λ c κs. search rules) returns-3)

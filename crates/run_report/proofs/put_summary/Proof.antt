@@ -18,7 +18,7 @@ use Rattle.run_report.proofs.put_summary.Tie as tie
 line-most : (start : tie.Start) → length (as_line (verdict_words (fine (summary_meant start.args.summary)))) ≤ longest_report
 line-most start = summary-most (summary_meant start.args.summary) (omega arith) (omega arith) (omega arith) (omega arith) (omega arith) (omega arith)
 
-put-counts-requires : tie.Need-put-counts-requires
+put-counts-requires : tie.Need-put_counts-o-requires
 put-counts-requires c κs =
     let total-put = c.before.before.before in
     let ok-put = total-put.before.before.before.before in
@@ -26,8 +26,8 @@ put-counts-requires c κs =
     let s = summary_meant start.args.summary in
     let rest : Bytes = counts s ++ (LF ∷ []) in
     let most = rw (summary-parts s) at (line-most start) in
-    let w₁ = wrote-first (bytes "ok ") (total_bytes s.sum ++ rest) start.args.out.now ok-put.put.result ok-put.put.new.0 (omega (arith, most, start.requires)) ok-put.put.ensures in
-    let w₂ = wrote-part _ _ _ (total_bytes s.sum) rest _ _ _ w₁ total-put.put-total.ensures in
+    let w₁ = wrote-first (bytes "ok ") (total_bytes s.sum ++ rest) start.args.out.now ok-put.put-o.result ok-put.put-o.new.0 (omega (arith, most, start.requires)) ok-put.put-o.ensures in
+    let w₂ = wrote-part _ _ _ (total_bytes s.sum) rest _ _ _ w₁ total-put.put_total-o.ensures in
     has_room _ _ _ (counts s) (LF ∷ []) _ w₂
 
 returns : tie.Need-returns
@@ -40,13 +40,13 @@ returns c =
     let s = summary_meant start.args.summary in
     let rest : Bytes = counts s ++ (LF ∷ []) in
     let most = rw (summary-parts s) at (line-most start) in
-    let w₁ = wrote-first (bytes "ok ") (total_bytes s.sum ++ rest) start.args.out.now ok-put.put.result ok-put.put.new.0 (omega (arith, most, start.requires)) ok-put.put.ensures in
-    let w₂ = wrote-part _ _ _ (total_bytes s.sum) rest _ _ _ w₁ total-put.put-total.ensures in
-    let w₃ = wrote-part _ _ _ (counts s) (LF ∷ []) _ _ _ w₂ counts-put.put-counts.ensures in
-    rw (summary-parts s) (wrote-last _ _ _ (LF ∷ []) _ _ _ w₃ end-put.put2.ensures, most)
+    let w₁ = wrote-first (bytes "ok ") (total_bytes s.sum ++ rest) start.args.out.now ok-put.put-o.result ok-put.put-o.new.0 (omega (arith, most, start.requires)) ok-put.put-o.ensures in
+    let w₂ = wrote-part _ _ _ (total_bytes s.sum) rest _ _ _ w₁ total-put.put_total-o.ensures in
+    let w₃ = wrote-part _ _ _ (counts s) (LF ∷ []) _ _ _ w₂ counts-put.put_counts-o.ensures in
+    rw (summary-parts s) (wrote-last _ _ _ (LF ∷ []) _ _ _ w₃ end-put.put-o-2.ensures, most)
 
-pub put-summary-spec : {M : Type 1} → statement M
-put-summary-spec =
+pub put_summary_spec : {M : Type 1} → statement M
+put_summary_spec =
     tie.close
     (tie.spec
     (λ c. search rules)

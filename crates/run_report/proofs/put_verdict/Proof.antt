@@ -3,14 +3,14 @@ use borrow.Author.Rules.{rules}
 use Rattle.run_report.proofs.put_verdict.Statement.{statement}
 use Rattle.run_report.proofs.put_verdict.Tie as tie
 
-returns : tie.Need-returns
-returns c = rw c.before.before.before.before.before.verdict.given.1 c.before.before.put-summary.ensures
+returns : tie.Need-returns-in-Accepted
+returns c = rw c.before.before.before.before.before.verdict-1.given.1 c.before.before.put_summary.ensures
 
-returns-2 : tie.Need-returns-2
-returns-2 c = rw c.before.before.before.before.before.verdict2.given.1 c.before.before.put-refusal.ensures
+returns-2 : tie.Need-returns-in-Refused
+returns-2 c = rw c.before.before.before.before.before.verdict-in-Refused-1.given.1 c.before.before.put_refusal.ensures
 
-pub put-verdict-spec : {M : Type 1} → statement M
-put-verdict-spec =
+pub put_verdict_spec : {M : Type 1} → statement M
+put_verdict_spec =
     tie.close
     (tie.spec
     (λ c. search rules)

@@ -6,22 +6,22 @@ use borrow.Author.Rules.{rules}
 use Rattle.run_report.proofs.report.Statement.{statement}
 use Rattle.run_report.proofs.report.Tie as tie
 
-returns : tie.Need-returns
+returns : tie.Need-returns-then-input-gt-MOST_INPUT
 returns c =
     let start = c.before.before.before.before.before.before.before.before in
-    rw (report-long start.args.input.now c.before.before.before.before.before.if1.true) (c.before.before.put.ensures, omega arith)
+    rw (report-long start.args.input.now c.before.before.before.before.before.if-input-gt-MOST_INPUT.true) (c.before.before.put.ensures, omega arith)
 
-returns-2 : tie.Need-returns-2
+returns-2 : tie.Need-returns
 returns-2 c =
     let verdict-put = c.before.before.before.before.before.before.before in
     let judged = verdict-put.before in
     let fits = judged.before.before in
     let start = fits.before.before.before in
-    put-judged start.args.input.now (verdict_meant judged.read.result) _ _ start.args.out.now verdict-put.put-verdict.result c.before.before.put2.result _ fits.if1.false
-    judged.read.ensures (search rules) verdict-put.put-verdict.ensures c.before.before.put2.ensures
+    put-judged start.args.input.now (verdict_meant judged.read.result) _ _ start.args.out.now verdict-put.put_verdict-length.result c.before.before.put-2.result _ fits.if-input-gt-MOST_INPUT.false
+    judged.read.ensures (search rules) verdict-put.put_verdict-length.ensures c.before.before.put-2.ensures
 
-pub report-spec : {M : Type 1} → statement M
-report-spec =
+pub report_spec : {M : Type 1} → statement M
+report_spec =
     tie.close
     (tie.spec
     (λ c. search rules)

@@ -4,10 +4,10 @@ use Rattle.write_line.specs.DraftMeaning.{amount_given}
 use Rattle.write_calls.proofs.CallLaws.{detail-written}
 use Rattle.write_state.specs.WriterMeaning.{writer_meant}
 use borrow.Author.Rules.{rules}
-use Rattle.write_calls.proofs.detail.Statement.{statement}
-use Rattle.write_calls.proofs.detail.Tie as tie
+use Rattle.write_calls.proofs.detail-d.Statement.{statement}
+use Rattle.write_calls.proofs.detail-d.Tie as tie
 
-abbrev start : tie.After-detail → tie.Start
+abbrev start : tie.After-detail-d → tie.Start
 start c = c.before.before.before.before.before.before.before
 
 returns : tie.Need-returns
@@ -17,11 +17,11 @@ returns c =
     let drafted = added.before in
     let s = start drafted in
     done.commit.ensures
-    ∙ detail-written (writer_meant s.args.w) s.args.type-code.now (amount_given s.args.amount) s.args.bank-reference.now s.args.customer-reference.now
-    s.args.text.now s.args.out.now _ _ _ added.sum-given.ensures drafted.detail.ensures
+    ∙ detail-written (writer_meant s.args.w) s.args.type_code.now (amount_given s.args.amount) s.args.bank_reference.now s.args.customer_reference.now
+    s.args.text.now s.args.out.now _ _ _ added.sum_given-sum.ensures drafted.detail-d.ensures
 
-pub detail-spec : {M : Type 1} → statement M
-detail-spec =
+pub detail_spec : {M : Type 1} → statement M
+detail_spec =
     tie.close
     (tie.spec
     (λ c κs. search rules)

@@ -3,10 +3,10 @@ use mathlib.Core.Path.{◌∙◌}
 use Rattle.write_calls.proofs.CallLaws.{group-written}
 use Rattle.write_state.specs.WriterMeaning.{writer_meant}
 use borrow.Author.Rules.{rules}
-use Rattle.write_calls.proofs.group.Statement.{statement}
-use Rattle.write_calls.proofs.group.Tie as tie
+use Rattle.write_calls.proofs.group-d.Statement.{statement}
+use Rattle.write_calls.proofs.group-d.Tie as tie
 
-abbrev start : tie.After-group → tie.Start
+abbrev start : tie.After-group-d → tie.Start
 start c = c.before.before.before.before.before.before.before.before.before.before
 
 returns : tie.Need-returns
@@ -17,10 +17,10 @@ returns c =
     let s = start drafted in
     done.commit.ensures
     ∙ group-written (writer_meant s.args.w) s.args.out.now _ _ _ s.args.receiver.now s.args.originator.now s.args.status.now s.args.date.now
-    s.args.time.now s.args.currency.now s.args.modifier.now added.none.ensures drafted.group.ensures
+    s.args.time.now s.args.currency.now s.args.modifier.now added.none.ensures drafted.group-d.ensures
 
-pub group-spec : {M : Type 1} → statement M
-group-spec =
+pub group_spec : {M : Type 1} → statement M
+group_spec =
     tie.close
     (tie.spec
     (λ c κs. search rules)

@@ -3,10 +3,10 @@ use mathlib.Core.Path.{◌∙◌}
 use Rattle.write_calls.proofs.CallLaws.{header-written}
 use Rattle.write_state.specs.WriterMeaning.{writer_meant}
 use borrow.Author.Rules.{rules}
-use Rattle.write_calls.proofs.header.Statement.{statement}
-use Rattle.write_calls.proofs.header.Tie as tie
+use Rattle.write_calls.proofs.header-d.Statement.{statement}
+use Rattle.write_calls.proofs.header-d.Tie as tie
 
-abbrev start : tie.After-header → tie.Start
+abbrev start : tie.After-header-d → tie.Start
 start c = c.before.before.before.before.before.before.before.before
 
 returns : tie.Need-returns
@@ -17,10 +17,10 @@ returns c =
     let s = start drafted in
     done.commit.ensures
     ∙ header-written (writer_meant s.args.w) s.args.out.now _ _ _ s.args.sender.now s.args.receiver.now s.args.date.now s.args.time.now
-    s.args.file-number.now added.none.ensures drafted.header.ensures
+    s.args.file_number.now added.none.ensures drafted.header-d.ensures
 
-pub header-spec : {M : Type 1} → statement M
-header-spec =
+pub header_spec : {M : Type 1} → statement M
+header_spec =
     tie.close
     (tie.spec
     (λ c κs. search rules)

@@ -4,10 +4,10 @@ use Rattle.write_calls.specs.ItemMeaning.{item_meant}
 use Rattle.write_calls.proofs.CallLaws.{item-written}
 use Rattle.write_state.specs.WriterMeaning.{writer_meant}
 use borrow.Author.Rules.{rules}
-use Rattle.write_calls.proofs.item.Statement.{statement}
-use Rattle.write_calls.proofs.item.Tie as tie
+use Rattle.write_calls.proofs.item-d.Statement.{statement}
+use Rattle.write_calls.proofs.item-d.Tie as tie
 
-abbrev start : tie.After-item → tie.Start
+abbrev start : tie.After-item-d → tie.Start
 start c = c.before.before.before.before
 
 returns : tie.Need-returns
@@ -17,11 +17,11 @@ returns c =
     let drafted = added.before in
     let s = start drafted in
     done.commit.ensures
-    ∙ item-written (writer_meant s.args.w) s.args.out.now _ _ _ (item_meant s.args.type-code.now s.args.amount s.args.count) added.sum-given.ensures
-    drafted.item.ensures
+    ∙ item-written (writer_meant s.args.w) s.args.out.now _ _ _ (item_meant s.args.type_code.now s.args.amount s.args.count) added.sum_given-sum.ensures
+    drafted.item-d.ensures
 
-pub item-spec : {M : Type 1} → statement M
-item-spec =
+pub item_spec : {M : Type 1} → statement M
+item_spec =
     tie.close
     (tie.spec
     (λ c κs. search rules)

@@ -7,7 +7,7 @@ use borrow.Author.Rules.{rules}
 use Rattle.write_calls.proofs.open_account.Statement.{statement}
 use Rattle.write_calls.proofs.open_account.Tie as tie
 
-abbrev start : tie.After-account → tie.Start
+abbrev start : tie.After-account-d → tie.Start
 start c = c.before.before.before.before.before.before
 
 returns : tie.Need-returns
@@ -18,12 +18,12 @@ returns c =
     let drafted = added.before in
     let s = start drafted in
     done.commit.ensures
-    ∙ rw kept.is-empty.ensures
+    ∙ rw kept.is_empty-items.ensures
     (account-written (writer_meant s.args.w) s.args.out.now _ _ _ s.args.number.now s.args.currency.now
-    (item_meant s.args.type-code.now s.args.amount s.args.count) added.sum-given.ensures drafted.account.ensures)
+    (item_meant s.args.type_code.now s.args.amount s.args.count) added.sum_given-sum.ensures drafted.account-d.ensures)
 
-pub open-account-spec : {M : Type 1} → statement M
-open-account-spec =
+pub open_account_spec : {M : Type 1} → statement M
+open_account_spec =
     tie.close
     (tie.spec
     (λ c κs. search rules)

@@ -16,7 +16,7 @@ use Rattle.write_commit.proofs.after_line.Tie as tie
 
 -- once it is known what the line adds
 abbrev Line : Type 0
-Line = tie.After-adding
+Line = tie.After-adding-this
 
 abbrev start : Line → tie.Start
 start c = c.before.before.before
@@ -33,8 +33,8 @@ sum c = sum_meant (start c).args.sum
 is-sound : (c : Line) → sound (writer_meant (given c)) ≡ true
 is-sound c = (start c).requires.0
 
-this-small : (c : Line) → Small c.adding.result
-this-small c = small_line c.adding.result (code c) (sum c) c.adding.ensures (start c).requires.1
+this-small : (c : Line) → Small c.adding-this.result
+this-small c = small_line c.adding-this.result (code c) (sum c) c.adding-this.ensures (start c).requires.1
 
 returns : tie.Need-returns
 returns c =
@@ -42,14 +42,14 @@ returns c =
     let group = account.before.before in
     let sums = group.before.before in
     let l = sums.before.before.before in
-    state-is (writer_meant (given l)) (code l) (sum l) (start l).args.items (start l).args.n l.before.phase-after.ensures l.adding.ensures
-    group.group-open.ensures account.account-open.ensures (to-file (given l) (is-sound l) l.adding.result (this-small l) sums.before.before.add.ensures)
-    (to-group (given l) (is-sound l) l.adding.result (this-small l) sums.before.add2.ensures)
-    (to-account (given l) (is-sound l) l.adding.result (this-small l) sums.add3.ensures)
-    account.before.while-open.ensures c.while-open2.ensures
+    state-is (writer_meant (given l)) (code l) (sum l) (start l).args.items (start l).args.n l.before.phase_after-phase.ensures l.adding-this.ensures
+    group.group_open.ensures account.account_open.ensures (to-file (given l) (is-sound l) l.adding-this.result (this-small l) sums.before.before.add-file.ensures)
+    (to-group (given l) (is-sound l) l.adding-this.result (this-small l) sums.before.add-group.ensures)
+    (to-account (given l) (is-sound l) l.adding-this.result (this-small l) sums.add-account.ensures)
+    account.before.while_open.ensures c.while_open-2.ensures
 
-pub after-line-spec : {M : Type 1} → statement M
-after-line-spec =
+pub after_line_spec : {M : Type 1} → statement M
+after_line_spec =
     tie.close
     (tie.spec
     (λ c κs. search rules)

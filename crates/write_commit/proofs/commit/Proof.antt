@@ -30,111 +30,111 @@ given s =
     }
 
 -- the arguments at each place: before the tests, past 19's two, with a good draft, with its bytes cut, and with room for them
-abbrev asked : tie.After-is-sound → tie.Start
+abbrev asked : tie.After-is_sound → tie.Start
 asked c = c.before.before.before
 
-abbrev at-sound : tie.Else1 → tie.Start
+abbrev at-sound : tie.Else-not-is_sound → tie.Start
 at-sound c = asked c.before
 
-abbrev at_turn : tie.Else2 → tie.Start
+abbrev at_turn : tie.Else-not-in_turn → tie.Start
 at_turn c = at-sound c.before.before
 
-abbrev at-draft : tie.Else3 → tie.Start
+abbrev at-draft : tie.Else-not-is_next → tie.Start
 at-draft c = at_turn c.before.before
 
-abbrev at_body : tie.After-front → tie.Start
+abbrev at_body : tie.After-front-body → tie.Start
 at_body c = at-draft c.before.before
 
-abbrev turn-of : tie.After-front → tie.Else2
+abbrev turn-of : tie.After-front-body → tie.Else-not-in_turn
 turn-of c = c.before.before.before.before
 
-abbrev at_room : tie.Else4 → tie.Start
+abbrev at_room : tie.Else-number-ne0 → tie.Start
 at_room c = at_body c.before.before
 
-abbrev at-line : tie.After-struct-known → tie.Else4
+abbrev at-line : tie.After-struct_known-1 → tie.Else-number-ne0
 at-line c = c.before.before.before.before.before
 
 -- what is known there
-is-sound : (c : tie.Else1) → sound (given (at-sound c)).writer ≡ true
-is-sound c = sym c.before.is-sound.ensures ∙ not-false _ c.if1.false
+is-sound : (c : tie.Else-not-is_sound) → sound (given (at-sound c)).writer ≡ true
+is-sound c = sym c.before.is_sound.ensures ∙ not-false _ c.if-not-is_sound.false
 
-is-turn : (c : tie.Else2) → turn_of (given (at_turn c)) ≡ true
-is-turn c = sym c.before.in-turn.ensures ∙ not-false _ c.if2.false
+is-turn : (c : tie.Else-not-in_turn) → turn_of (given (at_turn c)) ≡ true
+is-turn c = sym c.before.in_turn.ensures ∙ not-false _ c.if-not-in_turn.false
 
-abbrev body : tie.After-front → Bytes
-body c = c.front.result.now
+abbrev body : tie.After-front-body → Bytes
+body c = c.front-body.result.now
 
-abbrev sofar : tie.After-front → Sofar
-sofar c = record { kinds = kinds_of (at_body c).args.d.taken; bytes = body c }
+abbrev sofar : tie.After-front-body → Sofar
+sofar c = record { kinds = kinds_of (at_body c).args.d.true; bytes = body c }
 
-is-draft : (c : tie.After-front) → (given (at_body c)).draft ≡ fine (sofar c)
+is-draft : (c : tie.After-front-body) → (given (at_body c)).draft ≡ fine (sofar c)
 is-draft c =
     let s = at_body c in
-    draft-good s.args.line.now s.args.d.len s.args.d.taken (body c) (sym c.before.before.before.is-next.ensures ∙ not-false _ c.before.before.if3.false) c.front.ensures
+    draft-good s.args.line.now s.args.d.len s.args.d.true (body c) (sym c.before.before.before.is_next.ensures ∙ not-false _ c.before.before.if-not-is_next.false) c.front-body.ensures
 
-abbrev Fits : tie.After-front → Type 0
+abbrev Fits : tie.After-front-body → Type 0
 Fits c = HasRoom (given (at_body c)).writer (given (at_body c)).sum (length (body c) + 1) (given (at_body c)).room
 
-room : (c : tie.Else4) → Fits c.before.before
+room : (c : tie.Else-number-ne0) → Fits c.before.before
 room c =
     let a = given (at_room c) in
-    has_room a.writer a.sum (length (body c.before.before) + 1) a.room (sym c.if4.false ∙ c.before.room-number.ensures)
+    has_room a.writer a.sum (length (body c.before.before) + 1) a.room (sym c.if-number-ne0.false ∙ c.before.room_number-number.ensures)
 
-returns : tie.Need-returns
+returns : tie.Need-returns-then-not-is_sound
 returns c =
     let turn = c.before.before in
-    refuses (asked turn).args.w c.refused.ensures (not_sound (given (asked turn)) (sym turn.is-sound.ensures ∙ not-true _ c.before.if1.true))
+    refuses (asked turn).args.w c.refused.ensures (not_sound (given (asked turn)) (sym turn.is_sound.ensures ∙ not-true _ c.before.if-not-is_sound.true))
 
-returns-2 : tie.Need-returns-2
+returns-2 : tie.Need-returns-then-not-in_turn
 returns-2 c =
     let turn = c.before.before in
     let known = turn.before in
-    refuses (at-sound known).args.w c.refused2.ensures (no-turn (given (at-sound known)) (is-sound known) (sym turn.in-turn.ensures ∙ not-true _ c.before.if2.true))
+    refuses (at-sound known).args.w c.refused-then-not-in_turn.ensures (no-turn (given (at-sound known)) (is-sound known) (sym turn.in_turn.ensures ∙ not-true _ c.before.if-not-in_turn.true))
 
-returns-3 : tie.Need-returns-3
+returns-3 : tie.Need-returns-then-not-is_next
 returns-3 c =
     let next = c.before.before in
     let known = next.before in
     let s = at_turn known in
-    refuses s.args.w c.refused3.ensures
+    refuses s.args.w c.refused-then-not-is_next.ensures
     (no-draft (given s) (is-sound known.before.before) (is-turn known)
-    (draft-refused s.args.line.now s.args.d.len s.args.d.taken (sym next.is-next.ensures ∙ not-true _ c.before.if3.true)))
+    (draft-refused s.args.line.now s.args.d.len s.args.d.true (sym next.is_next.ensures ∙ not-true _ c.before.if-not-is_next.true)))
 
-returns-4 : tie.Need-returns-4
+returns-4 : tie.Need-returns-then-number-ne0
 returns-4 c =
     let size = c.before.before in
     let cut = size.before in
     let turn = turn-of cut in
     let s = at_body cut in
-    refuses s.args.w c.refused4.ensures
-    (held_back (given s) (is-sound turn.before.before) (is-turn turn) (sofar cut) (is-draft cut) size.room-number.result
-    (no_room (given s).writer (given s).sum _ _ size.room-number.result size.room-number.ensures c.before.if4.true))
+    refuses s.args.w c.refused-then-number-ne0.ensures
+    (held_back (given s) (is-sound turn.before.before) (is-turn turn) (sofar cut) (is-draft cut) size.room_number-number.result
+    (no_room (given s).writer (given s).sum _ _ size.room_number-number.result size.room_number-number.ensures c.before.if-number-ne0.true))
 
-add-out : tie.Need-overflow-add-out
-add-out c = omega (arith, (room (at-line c)).size)
+add-out : tie.Need-overflow_add-out
+add-out c = omega (arith, (room (at-line c)).size-1)
 
-slice-write-out : tie.Need-slice-write-out
+slice-write-out : tie.Need-bounds-out-size
 slice-write-out c = omega (arith, (room (at-line c)).room)
 
 add-t18 : tie.Need-overflow-add-t18
-add-t18 c = omega (arith, (room (at-line c.before)).size)
+add-t18 c = omega (arith, (room (at-line c.before)).size-1)
 
-after-line-requires : tie.Need-after-line-requires
+after-line-requires : tie.Need-after_line-requires
 after-line-requires c κs =
     let l = at-line c.before in
-    (is-sound (turn-of l.before.before).before.before, omega (arith, (room l).sum), (room l).size)
+    (is-sound (turn-of l.before.before).before.before, omega (arith, (room l).sum), (room l).size-1)
 
-returns-5 : tie.Need-returns-5
+returns-5 : tie.Need-returns
 returns-5 c =
     let l = at-line c.before.before in
     let cut = l.before.before in
     let turn = turn-of cut in
-    writes (at_room l).args.w (at_room l).args.out.now c.after_Line.result (body cut)
-    (goes_in (given (at_room l)) (is-sound turn.before.before) (is-turn turn) (sofar cut) (is-draft cut) (room l).is) c.after_Line.ensures refl (room l).room
-    c.before.before.before.before.before.put-at.ensures
+    writes (at_room l).args.w (at_room l).args.out.now c.after_line.result (body cut)
+    (goes_in (given (at_room l)) (is-sound turn.before.before) (is-turn turn) (sofar cut) (is-draft cut) (room l).is) c.after_line.ensures refl (room l).room
+    c.before.before.before.before.before.put_at.ensures
 
-pub commit-spec : {M : Type 1} → statement M
-commit-spec =
+pub commit_spec : {M : Type 1} → statement M
+commit_spec =
     tie.close
     (tie.spec
     (λ c κs. search rules)

@@ -19,15 +19,15 @@ writer c = writer_meant (start c).args.w
 abbrev sum : tie.After-join → Sum
 sum c = sum_meant (start c).args.sum
 
-returns : tie.Need-returns
-returns c = let a = c.before.before in sum-beyond (writer a) (sum a) (start a).args.n (start a).args.room (sym c.enum_told.given.1 ∙ a.join.ensures)
+returns : tie.Need-returns-in-Beyond
+returns c = let a = c.before.before in sum-beyond (writer a) (sum a) (start a).args.n (start a).args.room (sym c.enum_told-1.given.1 ∙ a.join.ensures)
 
-returns-2 : tie.Need-returns-2
+returns-2 : tie.Need-returns-in-Within
 returns-2 c =
     let told = c.before in
     let a = told.before.before in
-    c.size_number.ensures ∙ sum_fits (writer a) (sum a) (start a).args.n (start a).args.room _ (sym told.enum-told2.given.1 ∙ a.join.ensures)
+    c.size_number.ensures ∙ sum_fits (writer a) (sum a) (start a).args.n (start a).args.room _ (sym told.enum_told-in-Within-1.given.1 ∙ a.join.ensures)
 
-pub room-number-spec : {M : Type 1} → statement M
-room-number-spec =
+pub room_number_spec : {M : Type 1} → statement M
+room_number_spec =
     tie.close (tie.spec (λ c κs. search rules) (λ c. search rules) (λ c. search rules) (λ c κs. search rules) returns returns-2)

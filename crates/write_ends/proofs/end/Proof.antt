@@ -16,11 +16,11 @@ returns c =
     let counted = drafted.before.before in
     let s = counted.before.before in
     done.commit.ensures
-    ∙ end-answers (writer_meant s.args.w) (code_meant s.args.code) (summary_meant s.args.summary) s.args.count.0 counted.add.result.0 s.args.out.now _ _ _
-    added.none.ensures counted.add.ensures drafted.trailer.ensures
+    ∙ end-answers (writer_meant s.args.w) (code_meant s.args.code) (summary_meant s.args.summary) s.args.count.0 counted.add-records.result.0 s.args.out.now _ _ _
+    added.none.ensures counted.add-records.ensures drafted.trailer-d.ensures
 
-pub end-spec : {M : Type 1} → statement M
-end-spec =
+pub end_spec : {M : Type 1} → statement M
+end_spec =
     tie.close
     (tie.spec
     (λ c κs. search rules)

@@ -14,10 +14,10 @@ returns c =
     let counted = drafted.before.before in
     let s = counted.before.before.before in
     done.commit.ensures
-    ∙ account-end-written (writer_meant s.args.w) s.args.out.now _ _ _ counted.add.result.0 added.none.ensures counted.add.ensures drafted.account-end.ensures
+    ∙ account-end-written (writer_meant s.args.w) s.args.out.now _ _ _ counted.add-records.result.0 added.none.ensures counted.add-records.ensures drafted.account_end-d.ensures
 
-pub end-account-spec : {M : Type 1} → statement M
-end-account-spec =
+pub end_account_spec : {M : Type 1} → statement M
+end_account_spec =
     tie.close
     (tie.spec
     (λ c κs. search rules)

@@ -12,8 +12,8 @@ returns c =
     let s = done.before.before.before.before in
     done.end.ensures ∙ file-end-written (writer_meant s.args.w) s.args.out.now
 
-pub end-file-spec : {M : Type 1} → statement M
-end-file-spec =
+pub end_file_spec : {M : Type 1} → statement M
+end_file_spec =
     tie.close
     (tie.spec
     (λ c κs. search rules)

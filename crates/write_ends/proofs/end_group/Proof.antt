@@ -12,8 +12,8 @@ returns c =
     let s = done.before.before.before.before in
     done.end.ensures ∙ group-end-written (writer_meant s.args.w) s.args.out.now
 
-pub end-group-spec : {M : Type 1} → statement M
-end-group-spec =
+pub end_group_spec : {M : Type 1} → statement M
+end_group_spec =
     tie.close
     (tie.spec
     (λ c κs. search rules)

@@ -4,14 +4,14 @@ use borrow.Author.Rules.{rules}
 use Rattle.write_line.proofs.add_items.Statement.{statement}
 use Rattle.write_line.proofs.add_items.Tie as tie
 
-returns : tie.Need-returns
-returns c = c.add-number.ensures ∙ rw c.before.before.before.count.given.1
+returns : tie.Need-returns-in-Given
+returns c = c.add_number.ensures ∙ rw c.before.before.before.count-1.given.1
 
-returns-2 : tie.Need-returns-2
-returns-2 c = c.add-empty.ensures ∙ rw c.before.before.enum_told.given.1
+returns-2 : tie.Need-returns-in-NoItems
+returns-2 c = c.add_empty.ensures ∙ rw c.before.before.enum_told-1.given.1
 
-pub add-items-spec : {M : Type 1} → statement M
-add-items-spec =
+pub add_items_spec : {M : Type 1} → statement M
+add_items_spec =
     tie.close
     (tie.spec
     (λ c. search rules)

@@ -12,10 +12,10 @@ returns c =
     let put = c.before.before.before.before.before in
     let space = put.before.before in
     let short = decimal-short space.before.args.n (omega arith) in
-    rw (number-bytes put.put-digits.ensures (omega (arith, short, ap length space.number-space.ensures))) at c.add.ensures
+    rw (number-bytes put.put_digits-k.ensures (omega (arith, short, ap length space.number_space-space.ensures))) at c.add.ensures
 
-pub add-number-spec : {M : Type 1} → statement M
-add-number-spec =
+pub add_number_spec : {M : Type 1} → statement M
+add_number_spec =
     tie.close
     (tie.spec
     (λ c κs. search rules)

@@ -13,10 +13,10 @@ returns c =
     let put = c.before.before.before.before.before in
     let space = put.before.before in
     let short = total-short (sum_meant space.before.args.total) (omega arith) (omega arith) in
-    rw (number-bytes put.put-total.ensures (omega (arith, short, ap length space.number-space.ensures))) at c.add.ensures
+    rw (number-bytes put.put_total-k.ensures (omega (arith, short, ap length space.number_space-space.ensures))) at c.add.ensures
 
-pub add-total-spec : {M : Type 1} → statement M
-add-total-spec =
+pub add_total_spec : {M : Type 1} → statement M
+add_total_spec =
     tie.close
     (tie.spec
     (λ c κs. search rules)

@@ -8,39 +8,39 @@ use Rattle.write_line.proofs.add_wanted.Statement.{statement}
 use Rattle.write_line.proofs.add_wanted.Tie as tie
 
 -- with room left, and with a field that is short
-abbrev start : tie.Else1 → tie.Start
+abbrev start : tie.Else-len → tie.Start
 start c = c.before.before.before
 
-abbrev short : tie.Else2 → tie.Start
+abbrev short : tie.Else-f-gt-LONGEST_NAME → tie.Start
 short c = start c.before
 
-returns : tie.Need-returns
+returns : tie.Need-returns-then-len
 returns c =
     let s = c.before.before.before in
     field-no-room s.args.line.now s.args.len s.args.want s.args.f.now s.args.mark (omega arith)
 
-returns-2 : tie.Need-returns-2
+returns-2 : tie.Need-returns-then-f-gt-LONGEST_NAME
 returns-2 c =
     let s = start c.before in
-    field-long s.args.line.now s.args.len s.args.want s.args.f.now s.args.mark c.if2.true
+    field-long s.args.line.now s.args.len s.args.want s.args.f.now s.args.mark c.if-f-gt-LONGEST_NAME.true
 
-returns-3 : tie.Need-returns-3
+returns-3 : tie.Need-returns-then-not-is_clean
 returns-3 c =
     let s = short c.before.before in
     field-unclean s.args.line.now s.args.len s.args.want s.args.f.now s.args.mark
-    (sym c.before.is-clean.ensures ∙ not-true _ c.if3.true)
+    (sym c.before.is_clean.ensures ∙ not-true _ c.if-not-is_clean.true)
 
-returns-4 : tie.Need-returns-4
+returns-4 : tie.Need-returns
 returns-4 c =
     let put = c.before.before.before in
     let is-clean = put.before.before in
     let is-short = is-clean.before.before in
     let s = short is-short in
-    field_put s.args.line.now s.args.len s.args.want s.args.f.now s.args.mark c.take-field.result _ _ s.pre (omega arith) is-short.if2.false
-    (sym is-clean.before.is-clean.ensures ∙ not-false _ is-clean.if3.false) c.take-field.ensures put.put-at.ensures refl
+    field_put s.args.line.now s.args.len s.args.want s.args.f.now s.args.mark c.take_field.result _ _ s.pre (omega arith) is-short.if-f-gt-LONGEST_NAME.false
+    (sym is-clean.before.is_clean.ensures ∙ not-false _ is-clean.if-not-is_clean.false) c.take_field.ensures put.put_at.ensures refl
 
-pub add-wanted-spec : {M : Type 1} → statement M
-add-wanted-spec =
+pub add_wanted_spec : {M : Type 1} → statement M
+add_wanted_spec =
     tie.close
     (tie.spec
     (λ c. search rules)

@@ -5,17 +5,17 @@ use borrow.Author.Rules.{rules}
 use Rattle.write_line.proofs.put_at.Statement.{statement}
 use Rattle.write_line.proofs.put_at.Tie as tie
 
-returns : tie.Need-returns
+returns : tie.Need-returns-then-out-at
 returns c = let s = c.before.before.before in put-short s.args.out.now s.args.place.0 s.args.src.now (omega arith)
 
-returns-2 : tie.Need-returns-2
+returns-2 : tie.Need-returns
 returns-2 c =
     let put = c.before.before in
     let s = put.before.before.before.before.before in
     put_rest s.args.out.now s.args.place.0 s.args.src.now put.put.result _ (omega arith) put.put.ensures
 
-pub put-at-spec : {M : Type 1} → statement M
-put-at-spec =
+pub put_at_spec : {M : Type 1} → statement M
+put_at_spec =
     tie.close
     (tie.spec
     returns

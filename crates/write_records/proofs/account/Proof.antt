@@ -12,18 +12,18 @@ returns c =
     let number = currency.before.before in
     let code = number.before.before in
     rw (
-      c.add-empty.ensures,
-      count.add-items.ensures,
-      amount.add-amount.ensures,
-      type.add3.ensures,
-      currency.add2.ensures,
-      number.add.ensures,
-      code.begin.ensures,
-      code.before.first-want.ensures,
+      c.add_empty.ensures,
+      count.add_items-d.ensures,
+      amount.add_amount-d.ensures,
+      type.add-d-3.ensures,
+      currency.add-d-2.ensures,
+      number.add-d.ensures,
+      code.begin-d.ensures,
+      code.before.first_want.ensures,
     )
 
-pub account-spec : {M : Type 1} → statement M
-account-spec =
+pub account_spec : {M : Type 1} → statement M
+account_spec =
     tie.close
     (tie.spec
     (λ c κs. search rules)

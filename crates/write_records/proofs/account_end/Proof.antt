@@ -7,10 +7,10 @@ returns : tie.Need-returns
 returns c =
     let total = c.before.before in
     let code = total.before.before in
-    rw (c.add-records.ensures, total.add_total.ensures, code.begin.ensures, code.before.first-want.ensures)
+    rw (c.add_records.ensures, total.add_total-d.ensures, code.begin-d.ensures, code.before.first_want.ensures)
 
-pub account-end-spec : {M : Type 1} → statement M
-account-end-spec =
+pub account_end_spec : {M : Type 1} → statement M
+account_end_spec =
     tie.close
     (tie.spec
     (λ c κs. search rules)

@@ -12,18 +12,18 @@ returns c =
     let type = amount.before.before in
     let code = type.before.before in
     rw (
-      c.add-text.ensures,
-      customer.add3.ensures,
-      bank.add2.ensures,
-      funds.add-empty.ensures,
-      amount.add-amount.ensures,
-      type.add.ensures,
-      code.begin.ensures,
-      code.before.first-want.ensures,
+      c.add_text.ensures,
+      customer.add-d-3.ensures,
+      bank.add-d-2.ensures,
+      funds.add_empty-d.ensures,
+      amount.add_amount-d.ensures,
+      type.add-d.ensures,
+      code.begin-d.ensures,
+      code.before.first_want.ensures,
     )
 
-pub detail-spec : {M : Type 1} → statement M
-detail-spec =
+pub detail_spec : {M : Type 1} → statement M
+detail_spec =
     tie.close
     (tie.spec
     (λ c κs. search rules)

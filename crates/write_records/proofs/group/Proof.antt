@@ -13,19 +13,19 @@ returns c =
     let receiver = originator.before.before in
     let code = receiver.before.before in
     rw (
-      c.add7.ensures,
-      currency.add6.ensures,
-      time.add5.ensures,
-      date.add4.ensures,
-      status.add3.ensures,
-      originator.add2.ensures,
-      receiver.add.ensures,
-      code.begin.ensures,
-      code.before.first-want.ensures,
+      c.add.ensures,
+      currency.add-d-6.ensures,
+      time.add-d-5.ensures,
+      date.add-d-4.ensures,
+      status.add-d-3.ensures,
+      originator.add-d-2.ensures,
+      receiver.add-d.ensures,
+      code.begin-d.ensures,
+      code.before.first_want.ensures,
     )
 
-pub group-spec : {M : Type 1} → statement M
-group-spec =
+pub group_spec : {M : Type 1} → statement M
+group_spec =
     tie.close
     (tie.spec
     (λ c κs. search rules)

@@ -14,20 +14,20 @@ returns c =
     let sender = receiver.before.before in
     let code = sender.before.before in
     rw (
-      c.add-version.ensures,
-      block.add-empty2.ensures,
-      physical.add-empty.ensures,
-      number.add5.ensures,
-      time.add4.ensures,
-      date.add3.ensures,
-      receiver.add2.ensures,
-      sender.add.ensures,
-      code.begin.ensures,
-      code.before.first-want.ensures,
+      c.add_version.ensures,
+      block.add_empty-d-2.ensures,
+      physical.add_empty-d.ensures,
+      number.add-d-5.ensures,
+      time.add-d-4.ensures,
+      date.add-d-3.ensures,
+      receiver.add-d-2.ensures,
+      sender.add-d.ensures,
+      code.begin-d.ensures,
+      code.before.first_want.ensures,
     )
 
-pub header-spec : {M : Type 1} → statement M
-header-spec =
+pub header_spec : {M : Type 1} → statement M
+header_spec =
     tie.close
     (tie.spec
     (λ c κs. search rules)

@@ -11,10 +11,10 @@ returns c =
     let amount = count.before.before in
     let type = amount.before.before in
     let code = type.before.before in
-    rw (c.add-empty.ensures, count.add-items.ensures, amount.add-amount.ensures, type.add.ensures, code.begin.ensures)
+    rw (c.add_empty.ensures, count.add_items-d.ensures, amount.add_amount-d.ensures, type.add-d.ensures, code.begin-d.ensures)
 
-pub item-spec : {M : Type 1} → statement M
-item-spec =
+pub item_spec : {M : Type 1} → statement M
+item_spec =
     tie.close
     (tie.spec
     (λ c κs. search rules)

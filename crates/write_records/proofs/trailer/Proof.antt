@@ -8,10 +8,10 @@ returns c =
     let count = c.before.before in
     let total = count.before.before in
     let code = total.before.before in
-    rw (c.add-records.ensures, count.add-count.ensures, total.add_total.ensures, code.begin.ensures, code.before.first-want.ensures)
+    rw (c.add_records.ensures, count.add_count-d.ensures, total.add_total-d.ensures, code.begin-d.ensures, code.before.first_want.ensures)
 
-pub trailer-spec : {M : Type 1} → statement M
-trailer-spec =
+pub trailer_spec : {M : Type 1} → statement M
+trailer_spec =
     tie.close
     (tie.spec
     (λ c κs. search rules)

@@ -4,11 +4,11 @@ use borrow.Author.Rules.{rules}
 use Rattle.write_state.proofs.expected_in.Statement.{statement}
 use Rattle.write_state.proofs.expected_in.Tie as tie
 
-returns : tie.Need-returns
-returns c = rw c.enum_told.given.1
+returns : tie.Need-returns-in-Fresh
+returns c = rw c.enum_told-1.given.1
 
-pub expected-in-spec : {M : Type 1} → statement M
-expected-in-spec =
+pub expected_in_spec : {M : Type 1} → statement M
+expected_in_spec =
     tie.close
     (tie.spec
     (λ c. search rules)

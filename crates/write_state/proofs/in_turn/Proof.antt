@@ -12,38 +12,38 @@ use borrow.Author.Rules.{rules}
 use Rattle.write_state.proofs.in_turn.Statement.{statement}
 use Rattle.write_state.proofs.in_turn.Tie as tie
 
-abbrev code : tie.After-same-code → lines.Code
+abbrev code : tie.After-same_code → lines.Code
 code c = code_meant c.before.before.args.code
 
-abbrev phase : tie.After-same-code → rules.Phase
+abbrev phase : tie.After-same_code → rules.Phase
 phase c = phase_meant c.before.before.args.phase
 
-abbrev items : tie.After-same-code → Bool
+abbrev items : tie.After-same_code → Bool
 items c = c.before.before.args.items
 
 -- the code is not 88, or it is
-abbrev is-line : (c : tie.Then1) → same_code (code c.before) continuation ≡ false
-is-line c = sym c.before.same_code.ensures ∙ not-true _ c.if1.true
+abbrev is-line : (c : tie.Then-not-same_code) → same_code (code c.before) continuation ≡ false
+is-line c = sym c.before.same_code.ensures ∙ not-true _ c.if-not-same_code.true
 
-abbrev is-item : (c : tie.Else1) → same_code (code c.before) continuation ≡ true
-is-item c = sym c.before.same_code.ensures ∙ not-false _ c.if1.false
+abbrev is-item : (c : tie.Else-not-same_code) → same_code (code c.before) continuation ≡ true
+is-item c = sym c.before.same_code.ensures ∙ not-false _ c.if-not-same_code.false
 
-returns : tie.Need-returns
+returns : tie.Need-returns-then-not-same_code
 returns c =
     let asked = c.before.before in
-    c.allows.ensures ∙ rw asked.before.expected-in.ensures (line-turn (code asked) (phase asked) (items asked) (is-line c.before))
+    c.allows.ensures ∙ rw asked.before.expected_in-expected.ensures (line-turn (code asked) (phase asked) (items asked) (is-line c.before))
 
-returns-2 : tie.Need-returns-2
-returns-2 c = let asked = c.before.before in no-item-turn (code asked) (phase asked) (items asked) (is-item c.before) (not-true _ c.if2.true)
+returns-2 : tie.Need-returns-then-not-items
+returns-2 c = let asked = c.before.before in no-item-turn (code asked) (phase asked) (items asked) (is-item c.before) (not-true _ c.if-not-items.true)
 
-returns-3 : tie.Need-returns-3
+returns-3 : tie.Need-returns
 returns-3 c =
     let item = c.before.before in
     let asked = item.before in
-    c.allows2.ensures ∙ rw asked.before.expected-in.ensures (further-turn (code asked) (phase asked) (items asked) (is-item item) (not-false _ c.before.if2.false))
+    c.allows-2.ensures ∙ rw asked.before.expected_in-expected.ensures (further-turn (code asked) (phase asked) (items asked) (is-item item) (not-false _ c.before.if-not-items.false))
 
-pub in-turn-spec : {M : Type 1} → statement M
-in-turn-spec =
+pub in_turn_spec : {M : Type 1} → statement M
+in_turn_spec =
     tie.close
     (tie.spec
     (λ c κs. search rules)

@@ -15,73 +15,73 @@ use Rattle.write_state.proofs.is_sound.Statement.{statement}
 use Rattle.write_state.proofs.is_sound.Tie as tie
 
 -- the state, at the places past the size, past the sums of file, group and account, and past the counts of the file
-abbrev given : tie.After-struct-known → rules.Writer
+abbrev given : tie.After-struct_known-1 → rules.Writer
 given c = writer_meant c.before.before.before.before.before.args.w
 
-abbrev past-size : tie.Else1 → rules.Writer
+abbrev past-size : tie.Else-size-gt-LONGEST_FILE → rules.Writer
 past-size c = given c.before
 
-abbrev past-file : tie.Else2 → rules.Writer
+abbrev past-file : tie.Else-not-sum_within → rules.Writer
 past-file c = past-size c.before.before
 
-abbrev past-group : tie.Else3 → rules.Writer
+abbrev past-group : tie.Else-not-sum_within-2 → rules.Writer
 past-group c = past-file c.before.before.before.before
 
-abbrev past-account : tie.Else4 → rules.Writer
+abbrev past-account : tie.Else-not-sum_within-3 → rules.Writer
 past-account c = past-group c.before.before
 
-abbrev past-file-counts : tie.Else5 → rules.Writer
+abbrev past-file-counts : tie.Else-not-counts_within → rules.Writer
 past-file-counts c = past-account c.before.before
 
 -- what is left there decides
-size-good : (c : tie.Else1) {t : Bool} → t ≡ file_sum (past-size c) → t ≡ sound (past-size c)
+size-good : (c : tie.Else-size-gt-LONGEST_FILE) {t : Bool} → t ≡ file_sum (past-size c) → t ≡ sound (past-size c)
 unfolding sound
-size-good c h = goes_on _ _ _ (le-leb _ _ c.if1.false) h
+size-good c h = goes_on _ _ _ (le-leb _ _ c.if-size-gt-LONGEST_FILE.false) h
 
-file-within : (c : tie.Else2) → leb (magnitudes (past-file c).file.sum) most ≡ true
-file-within c = sym c.before.sum-within.ensures ∙ not-false _ c.if2.false
+file-within : (c : tie.Else-not-sum_within) → leb (magnitudes (past-file c).file.sum-1) most ≡ true
+file-within c = sym c.before.sum_within.ensures ∙ not-false _ c.if-not-sum_within.false
 
-file-good : (c : tie.Else2) {t : Bool} → t ≡ group_sum (past-file c) → t ≡ sound (past-file c)
+file-good : (c : tie.Else-not-sum_within) {t : Bool} → t ≡ group_sum (past-file c) → t ≡ sound (past-file c)
 file-good c h = size-good c.before.before (goes_on _ _ _ (file-within c) h)
 
-group-good : (c : tie.Else3) {t : Bool} → t ≡ account_sum (past-group c) → t ≡ sound (past-group c)
-group-good c h = file-good c.before.before.before.before (goes_on _ _ _ (sym c.before.sum-within2.ensures ∙ not-false _ c.if3.false) h)
+group-good : (c : tie.Else-not-sum_within-2) {t : Bool} → t ≡ account_sum (past-group c) → t ≡ sound (past-group c)
+group-good c h = file-good c.before.before.before.before (goes_on _ _ _ (sym c.before.sum_within-2.ensures ∙ not-false _ c.if-not-sum_within-2.false) h)
 
-account-good : (c : tie.Else4) {t : Bool} → t ≡ file_counts (past-account c) → t ≡ sound (past-account c)
-account-good c h = group-good c.before.before (goes_on _ _ _ (sym c.before.sum-within3.ensures ∙ not-false _ c.if4.false) h)
+account-good : (c : tie.Else-not-sum_within-3) {t : Bool} → t ≡ file_counts (past-account c) → t ≡ sound (past-account c)
+account-good c h = group-good c.before.before (goes_on _ _ _ (sym c.before.sum_within-3.ensures ∙ not-false _ c.if-not-sum_within-3.false) h)
 
-file-counted : (c : tie.Else5) {t : Bool} → t ≡ group_counts (past-file-counts c) → t ≡ sound (past-file-counts c)
-file-counted c h = account-good c.before.before (goes_on _ _ _ (sym c.before.counts-within.ensures ∙ not-false _ c.if5.false) h)
+file-counted : (c : tie.Else-not-counts_within) {t : Bool} → t ≡ group_counts (past-file-counts c) → t ≡ sound (past-file-counts c)
+file-counted c h = account-good c.before.before (goes_on _ _ _ (sym c.before.counts_within.ensures ∙ not-false _ c.if-not-counts_within.false) h)
 
-returns : tie.Need-returns
+returns : tie.Need-returns-then-size-gt-LONGEST_FILE
 unfolding sound
-returns c = stops _ _ (lt-leb _ _ c.if1.true)
+returns c = stops _ _ (lt-leb _ _ c.if-size-gt-LONGEST_FILE.true)
 
-returns-2 : tie.Need-returns-2
-returns-2 c = size-good c.before.before (stops _ _ (sym c.before.sum-within.ensures ∙ not-true _ c.if2.true))
+returns-2 : tie.Need-returns-then-not-sum_within
+returns-2 c = size-good c.before.before (stops _ _ (sym c.before.sum_within.ensures ∙ not-true _ c.if-not-sum_within.true))
 
-add-m : tie.Need-overflow-add-m
-add-m c = let f = c.before.before in omega (arith, leb-true (magnitudes (past-file f).file.sum) most (file-within f))
+add-m : tie.Need-overflow_add-m
+add-m c = let f = c.before.before in omega (arith, leb-true (magnitudes (past-file f).file.sum-1) most (file-within f))
 
-returns-3 : tie.Need-returns-3
-returns-3 c = file-good c.before.before.before.before (stops _ _ (sym c.before.sum-within2.ensures ∙ not-true _ c.if3.true))
+returns-3 : tie.Need-returns-then-not-sum_within-2
+returns-3 c = file-good c.before.before.before.before (stops _ _ (sym c.before.sum_within-2.ensures ∙ not-true _ c.if-not-sum_within-2.true))
 
-returns-4 : tie.Need-returns-4
-returns-4 c = group-good c.before.before (stops _ _ (sym c.before.sum-within3.ensures ∙ not-true _ c.if4.true))
+returns-4 : tie.Need-returns-then-not-sum_within-3
+returns-4 c = group-good c.before.before (stops _ _ (sym c.before.sum_within-3.ensures ∙ not-true _ c.if-not-sum_within-3.true))
 
-returns-5 : tie.Need-returns-5
-returns-5 c = account-good c.before.before (stops _ _ (sym c.before.counts-within.ensures ∙ not-true _ c.if5.true))
+returns-5 : tie.Need-returns-then-not-counts_within
+returns-5 c = account-good c.before.before (stops _ _ (sym c.before.counts_within.ensures ∙ not-true _ c.if-not-counts_within.true))
 
-returns-6 : tie.Need-returns-6
-returns-6 c = file-counted c.before.before (stops _ _ (sym c.before.counts-within2.ensures ∙ not-true _ c.if6.true))
+returns-6 : tie.Need-returns-then-not-counts_within-2
+returns-6 c = file-counted c.before.before (stops _ _ (sym c.before.counts_within-2.ensures ∙ not-true _ c.if-not-counts_within-2.true))
 
-returns-7 : tie.Need-returns-7
+returns-7 : tie.Need-returns
 returns-7 c =
     let g = c.before in
-    file-counted g.before.before (goes_on _ _ _ (sym g.before.counts-within2.ensures ∙ not-false _ g.if6.false) c.counts-within3.ensures)
+    file-counted g.before.before (goes_on _ _ _ (sym g.before.counts_within-2.ensures ∙ not-false _ g.if-not-counts_within-2.false) c.counts_within-3.ensures)
 
-pub is-sound-spec : {M : Type 1} → statement M
-is-sound-spec =
+pub is_sound_spec : {M : Type 1} → statement M
+is_sound_spec =
     tie.close
     (tie.spec
     returns

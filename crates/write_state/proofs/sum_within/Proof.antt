@@ -4,11 +4,11 @@ use Rattle.write_state.proofs.WriterLaws.{magnitudes-over, magnitudes-left}
 use Rattle.write_state.proofs.sum_within.Statement.{statement}
 use Rattle.write_state.proofs.sum_within.Tie as tie
 
-returns : tie.Need-returns
+returns : tie.Need-returns-then-n-u
 returns c = magnitudes-over c.before.before.args.u.0 c.before.before.args.u.1 c.before.before.args.most.0 (omega arith)
 
-returns-2 : tie.Need-returns-2
+returns-2 : tie.Need-returns
 returns-2 c = magnitudes-left c.before.before.before.before.args.u.0 c.before.before.before.before.args.u.1 c.before.before.before.before.args.most.0 (omega arith)
 
-pub sum-within-spec : {M : Type 1} → statement M
-sum-within-spec = tie.close (tie.spec returns returns-2)
+pub sum_within_spec : {M : Type 1} → statement M
+sum_within_spec = tie.close (tie.spec returns returns-2)

@@ -6,18 +6,18 @@ use borrow.Author.Rules.{rules}
 use Rattle.c_reading.proofs.handing.bai2_fields_at.Statement.{statement}
 use Rattle.c_reading.proofs.handing.bai2_fields_at.Tie as tie
 
-returns : tie.Need-returns
+returns : tie.Need-returns-in-Refused
 returns c =
     let f = c.before.before.before.before.before.before in
-    sym (ap (λ (x : Fields). fields_meant x f.fields_at.new.1.1.0) c.before.before.why.given.1) ∙ f.fields_at.ensures
+    sym (ap (λ (x : Fields). fields_meant x f.fields_at.new.1.1.0) c.before.before.why-1.given.1) ∙ f.fields_at.ensures
 
-returns-2 : tie.Need-returns-2
+returns-2 : tie.Need-returns-in-Given
 returns-2 c =
     let f = c.before.before.before.before.before in
-    sym (ap (λ (x : Fields). fields_meant x f.fields_at.new.1.1.0) c.before.count.given.1) ∙ f.fields_at.ensures
+    sym (ap (λ (x : Fields). fields_meant x f.fields_at.new.1.1.0) c.before.count-1.given.1) ∙ f.fields_at.ensures
 
-pub bai2-fields-at-spec : {M : Type 1} → statement M
-bai2-fields-at-spec =
+pub bai2_fields_at_spec : {M : Type 1} → statement M
+bai2_fields_at_spec =
     tie.close
     (tie.spec
     (λ c κs. search rules)

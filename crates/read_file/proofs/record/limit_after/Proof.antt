@@ -5,17 +5,17 @@ use Rattle.read_file.specs.RecordSteps.{limit_k}
 use Rattle.read_file.proofs.record.limit_after.Statement.{statement}
 use Rattle.read_file.proofs.record.limit_after.Tie as tie
 
-returns : tie.Need-returns
+returns : tie.Need-returns-then-kept
 unfolding limit_k
-returns c = sym (rw (sym c.before.before.same_code.ensures ∙ c.before.if1.true) (rw c.if2.true))
+returns c = sym (rw (sym c.before.before.same_code.ensures ∙ c.before.if-same_code.true) (rw c.if-kept.true))
 
-returns-2 : tie.Need-returns-2
+returns-2 : tie.Need-returns-then-same_code
 unfolding limit_k
-returns-2 c = sym (rw (sym c.before.before.same_code.ensures ∙ c.before.if1.true) (rw c.if2.false))
+returns-2 c = sym (rw (sym c.before.before.same_code.ensures ∙ c.before.if-same_code.true) (rw c.if-kept.false))
 
-returns-3 : tie.Need-returns-3
+returns-3 : tie.Need-returns
 unfolding limit_k
-returns-3 c = sym (rw (sym c.before.same_code.ensures ∙ c.if1.false))
+returns-3 c = sym (rw (sym c.before.same_code.ensures ∙ c.if-same_code.false))
 
-pub limit-after-spec : {M : Type 1} → statement M
-limit-after-spec = tie.close (tie.spec (λ c κs. search rules) returns returns-2 returns-3)
+pub limit_after_spec : {M : Type 1} → statement M
+limit_after_spec = tie.close (tie.spec (λ c κs. search rules) returns returns-2 returns-3)

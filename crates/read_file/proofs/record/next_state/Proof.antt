@@ -11,15 +11,15 @@ returns : tie.Need-returns
 returns c =
     let a = c.before.before.before.before.before.args in
     record {
-      expected = c.before.before.before.before.expected-after.ensures;
+      expected = c.before.before.before.before.expected_after.ensures;
       limit = refl;
       file = refl;
-      group = c.before.before.while-open.ensures ∙ ap (λ (t : Bool). cond t (summary_meant a.group) no_summary) c.before.before.before.group-open.ensures;
-      account = c.while-open2.ensures ∙ ap (λ (t : Bool). cond t (summary_meant a.account) no_summary) c.before.account-open.ensures;
+      group = c.before.before.while_open.ensures ∙ ap (λ (t : Bool). cond t (summary_meant a.group) no_summary) c.before.before.before.group_open.ensures;
+      account = c.while_open-2.ensures ∙ ap (λ (t : Bool). cond t (summary_meant a.account) no_summary) c.before.account_open.ensures;
     }
 
-pub next-state-spec : {M : Type 1} → statement M
-next-state-spec =
+pub next_state_spec : {M : Type 1} → statement M
+next_state_spec =
     tie.close
     (tie.spec
     (λ c κs. search rules)

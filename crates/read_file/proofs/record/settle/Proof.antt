@@ -48,7 +48,7 @@ kept_of s = s.args.kept
 -- ---- the header's own lines
 
 abbrev Own : Type 0
-Own = tie.After-own-lines
+Own = tie.After-own_lines
 
 abbrev start-of-own : Own → tie.Start
 start-of-own c = c.before.before.before
@@ -56,43 +56,43 @@ start-of-own c = c.before.before.before
 abbrev OwnLines : tie.Start → Outcome (Unit {0})
 OwnLines s = own_lines (code-of s) (limit_k (code-of s) (state-of s).limit (kept_of s)) (lines-of s)
 
-own : (c : Own) → checked_of c.own-lines.result ≡ OwnLines (start-of-own c)
+own : (c : Own) → checked_of c.own_lines.result ≡ OwnLines (start-of-own c)
 own c =
     let s = start-of-own c in
-    c.own-lines.ensures.0 ∙ ap (λ (n : ℕ). own_lines (code-of s) n (lines-of s)) c.before.limit-after.ensures
+    c.own_lines.ensures.0 ∙ ap (λ (n : ℕ). own_lines (code-of s) n (lines-of s)) c.before.limit_after-limit.ensures
 
-own-fine : (c : tie.After-enum-told) → OwnLines (start-of-own c.before.before) ≡ fine tt
-own-fine c = sym (own c.before.before) ∙ ap checked_of c.enum_told.given.1
+own-fine : (c : tie.In-Fine) → OwnLines (start-of-own c.before.before) ≡ fine tt
+own-fine c = sym (own c.before.before) ∙ ap checked_of c.enum_told-1.given.1
 
-returns : tie.Need-returns
+returns : tie.Need-returns-in-Refused
 returns c =
     let o = c.before.before.before in
     let s = start-of-own o in (
-      settle-long (before_of s) (lines-of s) (code-of s) (kept_of s) _ (sym (own o) ∙ ap checked_of c.before.why.given.1),
-      rw c.before.why.given.1 at o.own-lines.ensures.1,
+      settle-long (before_of s) (lines-of s) (code-of s) (kept_of s) _ (sym (own o) ∙ ap checked_of c.before.why-1.given.1),
+      rw c.before.why-1.given.1 at o.own_lines.ensures.1,
     )
 
 -- ---- 10
 
-returns-2 : tie.Need-returns-2
+returns-2 : tie.Need-returns-then-kept
 returns-2 c =
     let told = c.before.before in
     let s = start-of-own told.before.before in
-    (settle-over (before_of s) (lines-of s) (code-of s) (kept_of s) (own-fine told) c.before.if1.true, s.pre.kept.past)
+    (settle-over (before_of s) (lines-of s) (code-of s) (kept_of s) (own-fine told) c.before.if-kept.true, s.pre.kept.past-1)
 
 -- ---- the summaries with the record
 
 abbrev Added : Type 0
-Added = tie.After-add3
+Added = tie.After-add-account
 
 abbrev start_of : Added → tie.Start
 start_of c = start-of-own c.before.before.before.before.before.before.before
 
 abbrev this-of : Added → Summary
-this-of c = c.before.before.before.adding.result
+this-of c = c.before.before.before.adding-this.result
 
 this-adds : (c : Added) → summary_meant (this-of c) ≡ adding (code-of (start_of c)) (sum_meant (kept_of (start_of c)).sum) (start_of c).args.records.0
-this-adds c = c.before.before.before.adding.ensures
+this-adds c = c.before.before.before.adding-this.ensures
 
 this-is : (c : Added) → summary_meant (this-of c) ≡ this_k (code-of (start_of c)) (length (lines-of (start_of c))) (kept_of (start_of c))
 unfolding this_k
@@ -108,14 +108,14 @@ small-this c =
 small-file : (c : Added) → Small (state-of (start_of c)).file
 small-file c = let s = start_of c in file-small (state-of s) s.pre.held (omega (arith, s.pre.room))
 
-file-is : (c : Added) → summary_meant c.before.before.add.result ≡ summary_meant (state-of (start_of c)).file ⊞ summary_meant (this-of c)
-file-is c = c.before.before.add.ensures ∙ small-sum _ _ (small-file c) (small-this c)
+file-is : (c : Added) → summary_meant c.before.before.add-file.result ≡ summary_meant (state-of (start_of c)).file ⊞ summary_meant (this-of c)
+file-is c = c.before.before.add-file.ensures ∙ small-sum _ _ (small-file c) (small-this c)
 
-group-is : (c : Added) → summary_meant c.before.add2.result ≡ summary_meant (state-of (start_of c)).group ⊞ summary_meant (this-of c)
-group-is c = c.before.add2.ensures ∙ small-sum _ _ (below-small _ _ (start_of c).requires.held.group (small-file c)) (small-this c)
+group-is : (c : Added) → summary_meant c.before.add-group.result ≡ summary_meant (state-of (start_of c)).group ⊞ summary_meant (this-of c)
+group-is c = c.before.add-group.ensures ∙ small-sum _ _ (below-small _ _ (start_of c).requires.held.group (small-file c)) (small-this c)
 
-account-is : (c : Added) → summary_meant c.add3.result ≡ summary_meant (state-of (start_of c)).account ⊞ summary_meant (this-of c)
-account-is c = c.add3.ensures ∙ small-sum _ _ (below-small _ _ (start_of c).requires.held.account (small-file c)) (small-this c)
+account-is : (c : Added) → summary_meant c.add-account.result ≡ summary_meant (state-of (start_of c)).account ⊞ summary_meant (this-of c)
+account-is c = c.add-account.ensures ∙ small-sum _ _ (below-small _ _ (start_of c).requires.held.account (small-file c)) (small-this c)
 
 -- ---- 14, 11, 12, 13
 
@@ -124,41 +124,41 @@ added c = c.before
 
 balance : (c : tie.After-balance)
     → checked_of c.balance.result
-    ≡ balanced_k (code-of (start_of (added c))) (summary_meant (added c).add3.result) (summary_meant (added c).before.add2.result) (summary_meant (added c).before.before.add.result) (kept_of (start_of (added c)))
+    ≡ balanced_k (code-of (start_of (added c))) (summary_meant (added c).add-account.result) (summary_meant (added c).before.add-group.result) (summary_meant (added c).before.before.add-file.result) (kept_of (start_of (added c)))
 balance c = c.balance.ensures
 
-returns-3 : tie.Need-returns-3
+returns-3 : tie.Need-returns-in-Refused-balance
 returns-3 c =
     let b = c.before.before.before in
     let t = added b in
     let s = start_of t in
-    let refuses = sym (balance b) ∙ ap checked_of c.before.why2.given.1 in (
-      settle-wrong (before_of s) (lines-of s) (code-of s) (kept_of s) (own-fine t.before.before.before.before.before) t.before.before.before.before.if1.left _ _ _ _
+    let refuses = sym (balance b) ∙ ap checked_of c.before.why-in-Refused-balance-1.given.1 in (
+      settle-wrong (before_of s) (lines-of s) (code-of s) (kept_of s) (own-fine t.before.before.before.before.before) t.before.before.before.before.if-kept.left _ _ _ _
           (this-is t) (account-is t) (group-is t) (file-is t) _ refuses,
       balanced-most _ _ (kept_of s) s.pre.kept (code-of s) _ _ _ _ refuses,
     )
 
 -- ---- the next state
 
-returns-4 : tie.Need-returns-4
+returns-4 : tie.Need-returns
 returns-4 c =
     let b = c.before.before.before in
     let t = added b in
     let s = start_of t in
-    let next = c.next-state.ensures in
-    let r = c.next-state.result in
-    let file : summary_meant r.file ≡ summary_meant t.before.before.add.result = ap summary_meant next.file in
-    let limit = next.limit ∙ t.before.before.before.before.before.before.before.before.limit-after.ensures in
-    let fits = sym (balance b) ∙ ap checked_of c.before.enum-told2.given.1 in (
-      settle-next (before_of s) (lines-of s) (code-of s) (kept_of s) (own-fine t.before.before.before.before.before) t.before.before.before.before.if1.left _ _ _ (summary_meant r.file)
+    let next = c.next_state.ensures in
+    let r = c.next_state.result in
+    let file : summary_meant r.file ≡ summary_meant t.before.before.add-file.result = ap summary_meant next.file in
+    let limit = next.limit ∙ t.before.before.before.before.before.before.before.before.limit_after-limit.ensures in
+    let fits = sym (balance b) ∙ ap checked_of c.before.enum_told-in-Fine-balance-1.given.1 in (
+      settle-next (before_of s) (lines-of s) (code-of s) (kept_of s) (own-fine t.before.before.before.before.before) t.before.before.before.before.if-kept.left _ _ _ (summary_meant r.file)
           (this-is t) (account-is t) (group-is t) (file ∙ file-is t) (rw (sym file) at fits) _ _ _ _ next.expected limit next.group next.account,
-      held_next (this-of t) (code-of s) (sum_meant (kept_of s).sum) s.args.records.0 (this-adds t) (state-of s) r t.before.add2.result t.add3.result s.pre.held s.pre.some-line
+      held_next (this-of t) (code-of s) (sum_meant (kept_of s).sum) s.args.records.0 (this-adds t) (state-of s) r t.before.add-group.result t.add-account.result s.pre.held s.pre.some-line
           s.pre.sums (file ∙ file-is t) (group-is t) (account-is t) (group_open (code-of s)) (account_open (code-of s)) next.group next.account,
       records-next (this-of t) (code-of s) (sum_meant (kept_of s).sum) s.args.records.0 (this-adds t) (state-of s).file r.file (file ∙ file-is t),
     )
 
-pub settle-spec : {M : Type 1} → statement M
-settle-spec =
+pub settle_spec : {M : Type 1} → statement M
+settle_spec =
     tie.close
     (tie.spec
     (λ c κs. search rules)

@@ -7,7 +7,7 @@ use Rattle.read_file.proofs.state.start.Tie as tie
 
 returns : tie.Need-returns
 returns c =
-    rw c.no-summary.ensures (
+    rw c.no_summary-none.ensures (
       refl,
       record { bound = omega arith; counted = record { groups = omega arith; accounts = omega arith; details = omega arith }; group = search rules; account = search rules },
       refl,

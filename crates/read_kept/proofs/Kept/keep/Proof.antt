@@ -6,29 +6,29 @@ use borrow.Author.Rules.{rules}
 use Rattle.read_kept.proofs.Kept.keep.Statement.{statement}
 use Rattle.read_kept.proofs.Kept.keep.Tie as tie
 
-returns : tie.Need-returns
+returns : tie.Need-returns-in-Nothing
 unfolding keep_read keep_with
-returns c = rw (sym c.before.before.kept_for.ensures ∙ ap keep_meant c.enum_told.given.1)
+returns c = rw (sym c.before.before.kept_for.ensures ∙ ap keep_meant c.enum_told-1.given.1)
 
-returns-2 : tie.Need-returns-2
+returns-2 : tie.Need-returns-in-Amount
 unfolding keep_read keep_with
-returns-2 c = rw (sym c.before.before.before.kept_for.ensures ∙ ap keep_meant c.before.enum-told2.given.1, c.add-amount.ensures)
+returns-2 c = rw (sym c.before.before.before.kept_for.ensures ∙ ap keep_meant c.before.enum_told-in-Amount-1.given.1, c.add_amount.ensures)
 
-returns-3 : tie.Need-returns-3
+returns-3 : tie.Need-returns-in-Total
 unfolding keep_read keep_with
-returns-3 c = rw (sym c.before.before.before.kept_for.ensures ∙ ap keep_meant c.before.enum-told3.given.1, c.keep-total.ensures)
+returns-3 c = rw (sym c.before.before.before.kept_for.ensures ∙ ap keep_meant c.before.enum_told-in-Total-1.given.1, c.keep_total.ensures)
 
-returns-4 : tie.Need-returns-4
+returns-4 : tie.Need-returns-in-Count
 unfolding keep_read keep_with
-returns-4 c = rw (sym c.before.before.before.kept_for.ensures ∙ ap keep_meant c.before.enum-told4.given.1, c.keep-count.ensures)
+returns-4 c = rw (sym c.before.before.before.kept_for.ensures ∙ ap keep_meant c.before.enum_told-in-Count-1.given.1, c.keep_count.ensures)
 
-returns-5 : tie.Need-returns-5
+returns-5 : tie.Need-returns-in-Records
 unfolding keep_read keep_with
-returns-5 c = rw (sym c.before.before.before.kept_for.ensures ∙ ap keep_meant c.before.enum-told5.given.1, c.keep-records.ensures)
+returns-5 c = rw (sym c.before.before.before.kept_for.ensures ∙ ap keep_meant c.before.enum_told-in-Records-1.given.1, c.keep_records.ensures)
 
-returns-6 : tie.Need-returns-6
+returns-6 : tie.Need-returns-in-Length
 unfolding keep_read keep_with
-returns-6 c = rw (sym c.before.before.before.kept_for.ensures ∙ ap keep_meant c.before.enum-told6.given.1, c.keep-length.ensures)
+returns-6 c = rw (sym c.before.before.before.kept_for.ensures ∙ ap keep_meant c.before.enum_told-in-Length-1.given.1, c.keep_length.ensures)
 
 pub keep_spec : {M : Type 1} → statement M
 keep_spec =

@@ -5,16 +5,16 @@ use borrow.Author.Rules.{rules}
 use Rattle.read_kept.proofs.Kept.keep_count.Statement.{statement}
 use Rattle.read_kept.proofs.Kept.keep_count.Tie as tie
 
-returns : tie.Need-returns
+returns : tie.Need-returns-then-self
 unfolding keep_read keep_with
-returns c = rw c.if1.true
+returns c = rw c.if-self.true
 
-returns-2 : tie.Need-returns-2
+returns-2 : tie.Need-returns
 unfolding keep_read keep_with
-returns-2 c = rw (c.before.if1.false, sym c.value.ensures.0)
+returns-2 c = rw (c.before.if-self.false, sym c.value-n.ensures.0)
 
-pub keep-count-spec : {M : Type 1} → statement M
-keep-count-spec =
+pub keep_count_spec : {M : Type 1} → statement M
+keep_count_spec =
     tie.close
     (tie.spec
     returns

@@ -5,16 +5,16 @@ use borrow.Author.Rules.{rules}
 use Rattle.read_kept.proofs.Kept.keep_length.Statement.{statement}
 use Rattle.read_kept.proofs.Kept.keep_length.Tie as tie
 
-returns : tie.Need-returns
+returns : tie.Need-returns-then-self
 unfolding keep_read keep_with
-returns c = rw c.if1.true
+returns c = rw c.if-self.true
 
-returns-2 : tie.Need-returns-2
+returns-2 : tie.Need-returns
 unfolding keep_read keep_with
-returns-2 c = rw (c.before.before.if1.false, sym c.before.value.ensures.0, sym c.is-empty.ensures)
+returns-2 c = rw (c.before.before.if-self.false, sym c.before.value.ensures.0, sym c.is_empty.ensures)
 
-pub keep-length-spec : {M : Type 1} → statement M
-keep-length-spec =
+pub keep_length_spec : {M : Type 1} → statement M
+keep_length_spec =
     tie.close
     (tie.spec
     returns

@@ -5,16 +5,16 @@ use borrow.Author.Rules.{rules}
 use Rattle.read_kept.proofs.Kept.keep_records.Statement.{statement}
 use Rattle.read_kept.proofs.Kept.keep_records.Tie as tie
 
-returns : tie.Need-returns
+returns : tie.Need-returns-then-self
 unfolding keep_read keep_with
-returns c = rw c.if1.true
+returns c = rw c.if-self.true
 
-returns-2 : tie.Need-returns-2
+returns-2 : tie.Need-returns
 unfolding keep_read keep_with
-returns-2 c = rw (c.before.if1.false, sym c.value.ensures.0)
+returns-2 c = rw (c.before.if-self.false, sym c.value-n.ensures.0)
 
-pub keep-records-spec : {M : Type 1} → statement M
-keep-records-spec =
+pub keep_records_spec : {M : Type 1} → statement M
+keep_records_spec =
     tie.close
     (tie.spec
     returns

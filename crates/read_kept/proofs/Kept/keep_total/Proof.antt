@@ -4,16 +4,16 @@ use borrow.Author.Rules.{rules}
 use Rattle.read_kept.proofs.Kept.keep_total.Statement.{statement}
 use Rattle.read_kept.proofs.Kept.keep_total.Tie as tie
 
-returns : tie.Need-returns
+returns : tie.Need-returns-then-self
 unfolding keep_read keep_with
-returns c = rw c.if1.true
+returns c = rw c.if-self.true
 
-returns-2 : tie.Need-returns-2
+returns-2 : tie.Need-returns
 unfolding keep_read keep_with
-returns-2 c = rw (c.before.before.before.if1.false, c.before.magnitude-of.ensures, c.is-minus.ensures, c.before.before.amount-in.ensures)
+returns-2 c = rw (c.before.before.before.if-self.false, c.before.magnitude_of-magnitude.ensures, c.is_minus.ensures, c.before.before.amount_in-a.ensures)
 
-pub keep-total-spec : {M : Type 1} → statement M
-keep-total-spec =
+pub keep_total_spec : {M : Type 1} → statement M
+keep_total_spec =
     tie.close
     (tie.spec
     returns

@@ -7,31 +7,31 @@ use Rattle.read_lines.proofs.Blocks.{Nearest, nearest-none, nearest-step, block-
 use Rattle.read_lines.proofs.scan.block.Statement.{statement}
 use Rattle.read_lines.proofs.scan.block.Tie as tie
 
-abbrev invariant-loop : tie.invariant-loop
+abbrev invariant-loop : tie.invariant-loop-i
 invariant-loop s high at first₀ i₀ first i = (i ≤ 64) × Nearest s at high i first
 
-abbrev decreases-loop : tie.decreases-loop
+abbrev decreases-loop : tie.decreases-loop-i
 decreases-loop s high at first₀ i₀ first i = 64 - i
 
-loop-holds : tie.Need-loop-init invariant-loop decreases-loop
+loop-holds : tie.Need-loop-i-init invariant-loop decreases-loop
 loop-holds c =
     let a = c.before.args in
     (omega arith, nearest-none a.s.now a.start.0 a.high)
 
-loop-again : tie.Need-loop-preserved invariant-loop decreases-loop
+loop-again : tie.Need-loop-i-preserved invariant-loop decreases-loop
 loop-again c =
-    let a = c.before.before.before.before.before.before.args in let i : ℕ = c.before.before.before.before.loop.i in
-    let e : c.smaller.result ≡ min _ c.before.before.before.before.loop.first = c.smaller.ensures ∙ ap (λ (n : ℕ). min n c.before.before.before.before.loop.first) c.before.place_of.ensures in
-    (omega arith, subst (λ (n : ℕ). Nearest a.s.now a.start.0 a.high (i + 1) n) (sym e) (nearest-step a.s.now a.start.0 a.high i c.before.before.before.before.loop.first (omega arith) c.before.before.before.before.loop.invariant.1))
+    let a = c.before.before.before.before.before.before.args in let i : ℕ = c.before.before.before.before.loop-i.i in
+    let e : c.smaller-first.result ≡ min _ c.before.before.before.before.loop-i.first = c.smaller-first.ensures ∙ ap (λ (n : ℕ). min n c.before.before.before.before.loop-i.first) c.before.place_of.ensures in
+    (omega arith, subst (λ (n : ℕ). Nearest a.s.now a.start.0 a.high (i + 1) n) (sym e) (nearest-step a.s.now a.start.0 a.high i c.before.before.before.before.loop-i.first (omega arith) c.before.before.before.before.loop-i.invariant.1))
 
-cast-result : tie.Need-overflow-cast-result invariant-loop decreases-loop
-cast-result c = omega (arith, c.before.loop.invariant.1.low)
+cast-result : tie.Need-overflow_cast-result invariant-loop decreases-loop
+cast-result c = omega (arith, c.before.loop-i.invariant.1.low)
 
 returns : tie.Need-returns invariant-loop decreases-loop
 returns c =
     let a = c.before.before.before.args in
-    let e : c.before.loop.i ≡ 64 = omega arith in
-    block-is a.s.now a.start.0 a.high c.before.loop.first (omega arith) (rw e at c.before.loop.invariant.1)
+    let e : c.before.loop-i.i ≡ 64 = omega arith in
+    block-is a.s.now a.start.0 a.high c.before.loop-i.first (omega arith) (rw e at c.before.loop-i.invariant.1)
 
 pub block_spec : {M : Type 1} → statement M
 block_spec =

@@ -9,41 +9,41 @@ use Rattle.read_lines.proofs.RunLengths.{run_none, run-stop, run_step, byte_low,
 use Rattle.read_lines.proofs.scan.end_by_bytes.Statement.{statement}
 use Rattle.read_lines.proofs.scan.end_by_bytes.Tie as tie
 
-abbrev invariant-loop : tie.invariant-loop
+abbrev invariant-loop : tie.invariant-loop-i
 invariant-loop s high i₀ i = (i ≤ length s + (i₀ - length s)) × (i₀ + run (stops_at high) (drop i₀ s) ≡ i + run (stops_at high) (drop i s))
 
-abbrev decreases-loop : tie.decreases-loop
+abbrev decreases-loop : tie.decreases-loop-i
 decreases-loop s high i₀ i = length s - i
 
-loop-holds : tie.Need-loop-init invariant-loop decreases-loop
+loop-holds : tie.Need-loop-i-init invariant-loop decreases-loop
 loop-holds c = (omega arith, refl)
 
-returns : tie.Need-returns invariant-loop decreases-loop
+returns : tie.Need-returns-then-s-i-lt32 invariant-loop decreases-loop
 returns c =
-    let a = c.before.before.before.before.args in let i : ℕ = c.before.before.before.loop.i in
-    let h = run-stop (stops_at a.high) a.s.now i (omega arith) (byte_low a.high (get_or a.s.now i 0) c.if1.true) in
+    let a = c.before.before.before.before.args in let i : ℕ = c.before.before.before.loop-i.i in
+    let h = run-stop (stops_at a.high) a.s.now i (omega arith) (byte_low a.high (get_or a.s.now i 0) c.if-s-i-lt32.true) in
     (omega arith, omega arith)
 
-returns-2 : tie.Need-returns-2 invariant-loop decreases-loop
+returns-2 : tie.Need-returns-then-high-s invariant-loop decreases-loop
 returns-2 c =
-    let a = c.before.before.before.before.before.before.args in let i : ℕ = c.before.before.before.before.before.loop.i in
-    let h = run-stop (stops_at a.high) a.s.now i (omega arith) (byte_high a.high (get_or a.s.now i 0) (omega arith) c.if2.true) in
+    let a = c.before.before.before.before.before.before.args in let i : ℕ = c.before.before.before.before.before.loop-i.i in
+    let h = run-stop (stops_at a.high) a.s.now i (omega arith) (byte_high a.high (get_or a.s.now i 0) (omega arith) c.if-high-s.true) in
     (omega arith, omega arith)
 
-loop-again : tie.Need-loop-preserved invariant-loop decreases-loop
+loop-again : tie.Need-loop-i-preserved invariant-loop decreases-loop
 loop-again c =
-    let a = c.before.before.before.before.before.before.args in let i : ℕ = c.before.before.before.before.before.loop.i in
+    let a = c.before.before.before.before.before.before.args in let i : ℕ = c.before.before.before.before.before.loop-i.i in
     let h = run_step (stops_at a.high) a.s.now i (omega arith) (byte-good a.high (get_or a.s.now i 0) (omega arith) (omega arith)) in
     (omega arith, omega arith)
 
-returns-3 : tie.Need-returns-3 invariant-loop decreases-loop
+returns-3 : tie.Need-returns invariant-loop decreases-loop
 returns-3 c =
     let a = c.before.before.args in
-    let h = run_none (stops_at a.high) a.s.now c.before.loop.i (omega arith) in
+    let h = run_none (stops_at a.high) a.s.now c.before.loop-i.i (omega arith) in
     (omega arith, omega arith)
 
-pub end-by-bytes-spec : {M : Type 1} → statement M
-end-by-bytes-spec =
+pub end_by_bytes_spec : {M : Type 1} → statement M
+end_by_bytes_spec =
     tie.close
     (tie.spec
     invariant-loop

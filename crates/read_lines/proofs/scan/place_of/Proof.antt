@@ -7,13 +7,13 @@ use Rattle.read_lines.proofs.RunLengths.{byte_low, byte_high, byte-good}
 use Rattle.read_lines.proofs.scan.place_of.Statement.{statement}
 use Rattle.read_lines.proofs.scan.place_of.Tie as tie
 
-returns : tie.Need-returns
+returns : tie.Need-returns-then-b-lt32
 returns c =
     let a = c.before.args in
-    ⊎_elim (λ w. sym (rw (byte_low a.high a.b (omega arith)))) (λ w. sym (rw (byte_high a.high a.b (omega arith) (omega (arith, ltb-true))))) c.if1.branch
+    ⊎_elim (λ w. sym (rw (byte_low a.high a.b (omega arith)))) (λ w. sym (rw (byte_high a.high a.b (omega arith) (omega (arith, ltb-true))))) c.if-b-lt32.branch-raw
 
-returns-2 : tie.Need-returns-2
+returns-2 : tie.Need-returns
 returns-2 c = let a = c.before.before.args in sym (rw (byte-good a.high a.b (omega arith) (omega (arith, ltb-false))))
 
-pub place-of-spec : {M : Type 1} → statement M
-place-of-spec = tie.close (tie.spec returns returns-2)
+pub place_of_spec : {M : Type 1} → statement M
+place_of_spec = tie.close (tie.spec returns returns-2)

@@ -9,35 +9,35 @@ use Rattle.read_lines.proofs.RunLengths.{run_none}
 use Rattle.read_lines.proofs.scan.plain_end.Statement.{statement}
 use Rattle.read_lines.proofs.scan.plain_end.Tie as tie
 
-abbrev invariant-loop : tie.invariant-loop
+abbrev invariant-loop : tie.invariant-loop-i
 invariant-loop s high i₀ i = (i ≤ length s + (i₀ - length s)) × (i₀ + run (stops_at high) (drop i₀ s) ≡ i + run (stops_at high) (drop i s))
 
-abbrev decreases-loop : tie.decreases-loop
+abbrev decreases-loop : tie.decreases-loop-i
 decreases-loop s high i₀ i = length s - i
 
-loop-holds : tie.Need-loop-init invariant-loop decreases-loop
+loop-holds : tie.Need-loop-i-init invariant-loop decreases-loop
 loop-holds c = (omega arith, refl)
 
-returns : tie.Need-returns invariant-loop decreases-loop
+returns : tie.Need-returns-then-s-i-lt64 invariant-loop decreases-loop
 returns c = (omega arith, omega arith)
 
-returns-2 : tie.Need-returns-2 invariant-loop decreases-loop
+returns-2 : tie.Need-returns-then-n-lt64 invariant-loop decreases-loop
 returns-2 c =
-    let b = c.before.block.ensures in let e = b.found c.if2.true in
+    let b = c.before.block-n.ensures in let e = b.found c.if-n-lt64.true in
     (omega arith, omega arith)
 
-loop-again : tie.Need-loop-preserved invariant-loop decreases-loop
+loop-again : tie.Need-loop-i-preserved invariant-loop decreases-loop
 loop-again c =
-    let m = c.before.block.ensures.missed (omega arith) in
+    let m = c.before.block-n.ensures.missed (omega arith) in
     (omega arith, omega arith)
 
-returns-3 : tie.Need-returns-3 invariant-loop decreases-loop
+returns-3 : tie.Need-returns invariant-loop decreases-loop
 returns-3 c =
-    let a = c.before.before.before.args in let h = run_none (stops_at a.high) a.s.now c.before.loop.i (omega arith) in
+    let a = c.before.before.before.args in let h = run_none (stops_at a.high) a.s.now c.before.loop-i.i (omega arith) in
     (omega arith, omega arith)
 
-pub plain-end-spec : {M : Type 1} → statement M
-plain-end-spec =
+pub plain_end_spec : {M : Type 1} → statement M
+plain_end_spec =
     tie.close
     (tie.spec
     invariant-loop
@@ -47,7 +47,7 @@ plain-end-spec =
     (λ c κs. search rules)
     returns
     (λ c κs. search rules)
-    (λ c. omega (arith, c.before.block.ensures.low))
+    (λ c. omega (arith, c.before.block-n.ensures.low))
     returns-2
     (λ c. search rules)
     (λ c. search rules)

@@ -5,11 +5,11 @@ use borrow.Author.Rules.{rules}
 use Rattle.read_values.proofs.date.is_date.Statement.{statement}
 use Rattle.read_values.proofs.date.is_date.Tie as tie
 
-returns : tie.Need-returns
-returns c = sym (ap found c.enum_told.given.1) ∙ ap found c.before.before.read.ensures ∙ found-date _
+returns : tie.Need-returns-in-Given
+returns c = sym (ap found c.enum_told-1.given.1) ∙ ap found c.before.before.read.ensures ∙ found-date _
 
-returns-2 : tie.Need-returns-2
-returns-2 c = sym (ap found c.enum-told2.given.1) ∙ ap found c.before.before.read.ensures ∙ found-date _
+returns-2 : tie.Need-returns-in-NoDate
+returns-2 c = sym (ap found c.enum_told-in-NoDate-1.given.1) ∙ ap found c.before.before.read.ensures ∙ found-date _
 
-pub is-date-spec : {M : Type 1} → statement M
-is-date-spec = tie.close (tie.spec (λ c κs. search rules) (λ c. search rules) (λ c. search rules) returns returns-2)
+pub is_date_spec : {M : Type 1} → statement M
+is_date_spec = tie.close (tie.spec (λ c κs. search rules) (λ c. search rules) (λ c. search rules) returns returns-2)

@@ -5,40 +5,40 @@ use borrow.Author.Rules.{rules}
 use Rattle.read_wanted.proofs.want.first_want.Statement.{statement}
 use Rattle.read_wanted.proofs.want.first_want.Tie as tie
 
-returns : tie.Need-returns
+returns : tie.Need-returns-in-FileHeader
 unfolding wanted_of fields_of
-returns c = rw c.enum_told.given.1
+returns c = rw c.enum_told-1.given.1
 
-returns-2 : tie.Need-returns-2
+returns-2 : tie.Need-returns-in-GroupHeader
 unfolding wanted_of fields_of
-returns-2 c = rw c.enum-told2.given.1
+returns-2 c = rw c.enum_told-in-GroupHeader-1.given.1
 
-returns-3 : tie.Need-returns-3
+returns-3 : tie.Need-returns-in-AccountHeader
 unfolding wanted_of fields_of
-returns-3 c = rw c.enum-told3.given.1
+returns-3 c = rw c.enum_told-in-AccountHeader-1.given.1
 
-returns-4 : tie.Need-returns-4
+returns-4 : tie.Need-returns-in-Detail
 unfolding wanted_of fields_of
-returns-4 c = rw c.enum-told4.given.1
+returns-4 c = rw c.enum_told-in-Detail-1.given.1
 
-returns-5 : tie.Need-returns-5
+returns-5 : tie.Need-returns-in-AccountTrailer
 unfolding wanted_of fields_of
-returns-5 c = rw c.enum-told5.given.1
+returns-5 c = rw c.enum_told-in-AccountTrailer-1.given.1
 
-returns-6 : tie.Need-returns-6
+returns-6 : tie.Need-returns-in-GroupTrailer
 unfolding wanted_of fields_of
-returns-6 c = rw c.enum-told6.given.1
+returns-6 c = rw c.enum_told-in-GroupTrailer-1.given.1
 
-returns-7 : tie.Need-returns-7
+returns-7 : tie.Need-returns-in-FileTrailer
 unfolding wanted_of fields_of
-returns-7 c = rw c.enum-told7.given.1
+returns-7 c = rw c.enum_told-in-FileTrailer-1.given.1
 
-returns-8 : tie.Need-returns-8
+returns-8 : tie.Need-returns-in-Continuation
 unfolding wanted_of fields_of
-returns-8 c = rw c.enum-told8.given.1
+returns-8 c = rw c.enum_told-in-Continuation-1.given.1
 
-pub first-want-spec : {M : Type 1} → statement M
-first-want-spec =
+pub first_want_spec : {M : Type 1} → statement M
+first_want_spec =
     tie.close
     (tie.spec
     (λ c. search rules)

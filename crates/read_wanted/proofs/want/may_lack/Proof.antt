@@ -6,21 +6,21 @@ use borrow.Author.Rules.{rules}
 use Rattle.read_wanted.proofs.want.may_lack.Statement.{statement}
 use Rattle.read_wanted.proofs.want.may_lack.Tie as tie
 
-returns : tie.Need-returns
+returns : tie.Need-returns-in-End
 unfolding wanted_of fields_of
-returns c = rw c.enum_told.given.1
+returns c = rw c.enum_told-1.given.1
 
-returns-2 : tie.Need-returns-2
+returns-2 : tie.Need-returns-in-FurtherType
 unfolding wanted_of fields_of
-returns-2 c = rw c.enum-told2.given.1
+returns-2 c = rw c.enum_told-in-FurtherType-1.given.1
 
-returns-3 : tie.Need-returns-3
+returns-3 : tie.Need-returns-in-FurtherText
 unfolding wanted_of fields_of
-returns-3 c = rw c.enum-told3.given.1
+returns-3 c = rw c.enum_told-in-FurtherText-1.given.1
 
-returns-4 : tie.Need-returns-4
-returns-4 c = must-come _ c.match.keys4
+returns-4 : tie.Need-returns-in_default
+returns-4 c = must-come _ c.in-End.keys4
 
-pub may-lack-spec : {M : Type 1} → statement M
-may-lack-spec =
+pub may_lack_spec : {M : Type 1} → statement M
+may_lack_spec =
     tie.close (tie.spec (λ c. search rules) (λ c. search rules) (λ c. search rules) returns returns-2 returns-3 returns-4)

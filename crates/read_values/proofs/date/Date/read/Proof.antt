@@ -11,59 +11,59 @@ use Rattle.read_values.proofs.date.Date.read.Statement.{statement}
 use Rattle.read_values.proofs.date.Date.read.Tie as tie
 
 -- six digits, where the first test let it pass
-six : (k : tie.Else1) → digits 6 6 k.before.before.before.args.f.now ≡ true
-six k = sym k.before.is-digits.ensures ∙ not-false _ k.if1.false
+six : (k : tie.Else-not-is_digits) → digits 6 6 k.before.before.before.args.f.now ≡ true
+six k = sym k.before.is_digits.ensures ∙ not-false _ k.if-not-is_digits.false
 
-returns : tie.Need-returns
-returns c = date-not _ (sym c.before.is-digits.ensures ∙ not-true _ c.if1.true)
+returns : tie.Need-returns-then-not-is_digits
+returns c = date-not _ (sym c.before.is_digits.ensures ∙ not-true _ c.if-not-is_digits.true)
 
-part-value-end : tie.Need-slice-bounds-value-end
+part-value-end : tie.Need-slice_bounds-value-end
 part-value-end c = omega (arith, digits-length 6 _ (six c))
 
-part-value-end-2 : tie.Need-slice-bounds-value-end-2
+part-value-end-2 : tie.Need-slice_bounds-value-end-2
 part-value-end-2 c = omega (arith, digits-length 6 _ (six c.before.before))
 
-part-value-end-3 : tie.Need-slice-bounds-value-end-3
+part-value-end-3 : tie.Need-slice_bounds-value-end-3
 part-value-end-3 c = omega (arith, digits-length 6 _ (six c.before.before.before.before))
 
-returns-2 : tie.Need-returns-2
+returns-2 : tie.Need-returns-then-month-lt1
 returns-2 c =
     let d = c.before in
     let m = d.before.before in
     let y = m.before.before in
-    month-low _ _ _ _ (six y.before.before) y.value.ensures.0 m.value2.ensures.0 d.value3.ensures.0 c.if2.true
+    month-low _ _ _ _ (six y.before.before) y.value-year.ensures.0 m.value-month.ensures.0 d.value-day.ensures.0 c.if-month-lt1.true
 
-returns-3 : tie.Need-returns-3
+returns-3 : tie.Need-returns-then-month-gt-MONTHS
 returns-3 c =
     let d = c.before.before in
     let m = d.before.before in
     let y = m.before.before in
-    month-high _ _ _ _ (six y.before.before) y.value.ensures.0 m.value2.ensures.0 d.value3.ensures.0 c.if3.true
+    month-high _ _ _ _ (six y.before.before) y.value-year.ensures.0 m.value-month.ensures.0 d.value-day.ensures.0 c.if-month-gt-MONTHS.true
 
-returns-4 : tie.Need-returns-4
+returns-4 : tie.Need-returns-then-day-lt1
 returns-4 c =
     let d = c.before.before.before in
     let m = d.before.before in
     let y = m.before.before in
-    day-low _ _ _ _ (six y.before.before) y.value.ensures.0 m.value2.ensures.0 d.value3.ensures.0 c.before.before.if2.false c.before.if3.false c.if4.true
+    day-low _ _ _ _ (six y.before.before) y.value-year.ensures.0 m.value-month.ensures.0 d.value-day.ensures.0 c.before.before.if-month-lt1.false c.before.if-month-gt-MONTHS.false c.if-day-lt1.true
 
-returns-5 : tie.Need-returns-5
+returns-5 : tie.Need-returns-then-days_in-day
 returns-5 c =
     let e = c.before.before in
     let d = e.before.before.before in
     let m = d.before.before in
     let y = m.before.before in
-    day-high _ _ _ _ (six y.before.before) y.value.ensures.0 m.value2.ensures.0 d.value3.ensures.0
-    e.before.before.if2.false e.before.if3.false _ c.before.days-in.ensures c.if5.true
+    day-high _ _ _ _ (six y.before.before) y.value-year.ensures.0 m.value-month.ensures.0 d.value-day.ensures.0
+    e.before.before.if-month-lt1.false e.before.if-month-gt-MONTHS.false _ c.before.days_in.ensures c.if-days_in-day.true
 
-returns-6 : tie.Need-returns-6
+returns-6 : tie.Need-returns
 returns-6 c =
     let e = c.before.before in
     let d = e.before.before.before in
     let m = d.before.before in
     let y = m.before.before in
-    day-good _ _ _ _ (six y.before.before) y.value.ensures.0 m.value2.ensures.0 d.value3.ensures.0
-    e.before.before.if2.false e.before.if3.false _ c.before.days-in.ensures e.if4.false c.if5.false
+    day-good _ _ _ _ (six y.before.before) y.value-year.ensures.0 m.value-month.ensures.0 d.value-day.ensures.0
+    e.before.before.if-month-lt1.false e.before.if-month-gt-MONTHS.false _ c.before.days_in.ensures e.if-day-lt1.false c.if-days_in-day.false
 
 pub read_spec : {M : Type 1} → statement M
 read_spec =
