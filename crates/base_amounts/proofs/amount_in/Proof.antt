@@ -12,17 +12,17 @@ returns c = read_none _ c.if-f-eq0.true
 returns-2 : tie.Need-returns-then-f-eq43
 returns-2 c =
     let v = c.before.before in
-    read-plus _ _ v.before.before.if-f-eq0.false (v.value.ensures.0 ∙ ap value_of v.before.without_sign.ensures) c.if-f-eq43.true
+    read-plus _ _ v.if-f-eq0.false (v.value.ensures.0 ∙ ap value_of v.without_sign.ensures) c.if-f-eq43.true
 
 returns-3 : tie.Need-returns-then-f-eq45
 returns-3 c =
     let v = c.before.before.before.before in
-    read-minus _ _ v.before.before.if-f-eq0.false (v.value.ensures.0 ∙ ap value_of v.before.without_sign.ensures) c.before.before.if-f-eq43.false c.if-f-eq45.true
+    read-minus _ _ v.if-f-eq0.false (v.value.ensures.0 ∙ ap value_of v.without_sign.ensures) c.if-f-eq43.false c.if-f-eq45.true
 
 returns-4 : tie.Need-returns
 returns-4 c =
     let v = c.before.before.before.before in
-    read-unsigned _ _ v.before.before.if-f-eq0.false (v.value.ensures.0 ∙ ap value_of v.before.without_sign.ensures) c.before.before.if-f-eq43.false c.if-f-eq45.false
+    read-unsigned _ _ v.if-f-eq0.false (v.value.ensures.0 ∙ ap value_of v.without_sign.ensures) c.if-f-eq43.false c.if-f-eq45.false
 
 pub amount_in_spec : {M : Type 1} → statement M
 amount_in_spec =

@@ -18,20 +18,20 @@ loop-holds c = (zero-le, refl)
 returns : tie.Need-returns-then-s-i invariant-loop decreases-loop
 returns c =
     let l = c.before.before.before in
-    stop _ _ _ l.loop-i.invariant.1 c.before.before.loop-i-test.true (below _ _ _ c.if-s-i.true)
+    stop _ _ _ l.loop-i.invariant.1 c.loop-i-test.true (below _ _ _ c.if-s-i.true)
 
 returns-2 : tie.Need-returns-then-hi-s invariant-loop decreases-loop
 returns-2 c =
     let t = c.before.before.before.before in
-    stop _ _ _ t.before.loop-i.invariant.1 t.loop-i-test.true (above _ _ _ c.if-hi-s.true)
+    stop _ _ _ t.loop-i.invariant.1 t.loop-i-test.true (above _ _ _ c.if-hi-s.true)
 
 loop-again : tie.Need-loop-i-preserved invariant-loop decreases-loop
 loop-again c =
     let t = c.before.before.before.before in
-    (search rules, go_on _ _ _ t.before.loop-i.invariant.1 t.loop-i-test.true (within _ _ _ c.before.before.if-s-i.false c.if-hi-s.false))
+    (search rules, go_on _ _ _ t.loop-i.invariant.1 t.loop-i-test.true (within _ _ _ c.if-s-i.false c.if-hi-s.false))
 
 returns-3 : tie.Need-returns invariant-loop decreases-loop
-returns-3 c = done _ _ _ c.before.loop-i.invariant.1 c.loop-i-test.false
+returns-3 c = done _ _ _ c.loop-i.invariant.1 c.loop-i-test.false
 
 pub all_between_spec : {M : Type 1} → statement M
 all_between_spec =

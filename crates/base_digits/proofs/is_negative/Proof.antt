@@ -8,7 +8,7 @@ returns : tie.Need-returns-then-f-eq0
 returns c = negative-none _ c.if-f-eq0.true
 
 returns-2 : tie.Need-returns
-returns-2 c = negative-first _ c.before.if-f-eq0.false
+returns-2 c = negative-first _ c.if-f-eq0.false
 
 pub is_negative_spec : {M : Type 1} → statement M
 is_negative_spec = tie.close (tie.spec returns (λ c. search rules) returns-2)

@@ -62,31 +62,31 @@ returns c = (value-long _ c.if-s-gt-MOST_DIGITS.true, zero-le)
 -- eight zeros were passed; or none, of a long number and of a short one
 loop-holds : tie.Need-loop-i-init invariant-loop decreases-loop
 loop-holds c =
-    ⊎_elim (λ w. (rw w.5 (passed 8 _ (omega (arith, w.0.true)) (sym w.3.ensures ∙ w.4.true)), w.1.left))
-    (⊎_elim (λ w. (rw w.5 (start _), w.1.left)) (λ w. (rw w.1 (start _), omega (arith, w.0.left))))
+    ⊎_elim (λ w. (rw w.5 (passed 8 _ (omega (arith, w.0.true)) (sym w.3.ensures ∙ w.4.true)), w.1.false))
+    (⊎_elim (λ w. (rw w.5 (start _), w.1.false)) (λ w. (rw w.1 (start _), omega (arith, w.0.false))))
     c.if-s-ge-LONG_NUMBER.branch-raw
 
 returns-2 : tie.Need-returns-then-d-gt9 invariant-loop decreases-loop
 returns-2 c =
     let t = c.before.before.before in
-    let d = c.before.wrapping_sub_u8-d in
-    (value-bad _ _ _ t.before.loop-i.invariant.0 t.loop-i-test.true (no_digit _ _ d.ensures d.type_inv c.if-d-gt9.true), zero-le)
+    let d = c.wrapping_sub_u8-d in
+    (value-bad _ _ _ t.loop-i.invariant.0 t.loop-i-test.true (no_digit _ _ d.ensures d.type_inv c.if-d-gt9.true), zero-le)
 
 mul-v : tie.Need-overflow_mul-v invariant-loop decreases-loop
-mul-v c = omega (arith, bounded 17 _ _ _ c.before.before.before.before.loop-i.invariant.0 (omega arith))
+mul-v c = omega (arith, bounded 17 _ _ _ c.loop-i.invariant.0 (omega arith))
 
 add-v : tie.Need-overflow_add-v invariant-loop decreases-loop
-add-v c = omega (arith, bounded 17 _ _ _ c.before.before.before.before.before.loop-i.invariant.0 (omega arith))
+add-v c = omega (arith, bounded 17 _ _ _ c.loop-i.invariant.0 (omega arith))
 
 loop-again : tie.Need-loop-i-preserved invariant-loop decreases-loop
 loop-again c =
     let t = c.before.before.before.before.before in
-    let b-is = digit _ _ c.before.before.before.wrapping_sub_u8-d.ensures c.before.before.if-d-gt9.false in
-    (turn _ _ _ _ t.before.loop-i.invariant.0 t.loop-i-test.true (omega arith) (omega arith) (omega arith), t.before.loop-i.invariant.1)
+    let b-is = digit _ _ c.wrapping_sub_u8-d.ensures c.if-d-gt9.false in
+    (turn _ _ _ _ t.loop-i.invariant.0 t.loop-i-test.true (omega arith) (omega arith) (omega arith), t.loop-i.invariant.1)
 
 returns-3 : tie.Need-returns invariant-loop decreases-loop
 returns-3 c =
-    let r = c.before.loop-i.invariant.0 in
+    let r = c.loop-i.invariant.0 in
     (value_read _ _ _ r c.loop-i-test.false (omega arith), omega (arith, bounded 18 _ _ _ r (omega arith)))
 
 pub value_spec : {M : Type 1} → statement M

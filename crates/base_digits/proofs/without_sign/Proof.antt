@@ -8,16 +8,16 @@ returns : tie.Need-returns-then-f-eq0
 returns c = sign-none _ c.if-f-eq0.true
 
 returns-2 : tie.Need-returns-then-f-eq43
-returns-2 c = sign-cut _ c.before.before.before.if-f-eq0.false (plus-is _ c.before.if-f-eq43.true)
+returns-2 c = sign-cut _ c.if-f-eq0.false (plus-is _ c.if-f-eq43.true)
 
 returns-3 : tie.Need-returns-then-f-eq45
 returns-3 c =
-    sign-cut _ c.before.before.before.before.before.if-f-eq0.false (minus_is _ c.before.if-f-eq45.true)
+    sign-cut _ c.if-f-eq0.false (minus_is _ c.if-f-eq45.true)
 
 returns-4 : tie.Need-returns
 returns-4 c =
-    sign_kept _ c.before.before.before.before.if-f-eq0.false
-    (neither-is _ c.before.before.if-f-eq43.false c.if-f-eq45.false)
+    sign_kept _ c.if-f-eq0.false
+    (neither-is _ c.if-f-eq43.false c.if-f-eq45.false)
 
 pub without_sign_spec : {M : Type 1} → statement M
 without_sign_spec =

@@ -19,14 +19,14 @@ loop-holds : tie.Need-loop-m-init invariant-loop decreases-loop
 loop-holds c = omega (arith, decimal-short c.args.n (omega arith))
 
 add-k : tie.Need-overflow_add-k invariant-loop decreases-loop
-add-k c = omega (arith, decimal-some c.before.loop-m.m)
+add-k c = omega (arith, decimal-some c.loop-m.m)
 
 loop-again : tie.Need-loop-m-preserved invariant-loop decreases-loop
-loop-again c = omega (arith, decimal-longer c.before.loop-m.m c.loop-m-test.true)
+loop-again c = omega (arith, decimal-longer c.loop-m.m c.loop-m-test.true)
 
 returns : tie.Need-returns invariant-loop decreases-loop
 returns c =
-    let m = c.before.loop-m.m in
+    let m = c.loop-m.m in
     omega (arith, decimal-some m, decimal-at-most 1 m (omega arith) c.loop-m-test.false)
 
 pub digit_count_spec : {M : Type 1} → statement M

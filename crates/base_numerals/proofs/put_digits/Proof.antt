@@ -17,27 +17,27 @@ returns : tie.Need-returns-then-out-k invariant-loop decreases-loop
 returns c = put-short _ _ (omega arith)
 
 loop-holds : tie.Need-loop-i-init invariant-loop decreases-loop
-loop-holds c = start _ _ _ c.before.digit_count-k.ensures.0 c.if-out-k.false
+loop-holds c = start _ _ _ c.digit_count-k.ensures.0 c.if-out-k.false
 
 loop-again : tie.Need-loop-i-preserved invariant-loop decreases-loop
-loop-again c = turn _ _ _ _ _ c.before.loop-i.invariant c.loop-i-test.true
+loop-again c = turn _ _ _ _ _ c.loop-i.invariant c.loop-i-test.true
 
 cast-out-2 : tie.Need-overflow_cast-out-2 invariant-loop decreases-loop
-cast-out-2 c = omega (arith, one-digit c.before.loop-i.m (omega arith))
+cast-out-2 c = omega (arith, one-digit c.loop-i.m (omega arith))
 
 add-out-2 : tie.Need-overflow_add-out-2 invariant-loop decreases-loop
-add-out-2 c = omega (arith, one-digit c.before.loop-i.m (omega arith))
+add-out-2 c = omega (arith, one-digit c.loop-i.m (omega arith))
 
 slice-write-out-2 : tie.Need-bounds-out-0 invariant-loop decreases-loop
-slice-write-out-2 c = omega (arith, decimal-some c.before.loop-i.m)
+slice-write-out-2 c = omega (arith, decimal-some c.loop-i.m)
 
 same_length : tie.Need-shape_of-out invariant-loop decreases-loop
-same_length c = simp length-set c.before.loop-i.invariant.same
+same_length c = simp length-set c.loop-i.invariant.same
 
 returns-2 : tie.Need-returns invariant-loop decreases-loop
 returns-2 c =
-    put-fits _ _ _ _ (omega arith) c.before.before.before.digit_count-k.ensures.0
-    (last _ _ _ _ _ c.before.loop-i.invariant c.loop-i-test.false)
+    put-fits _ _ _ _ (omega arith) c.digit_count-k.ensures.0
+    (last _ _ _ _ _ c.loop-i.invariant c.loop-i-test.false)
 
 pub put_digits_spec : {M : Type 1} → statement M
 put_digits_spec =

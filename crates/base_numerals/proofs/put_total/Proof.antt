@@ -8,12 +8,12 @@ use Rattle.base_numerals.proofs.put_total.Tie as tie
 returns : tie.Need-returns-then-pluses-minuses
 returns c =
     let t = c.before.before.before.before in
-    rw (total-below-zero (sum_meant t.before.before.args.total) t.if-pluses-minuses.true) c.before.before.put_digits_after.ensures
+    rw (total-below-zero (sum_meant t.args.total) t.if-pluses-minuses.true) c.put_digits_after.ensures
 
 returns-2 : tie.Need-returns
 returns-2 c =
     let t = c.before.before.before.before in
-    rw (total-from-zero (sum_meant t.before.before.args.total) t.if-pluses-minuses.false) c.before.before.put_digits.ensures
+    rw (total-from-zero (sum_meant t.args.total) t.if-pluses-minuses.false) c.put_digits.ensures
 
 pub put_total_spec : {M : Type 1} → statement M
 put_total_spec =

@@ -9,11 +9,11 @@ use Rattle.base_slices.proofs.front.Statement.{statement}
 use Rattle.base_slices.proofs.front.Tie as tie
 
 returns : tie.Need-returns-then-s-size
-returns c = let a = c.before.args in sym (take_all a.size a.s.now c.if-s-size.true)
+returns c = let a = c.args in sym (take_all a.size a.s.now c.if-s-size.true)
 
 returns-2 : tie.Need-returns
 returns-2 c =
-    let a = c.before.before.args in
+    let a = c.args in
     let e : a.size - 0 ≡ a.size = omega arith in
     ap (λ (n : ℕ). take n a.s.now) e
 

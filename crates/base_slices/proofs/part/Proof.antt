@@ -11,15 +11,15 @@ use Rattle.base_slices.proofs.part.Tie as tie
 
 returns : tie.Need-returns-then-before-a
 returns c =
-    let f = c.before.before.front-before in
-    let a = c.before.before.before.before.args in
-    sym (ap (λ (l : List ℕ). drop a.from.0 l) (sym f.ensures) ∙ drop_of_length-le f.result-1.now c.before.if-before-a.true)
+    let f = c.front-before in
+    let a = c.args in
+    sym (ap (λ (l : List ℕ). drop a.from.0 l) (sym f.ensures) ∙ drop_of_length-le f.result.now c.if-before-a.true)
 
 returns-2 : tie.Need-returns
 returns-2 c =
-    let f = c.before.before.front-before in
-    let a = c.before.before.before.before.args in
-    take_all (length f.result-1.now - a.from.0) (drop a.from.0 f.result-1.now) (omega (arith, length-drop a.from.0 f.result-1.now))
+    let f = c.front-before in
+    let a = c.args in
+    take_all (length f.result.now - a.from.0) (drop a.from.0 f.result.now) (omega (arith, length-drop a.from.0 f.result.now))
     ∙ ap (λ (l : List ℕ). drop a.from.0 l) f.ensures
 
 pub part_spec : {M : Type 1} → statement M

@@ -20,17 +20,17 @@ returns : tie.Need-returns-then-out-numbers invariant-loop decreases-loop
 returns c = put-short _ _ (omega arith)
 
 loop-holds : tie.Need-loop-i-init invariant-loop decreases-loop
-loop-holds c = (omega arith, omega arith, refl, paste-zero c.before.args.out.now 0 c.before.args.numbers.now)
+loop-holds c = (omega arith, omega arith, refl, paste-zero c.args.out.now 0 c.args.numbers.now)
 
 loop-again : tie.Need-loop-i-preserved invariant-loop decreases-loop
 loop-again c =
-    let l = c.before.before.loop-i in
-    (omega arith, omega arith, simp length-set l.invariant.2, put-turn c.before.before.before.before.args.out.now c.before.before.before.before.args.numbers.now l.out l.i (omega arith) (omega arith) l.invariant.3)
+    let l = c.loop-i in
+    (omega arith, omega arith, simp length-set l.invariant.2, put-turn c.args.out.now c.args.numbers.now l.out l.i (omega arith) (omega arith) l.invariant.3)
 
 returns-2 : tie.Need-returns invariant-loop decreases-loop
 returns-2 c =
-    let l = c.before.loop-i in
-    put_all c.before.before.before.args.out.now c.before.before.before.args.numbers.now l.out l.i (omega arith) (omega arith) l.invariant.3
+    let l = c.loop-i in
+    put_all c.args.out.now c.args.numbers.now l.out l.i (omega arith) (omega arith) l.invariant.3
 
 pub put_numbers_spec : {M : Type 1} → statement M
 put_numbers_spec =

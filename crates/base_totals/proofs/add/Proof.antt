@@ -8,8 +8,8 @@ use Rattle.base_totals.proofs.add.Tie as tie
 returns : tie.Need-returns
 unfolding ◌⊞◌
 returns c =
-    same_numbers _ _ c.before.before.before.before.add.ensures c.before.before.before.both.ensures
-    c.before.before.both-2.ensures c.before.both-3.ensures c.wrapping_add_u64.ensures
+    same_numbers _ _ c.add.ensures c.both.ensures
+    c.both-2.ensures c.both-3.ensures c.wrapping_add_u64.ensures
 
 pub add_spec : {M : Type 1} → statement M
 add_spec =

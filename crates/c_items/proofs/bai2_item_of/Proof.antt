@@ -8,7 +8,7 @@ use Rattle.c_items.proofs.bai2_item_of.Tie as tie
 returns : tie.Need-returns
 returns c =
     let f = c.before.before in
-    rw (f.form_of.ensures, f.before.magnitude_of-magnitude.ensures, c.before.is_given.ensures, c.count_or_zero.ensures) (ap item_figures f.before.before.before.before.item-i.ensures)
+    rw (f.form_of.ensures, f.magnitude_of-magnitude.ensures, c.is_given.ensures, c.count_or_zero.ensures) (ap item_figures f.item-i.ensures)
 
 pub bai2_item_of_spec : {M : Type 1} → statement M
 bai2_item_of_spec = tie.close (tie.spec (λ c κs. search rules) (λ c κs. search rules) (λ c κs. search rules) (λ c κs. search rules) (λ c κs. search rules) returns)

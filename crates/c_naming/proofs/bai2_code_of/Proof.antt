@@ -9,44 +9,44 @@ use Rattle.c_naming.proofs.bai2_code_of.Tie as tie
 unlisted : tie.Need-returns-in-Unlisted
 unfolding code_figures
 unlisted c =
-    let f = c.before.before in
-    class-figures f.before.args.code c.enum_told-1.given.1 f.code_class.ensures
+    let f = c.before in
+    class-figures f.args.code c.in-Unlisted.is f.code_class.ensures
 
 status : tie.Need-returns-in-Status
 unfolding code_figures
 status c =
-    let f = c.before.before.before in
-    c.listed.ensures ∙ class-figures f.before.args.code c.before.enum_told-in-Status-1.given.1 f.code_class.ensures
+    let f = c.before.before in
+    c.listed.ensures ∙ class-figures f.args.code c.in-Status.is f.code_class.ensures
 
 credit-summary : tie.Need-returns-in-CreditSummary
 unfolding code_figures
 credit-summary c =
-    let f = c.before.before.before in
-    c.listed-in-CreditSummary.ensures ∙ class-figures f.before.args.code c.before.enum_told-in-CreditSummary-1.given.1 f.code_class.ensures
+    let f = c.before.before in
+    c.listed-in-CreditSummary.ensures ∙ class-figures f.args.code c.in-CreditSummary.is f.code_class.ensures
 
 credit-detail : tie.Need-returns-in-CreditDetail
 unfolding code_figures
 credit-detail c =
-    let f = c.before.before.before in
-    c.listed-in-CreditDetail.ensures ∙ class-figures f.before.args.code c.before.enum_told-in-CreditDetail-1.given.1 f.code_class.ensures
+    let f = c.before.before in
+    c.listed-in-CreditDetail.ensures ∙ class-figures f.args.code c.in-CreditDetail.is f.code_class.ensures
 
 debit-summary : tie.Need-returns-in-DebitSummary
 unfolding code_figures
 debit-summary c =
-    let f = c.before.before.before in
-    c.listed-in-DebitSummary.ensures ∙ class-figures f.before.args.code c.before.enum_told-in-DebitSummary-1.given.1 f.code_class.ensures
+    let f = c.before.before in
+    c.listed-in-DebitSummary.ensures ∙ class-figures f.args.code c.in-DebitSummary.is f.code_class.ensures
 
 debit-detail : tie.Need-returns-in-DebitDetail
 unfolding code_figures
 debit-detail c =
-    let f = c.before.before.before in
-    c.listed-in-DebitDetail.ensures ∙ class-figures f.before.args.code c.before.enum_told-in-DebitDetail-1.given.1 f.code_class.ensures
+    let f = c.before.before in
+    c.listed-in-DebitDetail.ensures ∙ class-figures f.args.code c.in-DebitDetail.is f.code_class.ensures
 
 non-monetary : tie.Need-returns-in-NonMonetary
 unfolding code_figures
 non-monetary c =
-    let f = c.before.before.before in
-    c.listed-in-NonMonetary.ensures ∙ class-figures f.before.args.code c.before.enum_told-in-NonMonetary-1.given.1 f.code_class.ensures
+    let f = c.before.before in
+    c.listed-in-NonMonetary.ensures ∙ class-figures f.args.code c.in-NonMonetary.is f.code_class.ensures
 
 pub bai2_code_of_spec : {M : Type 1} → statement M
 bai2_code_of_spec =

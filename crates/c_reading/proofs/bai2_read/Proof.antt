@@ -10,23 +10,23 @@ abbrev Answered : Type 0
 Answered = tie.After-read
 
 abbrev file-of : Answered → Bytes
-file-of c = c.before.before.args.file.now
+file-of c = c.args.file.now
 
 total-of-requires : tie.Need-total_of-requires
 total-of-requires c κs =
-    let r : Answered = c.before.before.before.before.before.before.before.before in
-    total-fits (file-of r) r.read.result r.read.ensures _ c.before.before.before.before.before.before.s-1.given.1
+    let r : Answered = c.before.before.before.before.before.before in
+    total-fits (file-of r) r.read.result r.read.ensures _ c.in-Accepted.is
 
 returns : tie.Need-returns-in-Accepted
 returns c =
-    let known = c.before.before.before.before.before.before.before in
-    let r : Answered = known.before.before in
-    accepted-figures (file-of r) r.read.result r.read.ensures _ c.total_of.result known.s-1.given.1 c.total_of.ensures
+    let known = c.before.before.before.before.before.before in
+    let r : Answered = known.before in
+    accepted-figures (file-of r) r.read.result r.read.ensures _ c.total_of.result known.in-Accepted.is c.total_of.ensures
 
 returns-2 : tie.Need-returns-in-Refused
 returns-2 c =
-    let r : Answered = c.before.before.before.before in
-    refused-figures (file-of r) r.read.result r.read.ensures _ c.before.before.why-1.given.1
+    let r : Answered = c.before.before in
+    refused-figures (file-of r) r.read.result r.read.ensures _ c.in-Refused.is
 
 pub bai2_read_spec : {M : Type 1} → statement M
 bai2_read_spec =

@@ -5,18 +5,18 @@ use Rattle.c_reading.proofs.TotalSigns.{minus_is, minus-fits, difference-kept, p
 use Rattle.c_reading.proofs.total_of.Statement.{statement}
 use Rattle.c_reading.proofs.total_of.Tie as tie
 
-sub-result-2 : tie.Need-overflow-sub-result-2
+sub-result-2 : tie.Need-overflow_sub-result-then-pluses-minuses
 sub-result-2 c =
-    rw (minus_is c.before.args.sum.0 c.before.args.sum.1 c.if-pluses-minuses.true (omega arith))
-    (minus-fits c.before.args.sum.0 c.before.args.sum.1 c.if-pluses-minuses.true (omega arith))
+    rw (minus_is c.args.sum.0 c.args.sum.1 c.if-pluses-minuses.true (omega arith))
+    (minus-fits c.args.sum.0 c.args.sum.1 c.if-pluses-minuses.true (omega arith))
 
 returns : tie.Need-returns-then-pluses-minuses
 returns c =
-    rw (minus_is c.before.args.sum.0 c.before.args.sum.1 c.if-pluses-minuses.true (omega arith))
-    (difference-kept c.before.args.sum.0 c.before.args.sum.1 c.before.requires)
+    rw (minus_is c.args.sum.0 c.args.sum.1 c.if-pluses-minuses.true (omega arith))
+    (difference-kept c.args.sum.0 c.args.sum.1 c.requires)
 
 returns-2 : tie.Need-returns
-returns-2 c = plus-is c.before.args.sum.0 c.before.args.sum.1 c.if-pluses-minuses.false (omega arith)
+returns-2 c = plus-is c.args.sum.0 c.args.sum.1 c.if-pluses-minuses.false (omega arith)
 
 pub total_of_spec : {M : Type 1} → statement M
 total_of_spec =

@@ -17,8 +17,8 @@ returns c = rw c.if-given-eq0.true
 returns-2 : tie.Need-returns
 unfolding or_none
 returns-2 c =
-    rw (ne_eqb c.before.before.args.given 0 c.before.if-given-eq0.false)
-    (ap (λ (a : Signed). some a) (c.signed_of.ensures ∙ ap signed_of (to_z-of_z w64 c.before.before.args.n c.before.before.ranges.n)))
+    rw (ne_eqb c.args.given 0 c.if-given-eq0.false)
+    (ap (λ (a : Signed). some a) (c.signed_of.ensures ∙ ap signed_of (to_z-of_z w64 c.args.n c.ranges.n)))
 
 pub amount_asked_spec : {M : Type 1} → statement M
 amount_asked_spec = tie.close (tie.spec returns (λ c κs. search rules) returns-2)

@@ -10,7 +10,7 @@ returns c = rw c.if-given-eq0.true
 
 returns-2 : tie.Need-returns
 unfolding or_none
-returns-2 c = rw (ne_eqb c.before.args.given 0 c.if-given-eq0.false)
+returns-2 c = rw (ne_eqb c.args.given 0 c.if-given-eq0.false)
 
 pub items_asked_spec : {M : Type 1} → statement M
 items_asked_spec = tie.close (tie.spec returns returns-2)

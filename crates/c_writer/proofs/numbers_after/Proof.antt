@@ -7,11 +7,11 @@ use Rattle.c_writer.proofs.numbers_after.Tie as tie
 
 returns : tie.Need-returns-then-why-ne0
 unfolding numbers_after
-returns c = rw (ne_eqb c.before.before.before.args.r.refusal.number 0 c.if-why-ne0.true)
+returns c = rw (ne_eqb c.args.r.refusal.number 0 c.if-why-ne0.true)
 
 returns-2 : tie.Need-returns
 unfolding numbers_after
-returns-2 c = rw (c.before.if-why-ne0.false, c.numbers_of.ensures)
+returns-2 c = rw (c.if-why-ne0.false, c.numbers_of.ensures)
 
 pub numbers_after_spec : {M : Type 1} → statement M
 numbers_after_spec = tie.close (tie.spec returns (λ c κs. search rules) returns-2)

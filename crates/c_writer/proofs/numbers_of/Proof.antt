@@ -8,7 +8,7 @@ returns c =
     let group = c.before in
     let file = group.before in
     let items = file.before in
-    rw (items.before.phase_number.ensures, items.flag_of.ensures, file.figures_of.ensures, group.figures_of-2.ensures, c.figures_of-3.ensures)
+    rw (items.phase_number.ensures, items.flag_of.ensures, file.figures_of.ensures, group.figures_of-2.ensures, c.figures_of-3.ensures)
 
 pub numbers_of_spec : {M : Type 1} → statement M
 numbers_of_spec =

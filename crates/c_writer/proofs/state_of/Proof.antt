@@ -10,7 +10,7 @@ returns c =
     let group = c.before in
     let file = group.before in
     let size = file.before in
-    rw (size.before.before.phase_of.ensures, size.size_of.ensures, file.summary_of.ensures, group.summary_of-2.ensures, c.summary_of-3.ensures)
+    rw (size.phase_of.ensures, size.size_of.ensures, file.summary_of.ensures, group.summary_of-2.ensures, c.summary_of-3.ensures)
 
 pub state_of_spec : {M : Type 1} → statement M
 state_of_spec =

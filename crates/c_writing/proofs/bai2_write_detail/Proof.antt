@@ -14,9 +14,9 @@ use Rattle.c_writing.proofs.bai2_write_detail.Tie as tie
 returns : tie.Need-returns
 returns c =
     let s = c.before.before.before.before.before.before.before.before.before.before.before.before in
-    let w = c.before.before.before.before.before.before.state_of-w in
-    let r = c.before.before.before.detail-r in
-    let a = c.before.before.before.before.before.amount_asked-a in
+    let w = c.state_of-w in
+    let r = c.detail-r in
+    let a = c.amount_asked-a in
     replies s.args.writer w.result r.result c.answered.result (rules.write_detail s.args.type_code.now (amount_asked s.args.amount_given s.args.amount) s.args.bank_reference.now s.args.customer_reference.now s.args.text.now) s.args.out.now r.new.1.1.1.1.1.1.0 w.ensures
     (written_as (writer_meant w.result) s.args.out.now (rules.write_detail s.args.type_code.now (amount_given a.result) s.args.bank_reference.now s.args.customer_reference.now s.args.text.now)
     (rules.write_detail s.args.type_code.now (amount_asked s.args.amount_given s.args.amount) s.args.bank_reference.now s.args.customer_reference.now s.args.text.now) (written_meant r.result r.new.1.1.1.1.1.1.0) r.ensures

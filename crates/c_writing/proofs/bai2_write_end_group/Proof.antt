@@ -8,9 +8,9 @@ use Rattle.c_writing.proofs.bai2_write_end_group.Tie as tie
 returns : tie.Need-returns
 returns c =
     let s = c.before.before.before.before.before.before.before in
-    let w = c.before.before.before.before.before.state_of-w in
-    let r = c.before.before.before.end_group-r in
-    replies s.args.writer w.result r.result c.answered.result rules.end_group-r s.args.out.now r.new.1.0 w.ensures r.ensures c.answered.ensures
+    let w = c.state_of-w in
+    let r = c.end_group-r in
+    replies s.args.writer w.result r.result c.answered.result rules.end_group s.args.out.now r.new.1.0 w.ensures r.ensures c.answered.ensures
 
 pub bai2_write_end_group_spec : {M : Type 1} → statement M
 bai2_write_end_group_spec =

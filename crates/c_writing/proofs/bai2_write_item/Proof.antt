@@ -12,14 +12,14 @@ use Rattle.c_writing.proofs.bai2_write_item.Tie as tie
 returns : tie.Need-returns
 returns c =
     let s = c.before.before.before.before.before.before.before.before.before.before in
-    let w = c.before.before.before.before.before.before.before.state_of-w in
-    let r = c.before.before.before.item-r in
-    let n = c.before.before.before.before.before.items_asked-n in
-    let a = c.before.before.before.before.before.before.amount_asked-a in
+    let w = c.state_of-w in
+    let r = c.item-r in
+    let n = c.items_asked-n in
+    let a = c.amount_asked-a in
     replies s.args.writer w.result r.result c.answered.result (rules.write_item (item_of s.args.type_code.now s.args.amount_given s.args.amount s.args.count_given s.args.count)) s.args.out.now r.new.1.1.1.1.0 w.ensures
     (written_as (writer_meant w.result) s.args.out.now (rules.write_item (item_meant s.args.type_code.now a.result n.result))
     (rules.write_item (item_of s.args.type_code.now s.args.amount_given s.args.amount s.args.count_given s.args.count)) (written_meant r.result r.new.1.1.1.1.0) r.ensures
-    (ap (λ (i : rules.item-r). rules.write_item i) (item-is s.args.type_code.now s.args.amount_given s.args.count_given s.args.count s.args.amount a.result n.result (amount-is s.args.amount_given s.args.amount a.result s.ranges.amount a.ensures) n.ensures)))
+    (ap (λ (i : rules.Item). rules.write_item i) (item-is s.args.type_code.now s.args.amount_given s.args.count_given s.args.count s.args.amount a.result n.result (amount-is s.args.amount_given s.args.amount a.result s.ranges.amount a.ensures) n.ensures)))
     c.answered.ensures
 
 pub bai2_write_item_spec : {M : Type 1} → statement M

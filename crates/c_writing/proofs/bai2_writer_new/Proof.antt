@@ -7,7 +7,7 @@ use Rattle.c_writing.proofs.bai2_writer_new.Statement.{statement}
 use Rattle.c_writing.proofs.bai2_writer_new.Tie as tie
 
 returns : tie.Need-returns
-returns c = c.numbers_of.ensures ∙ ap (λ (w : rules.Writer). numbers_of w) c.before.new.ensures
+returns c = c.numbers_of.ensures ∙ ap (λ (w : rules.Writer). numbers_of w) c.new.ensures
 
 pub bai2_writer_new_spec : {M : Type 1} → statement M
 bai2_writer_new_spec = tie.close (tie.spec (λ c κs. search rules) (λ c κs. search rules) returns)

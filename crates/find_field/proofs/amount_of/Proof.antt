@@ -6,7 +6,7 @@ use Rattle.find_field.proofs.amount_of.Statement.{statement}
 use Rattle.find_field.proofs.amount_of.Tie as tie
 
 returns : tie.Need-returns
-returns c = c.amount_in.ensures ∙ amount-in c.before.before.before.args.rec.now _ c.before.field.ensures
+returns c = c.amount_in.ensures ∙ amount-in c.args.rec.now _ c.field.ensures
 
 pub amount_of_spec : {M : Type 1} → statement M
 amount_of_spec = tie.close (tie.spec (λ c κs. search rules) (λ c κs. search rules) returns)

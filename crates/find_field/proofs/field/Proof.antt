@@ -8,7 +8,7 @@ use Rattle.find_field.proofs.field.Tie as tie
 returns : tie.Need-returns
 returns c =
     let found = c.before.before.before in
-    let a = found.before.before.args in
+    let a = found.args in
     lent_is (kind_meant a.sought) a.rec.now _ _ _ found.seek-spot.ensures.answer
 
 pub field_spec : {M : Type 1} → statement M

@@ -35,7 +35,7 @@ found c r e =
     let code = code_meant (entry c).args.code in
     ap (λ (x : Reached). found_at (reached_meant (rec-of c) x)) (sym e)
     ∙ ap found_at c.walk_to.ensures.answer
-    ∙ ap (λ (k : ℕ). found_at (walk_end k 0 (trace_of_record (rec-of c) (length (rec-of c)) code))) c.before.before.kind_sought-kind.ensures
+    ∙ ap (λ (k : ℕ). found_at (walk_end k 0 (trace_of_record (rec-of c) (length (rec-of c)) code))) c.kind_sought-kind.ensures
     ∙ walk-found (kind_meant (entry c).args.sought) code (rec-of c)
 
 -- nothing is
@@ -46,15 +46,15 @@ none c r is e =
     subst (Spots (rec-of c) (code_meant (entry c).args.code) (entry c).args.sought) (sym is) (record { answer = e; within = omega arith })
 
 returns : tie.Need-returns-in-Refused
-returns c = let w = c.before.before.before.before in none w _ c.nowhere.ensures (found w _ c.before.enum_told-1.given.1)
+returns c = let w = c.before.before.before in none w _ c.nowhere.ensures (found w _ c.in-Refused.is)
 
 returns-2 : tie.Need-returns-in-Over
-returns-2 c = let w = c.before.before.before.before in none w _ c.nowhere-in-Over.ensures (found w _ c.before.enum_told-in-Over-1.given.1)
+returns-2 c = let w = c.before.before.before in none w _ c.nowhere-in-Over.ensures (found w _ c.in-Over.is)
 
 returns-3 : tie.Need-returns-in-Field
 returns-3 c =
-    let w = c.before.before.before.before in
-    let e = c.before.start-1.given.1 in
+    let w = c.before.before in
+    let e = c.in-Field.is in
     record { answer = found w _ e; within = subst (StandsIn (rec-of w)) e w.walk_to.ensures.inside }
 
 pub seek_spec : {M : Type 1} → statement M

@@ -9,8 +9,8 @@ use Rattle.find_item.proofs.bytes_of.Tie as tie
 
 returns : tie.Need-returns
 returns c =
-    let a = c.before.before.before.args in
-    let start = a.field.start-1.0 in
+    let a = c.args in
+    let start = a.field.start.0 in
     let size : start + a.field.size - start ≡ a.field.size = omega arith in
     ap (λ (n : ℕ). take n (drop start a.rec.now)) size
 

@@ -17,10 +17,10 @@ abbrev Found : Type 0
 Found = tie.In-Type
 
 abbrev rec-of : Found → Bytes
-rec-of c = c.before.before.before.before.before.args.rec.now
+rec-of c = c.args.rec.now
 
-sought : (c : Found) → Seeks (rec-of c) c.before.before.before.before.before.args.n (types.Type c.before.found-1.given.0.0)
-sought c = subst (Seeks (rec-of c) _) c.before.found-1.given.1 c.before.before.before.seek_type.ensures
+sought : (c : Found) → Seeks (rec-of c) c.args.n (types.Type c.in-Type.found)
+sought c = subst (Seeks (rec-of c) _) c.in-Type.is c.seek_type.ensures
 
 take-next-requires : tie.Need-take_next-amount-requires
 take-next-requires c κs = (sought c).1.still
@@ -32,13 +32,13 @@ bytes-of-requires : tie.Need-bytes_of-requires
 bytes-of-requires c κs = (sought c.before.before).1.inside
 
 bytes-of-requires-2 : tie.Need-bytes_of-requires-in-Type
-bytes-of-requires-2 c κs = c.before.before.before.take_next-amount.ensures.stands.inside
+bytes-of-requires-2 c κs = c.take_next-amount.ensures.stands.inside
 
 bytes-of-requires-3 : tie.Need-bytes_of-requires-in-Type-2
-bytes-of-requires-3 c κs = c.before.before.before.before.take_next-count.ensures.stands.inside
+bytes-of-requires-3 c κs = c.take_next-count.ensures.stands.inside
 
 returns : tie.Need-returns-in-NoType
-returns c = sym (subst (Seeks c.before.before.before.before.args.rec.now _) c.enum_told-1.given.1 c.before.before.seek_type.ensures)
+returns c = sym (subst (Seeks c.args.rec.now _) c.in-NoType.is c.seek_type.ensures)
 
 returns-2 : tie.Need-returns-in-Type
 returns-2 c =
@@ -46,10 +46,10 @@ returns-2 c =
     let count = b.before.before.before in
     let f = count.before.before in
     ap (λ (i : AccountItem). fine i)
-    (item-is (rec-of f) _ f.before.found-1.given.0.0 count.before.take_next-amount.result count.take_next-count.result count.before.take_next-amount.ensures count.take_next-count.ensures _ _ _
-    (b.before.value.ensures.0 ∙ ap value_of b.before.before.bytes_of.ensures)
-    (c.before.before.amount_in.ensures ∙ ap amount_read b.bytes_of-in-Type.ensures)
-    (c.count_in.ensures ∙ ap count_read c.before.bytes_of-in-Type-2.ensures))
+    (item-is (rec-of f) _ f.in-Type.found count.take_next-amount.result count.take_next-count.result count.take_next-amount.ensures count.take_next-count.ensures _ _ _
+    (b.value.ensures.0 ∙ ap value_of b.bytes_of.ensures)
+    (c.amount_in.ensures ∙ ap amount_read b.bytes_of-in-Type.ensures)
+    (c.count_in.ensures ∙ ap count_read c.bytes_of-in-Type-2.ensures))
     ∙ sym (sought f).0
 
 pub item_in_spec : {M : Type 1} → statement M

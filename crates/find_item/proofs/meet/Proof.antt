@@ -5,13 +5,13 @@ use Rattle.find_item.proofs.meet.Statement.{statement}
 use Rattle.find_item.proofs.meet.Tie as tie
 
 returns : tie.Need-returns-then-not-begins
-returns c = passed-by _ _ c.if-not-begins.true
+returns c = passed-by _ _ c.if-not-begins.true-raw
 
 returns-2 : tie.Need-returns-then-left-eq0
-returns-2 c = sought-by _ _ c.before.if-not-begins.false c.if-left-eq0.true
+returns-2 c = sought-by _ _ c.if-not-begins.false-raw c.if-left-eq0.true
 
 returns-3 : tie.Need-returns
-returns-3 c = fewer-by _ _ c.before.if-not-begins.false c.if-left-eq0.false
+returns-3 c = fewer-by _ _ c.if-not-begins.false-raw c.if-left-eq0.false
 
 pub meet_spec : {M : Type 1} → statement M
 meet_spec = tie.close (tie.spec returns returns-2 (λ c. search rules) returns-3)

@@ -24,52 +24,52 @@ abbrev Asked : Type 0
 Asked = tie.After-next_field invariant-loop decreases-loop
 
 abbrev rec-of : Asked → Bytes
-rec-of c = c.before.before.before.before.before.args.rec.now
+rec-of c = c.args.rec.now
 
 -- at a field
 abbrev Met : Type 0
 Met = tie.After-meet invariant-loop decreases-loop
 
 abbrev asked : Met → Asked
-asked c = c.before.before.before.before.before.before
+asked c = c.before.before.before.before
 
 loop-holds : tie.Need-loop-start-init invariant-loop decreases-loop
 loop-holds c =
-    let rec = c.before.before.before.args.rec.now in
+    let rec = c.args.rec.now in
     let start = c.before_record-walk.ensures.1 rec 1 in
-    let all = start.0 ∙ ap (λ (ks : List Kind). trace_lines 0 ks 0 (own_lines 1 0 (lines_of rec))) c.before.first_want.ensures in
-    record { inside = start.1; same = ap (λ (t : Trace). item_from (items_read (yielded t)) c.before.before.before.args.n) (sym all) }
+    let all = start.0 ∙ ap (λ (ks : List Kind). trace_lines 0 ks 0 (own_lines 1 0 (lines_of rec))) c.first_want.ensures in
+    record { inside = start.1; same = ap (λ (t : Trace). item_from (items_read (yielded t)) c.args.n) (sym all) }
 
 returns : tie.Need-returns-in-Refused invariant-loop decreases-loop
 returns c =
-    let a = c.before.before in
-    going-none (rec-of a) _ _ _ a.before.loop-start.invariant (refused-ahead (rec-of a) _ _ a.next_field.ensures _ c.enum_told-1.given.1)
+    let a = c.before in
+    going-none (rec-of a) _ _ _ a.loop-start.invariant (refused-ahead (rec-of a) _ _ a.next_field.ensures _ c.in-Refused.is)
 
 returns-2 : tie.Need-returns-in-Over invariant-loop decreases-loop
 returns-2 c =
-    let a = c.before.before in
-    going-none (rec-of a) _ _ _ a.before.loop-start.invariant (over-ahead (rec-of a) _ _ a.next_field.ensures c.enum_told-in-Over-1.given.1)
+    let a = c.before in
+    going-none (rec-of a) _ _ _ a.loop-start.invariant (over-ahead (rec-of a) _ _ a.next_field.ensures c.in-Over.is)
 
 returns-3 : tie.Need-returns-in-Sought invariant-loop decreases-loop
 returns-3 c =
-    let f = c.before.before in
+    let f = c.before in
     let a = asked f in
-    going-met (rec-of a) _ _ _ a.before.loop-start.inv _ a.next_field.ensures _ _ _ f.before.before.before.before.start-1.given.1 _ _
-    f.before.before.kind_number.ensures f.before.begins_item-begins.ensures (sym f.meet.ensures ∙ c.enum_told-in-Sought-1.given.1)
+    going-met (rec-of a) _ _ _ a.loop-start.invariant _ a.next_field.ensures _ _ _ f.in-Field.is _ _
+    f.kind_number.ensures f.begins_item-begins.ensures (sym f.meet.ensures ∙ c.in-Sought.is)
 
 loop-less : tie.Need-loop-start-smaller invariant-loop decreases-loop
 loop-less c =
-    let f = c.before.before.before in
+    let f = c.before in
     let a = asked f in
-    going_less (rec-of a) _ _ _ a.before.loop-start.inv _ a.next_field.ensures _ _ _ f.before.before.before.before.start-1.given.1 _ _
-    f.before.before.kind_number.ensures f.before.begins_item-begins.ensures
+    going_less (rec-of a) _ _ _ a.loop-start.invariant _ a.next_field.ensures _ _ _ f.in-Field.is _ _
+    f.kind_number.ensures f.begins_item-begins.ensures
 
 loop-again : tie.Need-loop-start-preserved invariant-loop decreases-loop
 loop-again c =
-    let f = c.before.before.before in
+    let f = c.before in
     let a = asked f in
-    going_on (rec-of a) _ _ _ a.before.loop-start.inv _ a.next_field.ensures _ _ _ f.before.before.before.before.start-1.given.1 _ _
-    f.before.before.kind_number.ensures f.before.begins_item-begins.ensures _ (sym f.meet.ensures ∙ c.before.more-1.given.1)
+    going_on (rec-of a) _ _ _ a.loop-start.invariant _ a.next_field.ensures _ _ _ f.in-Field.is _ _
+    f.kind_number.ensures f.begins_item-begins.ensures _ (sym f.meet.ensures ∙ c.in-Passed.is)
 
 pub seek_type_spec : {M : Type 1} → statement M
 seek_type_spec =

@@ -14,18 +14,18 @@ entry c = c.before.before
 
 returns : tie.Need-returns-in-Refused
 returns c =
-    let a = c.before.before in
-    none-taken _ _ (entry a).requires (refused-ahead _ _ _ a.next_field.ensures _ c.enum_told-1.given.1)
+    let a = c.before in
+    none-taken _ _ (entry a).requires (refused-ahead _ _ _ a.next_field.ensures _ c.in-Refused.is)
 
 returns-2 : tie.Need-returns-in-Over
 returns-2 c =
-    let a = c.before.before in
-    none-taken _ _ (entry a).requires (over-ahead _ _ _ a.next_field.ensures c.enum_told-in-Over-1.given.1)
+    let a = c.before in
+    none-taken _ _ (entry a).requires (over-ahead _ _ _ a.next_field.ensures c.in-Over.is)
 
 returns-3 : tie.Need-returns-in-Field
 returns-3 c =
-    let a = c.before.before.before in
-    let e = c.before.start-1.given.1 in
+    let a = c.before in
+    let e = c.in-Field.is in
     let o = onward _ _ _ a.next_field.ensures _ _ _ e (entry a).requires in
     some-taken _ _ (entry a).requires _ _ _ _ refl (field-ahead _ _ _ a.next_field.ensures _ _ _ e) o.0 o.1
 

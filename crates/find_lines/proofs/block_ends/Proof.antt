@@ -18,10 +18,10 @@ loop-holds : tie.Need-loop-i-init invariant-loop decreases-loop
 loop-holds c = (omega arith, λ e k h. absurd (omega arith))
 
 loop-again : tie.Need-loop-i-preserved invariant-loop decreases-loop
-loop-again c = (search rules, λ e. below_more _ _ (c.before.before.before.loop-i.invariant.1 (omega (arith, c.smaller-lowest.ensures))) (omega (arith, c.smaller-lowest.ensures)))
+loop-again c = (search rules, λ e. below_more _ _ (c.loop-i.invariant.1 (omega (arith, c.smaller-lowest.ensures))) (omega (arith, c.smaller-lowest.ensures)))
 
 returns : tie.Need-returns invariant-loop decreases-loop
-returns c = λ e k h. c.before.loop-i.invariant.1 (leb-false c.before.loop-i.lowest 10 e) k (omega arith)
+returns c = λ e k h. c.loop-i.invariant.1 (leb-false c.loop-i.lowest 10 e) k (omega arith)
 
 pub block_ends_spec : {M : Type 1} → statement M
 block_ends_spec =

@@ -21,13 +21,13 @@ loop-holds c = (omega arith, λ e k h. absurd (omega arith))
 
 loop-again : tie.Need-loop-i-preserved invariant-loop decreases-loop
 loop-again c =
-    let a = c.before.before.before.before.before.before.args in
-    let l = c.before.before.before.before.loop-i in
+    let a = c.args in
+    let l = c.loop-i in
     let k = a.start.0 + l.i in
     (search rules, λ e. below_more _ _ (l.invariant.1 (c.meets-found.ensures e).0) (quiet-byte a.x a.y a.s.now k (omega arith) (c.meets-found.ensures e).1))
 
 returns : tie.Need-returns invariant-loop decreases-loop
-returns c = λ e k h. c.before.loop-i.invariant.1 (none_found c.before.loop-i.found e) k (omega arith)
+returns c = λ e k h. c.loop-i.invariant.1 (none_found c.loop-i.found e) k (omega arith)
 
 pub block_meets_spec : {M : Type 1} → statement M
 block_meets_spec =

@@ -18,18 +18,18 @@ decreases-loop s x y e i₀ i = e - i
 
 returns : tie.Need-returns-then-ends_before_line invariant-loop decreases-loop
 returns c =
-    let l = c.before.before.before.loop-i in
-    record { passed = l.invariant.2; found = λ h. sym c.before.ends_before_line.ensures ∙ c.if-ends_before_line.true; within = (l.invariant.0, l.invariant.1) }
+    let l = c.loop-i in
+    record { passed = l.invariant.2; found = λ h. sym c.ends_before_line.ensures ∙ c.if-ends_before_line.true; within = (l.invariant.0, l.invariant.1) }
 
 loop-again : tie.Need-loop-i-preserved invariant-loop decreases-loop
 loop-again c =
-    let a = c.before.before.before.before.before.args in
-    let l = c.before.before.before.loop-i in
-    (omega arith, omega arith, l.invariant.2 ∙ ahead_step (bytes_meant a.x) (bytes_meant a.y) a.s.now l.i (omega arith) (sym c.before.ends_before_line.ensures ∙ c.if-ends_before_line.false))
+    let a = c.args in
+    let l = c.loop-i in
+    (omega arith, omega arith, l.invariant.2 ∙ ahead_step (bytes_meant a.x) (bytes_meant a.y) a.s.now l.i (omega arith) (sym c.ends_before_line.ensures ∙ c.if-ends_before_line.false))
 
 returns-2 : tie.Need-returns invariant-loop decreases-loop
 returns-2 c =
-    let l = c.before.loop-i in
+    let l = c.loop-i in
     record { passed = l.invariant.2; found = λ h. absurd (omega arith); within = (l.invariant.0, l.invariant.1) }
 
 pub end_before_line_spec : {M : Type 1} → statement M

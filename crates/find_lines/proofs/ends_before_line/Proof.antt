@@ -8,13 +8,13 @@ use Rattle.find_lines.proofs.ends_before_line.Tie as tie
 
 returns : tie.Need-returns-then-s-at-ne10
 returns c =
-    let a = c.before.before.before.args in
+    let a = c.args in
     no_end (bytes_meant a.x) (bytes_meant a.y) a.s.now a.byte.0 c.if-s-at-ne10.true
 
 returns-2 : tie.Need-returns
 returns-2 c =
-    let a = c.before.before.before.before.args in
-    c.begins_either.ensures ∙ ends-line (bytes_meant a.x) (bytes_meant a.y) a.s.now a.byte.0 c.before.if-s-at-ne10.false
+    let a = c.args in
+    c.begins_either.ensures ∙ ends-line (bytes_meant a.x) (bytes_meant a.y) a.s.now a.byte.0 c.if-s-at-ne10.false
 
 pub ends_before_line_spec : {M : Type 1} → statement M
 ends_before_line_spec =

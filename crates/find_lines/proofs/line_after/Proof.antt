@@ -26,13 +26,13 @@ abbrev head : Block → tie.At-loop-i invariant-loop decreases-loop
 head c = c.before.before
 
 abbrev s-of : Block → Bytes
-s-of c = (head c).before.before.args.s.now
+s-of c = (head c).args.s.now
 
 abbrev x-of : Block → Bytes
-x-of c = bytes_meant (head c).before.before.args.x
+x-of c = bytes_meant (head c).args.x
 
 abbrev y_of : Block → Bytes
-y_of c = bytes_meant (head c).before.before.args.y
+y_of c = bytes_meant (head c).args.y
 
 abbrev at_of : Block → ℕ
 at_of c = (head c).loop-i.i
@@ -41,14 +41,14 @@ at_of c = (head c).loop-i.i
 returns : tie.Need-returns-then-e-after invariant-loop decreases-loop
 returns c =
     let b = c.before.before.before in
-    let e = c.before.end_before_line-e.ensures in
+    let e = c.end_before_line-e.ensures in
     (end-found (x-of b) (y_of b) (s-of b) (at_of b) (at_of b + 128) _ e (omega arith) c.if-e-after.true ∙ sym (head b).loop-i.invariant.1, omega arith)
 
 -- none does
 loop-again : tie.Need-loop-i-preserved-else-e-after invariant-loop decreases-loop
 loop-again c =
     let b = c.before.before.before in
-    let e = c.before.end_before_line-e.ensures in
+    let e = c.end_before_line-e.ensures in
     (omega arith, (head b).loop-i.invariant.1 ∙ end_none (x-of b) (y_of b) (s-of b) (at_of b) (at_of b + 128) _ e (omega arith) (λ h. omega arith))
 
 loop-again-2 : tie.Need-loop-i-preserved invariant-loop decreases-loop
@@ -71,14 +71,14 @@ returns-2 : tie.Need-returns-then-e-s invariant-loop decreases-loop
 returns-2 c =
     let a = (last-args c.before).args in
     let l = (last-head c.before).loop-i in
-    (end-found (bytes_meant a.x) (bytes_meant a.y) a.s.now l.i (length a.s.now) _ c.before.end_before_line-e-2.ensures (omega arith) c.if-e-s.true ∙ sym l.invariant.1, omega arith)
+    (end-found (bytes_meant a.x) (bytes_meant a.y) a.s.now l.i (length a.s.now) _ c.end_before_line-e-2.ensures (omega arith) c.if-e-s.true ∙ sym l.invariant.1, omega arith)
 
 returns-3 : tie.Need-returns invariant-loop decreases-loop
 returns-3 c =
     let a = (last-args c.before).args in
-    let e = c.before.end_before_line-e-2 in
+    let e = c.end_before_line-e-2 in
     let none = ahead_none (bytes_meant a.x) (bytes_meant a.y) a.s.now e.result.0 (omega arith) in
-    (omega (arith, (last-head c.before).loop-i.inv.1, e.ensures.passed), e.ensures.within.1)
+    (omega (arith, (last-head c.before).loop-i.invariant.1, e.ensures.passed), e.ensures.within.1)
 
 pub line_after_spec : {M : Type 1} → statement M
 line_after_spec =

@@ -7,8 +7,8 @@ use Rattle.find_lines.proofs.may_meet.Tie as tie
 
 returns-2 : tie.Need-returns
 returns-2 c = λ e.
-    let a = c.before.before.before.args in
-    no-end-quiet (bytes_meant a.x) (bytes_meant a.y) a.s.now a.start.0 128 (c.before.block_ends.ensures c.if-block_ends.false)
+    let a = c.args in
+    no-end-quiet (bytes_meant a.x) (bytes_meant a.y) a.s.now a.start.0 128 (c.block_ends.ensures c.if-block_ends.false)
 
 pub may_meet_spec : {M : Type 1} → statement M
 may_meet_spec =

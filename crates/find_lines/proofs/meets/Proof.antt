@@ -7,7 +7,7 @@ use Rattle.find_lines.proofs.meets.Tie as tie
 
 returns : tie.Need-returns
 returns c = λ e.
-    let a = c.before.before.before.before.before.before.args in
+    let a = c.args in
     let kept = c.larger-2.ensures in
     let both = c.before in
     let either = both.before in

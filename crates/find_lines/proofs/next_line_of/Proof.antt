@@ -30,8 +30,8 @@ abbrev left-of : Codes → Bytes
 left-of c = drop (begun c).args.start.0 (begun c).args.s.now
 
 -- what is said of their digits is said of the codes
-of-codes : {A : Type 0} (f : Bytes → Bytes → A) (c : Codes) → f (bytes_meant c.before.digits_of-x.result) (bytes_meant c.digits_of-y.result) ≡ f (code_bytes (one_of c)) (code_bytes (other-of c))
-of-codes f c = ap₂ f c.before.digits_of-x.ensures c.digits_of-y.ensures
+of-codes : {A : Type 0} (f : Bytes → Bytes → A) (c : Codes) → f (bytes_meant c.digits_of-x.result) (bytes_meant c.digits_of-y.result) ≡ f (code_bytes (one_of c)) (code_bytes (other-of c))
+of-codes f c = ap₂ f c.digits_of-x.ensures c.digits_of-y.ensures
 
 -- past the end
 returns : tie.Need-returns-then-s-start
@@ -62,7 +62,7 @@ returns-2 c =
 returns-3 : tie.Need-returns
 returns-3 c =
     let s = codes-of c.before.before in
-    let e = before-ahead (one_of s) (other-of s) (left-of s) (told c.before.before ∙ c.before.if-begins_either.false) in
+    let e = before-ahead (one_of s) (other-of s) (left-of s) (told c.before.before ∙ c.if-begins_either.false) in
     let same = of-codes (λ (x y : Bytes). ahead_len x y (left-of s)) s in
     (omega (arith, c.line_after.ensures.0), omega (arith, c.line_after.ensures.1))
 

@@ -10,7 +10,7 @@ use Rattle.find_next.proofs.before_record.Tie as tie
 
 returns : tie.Need-returns
 returns c =
-    let first = c.before.args.first in
+    let first = c.args.first in
     let is = c.before_line.ensures in (
       ap (λ (d : Cursor). d.want) is,
       λ rec least. (

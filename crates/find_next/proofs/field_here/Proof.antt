@@ -37,7 +37,7 @@ walk_of c = (entry c).args.walk
 abbrev left : Part → Bytes
 left c = c.part-left.result.now
 
-abbrev left_is : (c : Part) → left c ≡ slice (walk_of c).at.0 (walk_of c).end-1.0 (rec-of c)
+abbrev left_is : (c : Part) → left c ≡ slice (walk_of c).at.0 (walk_of c).end.0 (rec-of c)
 left_is c = c.part-left.ensures
 
 abbrev wanted : Part → List Kind
@@ -56,19 +56,19 @@ abbrev cut-part : Cutting → Part
 cut-part c = c.before.before
 
 extent-is : (c : Cutting) → c.field_extent.result ≡ extent_of (is_text (next_kind (wanted (cut-part c)))) (left (cut-part c))
-extent-is c = c.field_extent.ensures ∙ ap (λ (t : Bool). extent_of t (left (cut-part c))) c.before.is_text-text.ensures
+extent-is c = c.field_extent.ensures ∙ ap (λ (t : Bool). extent_of t (left (cut-part c))) c.is_text-text.ensures
 
 abbrev Field : Type 0
 Field = tie.In-Field
 
 abbrev part_of : Field → Part
-part_of c = cut-part c.before.before.before
+part_of c = cut-part c.before
 
 abbrev size : Field → ℕ
-size c = c.before.n-1.given.0.0
+size c = c.in-Field.n
 
 size_is : (c : Field) → extent.Field (size c) ≡ extent_of (is_text (next_kind (wanted (part_of c)))) (left (part_of c))
-size_is c = sym c.before.n-1.given.1 ∙ extent-is c.before.before.before
+size_is c = sym c.in-Field.is ∙ extent-is c.before
 
 inside : (c : Field) → size c ≤ length (left (part_of c))
 inside c = let p = part_of c in in_left (rec-of p) 0 (walk_of p) (left p) (left_is p) (size c) (size_is c)
@@ -91,17 +91,17 @@ abbrev Good : Type 0
 Good = tie.In-Next
 
 abbrev good-field : Good → Field
-good-field c = field c.before.before.before
+good-field c = field c.before
 
 abbrev good-part : Good → Part
 good-part c = part_of (good-field c)
 
 abbrev then : Good → Want
-then c = c.before.after-1.given.0.0
+then c = c.in-Next.after
 
 took : (c : Good) → take_next (wanted (good-part c)) (take (size (good-field c)) (left (good-part c))) ≡ good (wanted_of (then c))
 unfolding judged_of
-took c = sym (judged-is c.before.before.before) ∙ ap judged_of c.before.after-1.given.1
+took c = sym (judged-is c.before) ∙ ap judged_of c.in-Next.is
 
 -- ---- it is no text
 
@@ -109,7 +109,7 @@ abbrev Plain : Type 0
 Plain = tie.Else-text
 
 no_text : (c : Plain) → is_text (next_kind (wanted (good-part c.before))) ≡ false
-no_text c = sym (good-field c.before).before.before.before.before.is_text-text.ensures ∙ c.if-text.false
+no_text c = sym (good-field c.before).is_text-text.ensures ∙ c.if-text.false
 
 shorter : (c : Plain) → size (good-field c.before) < length (left (good-part c.before))
 shorter c =
@@ -146,14 +146,14 @@ blanks-within c =
     let most : c.blanks_len.result ≤ length (after c) = rw (after_is c) at c.blanks_len.ensures.1 in
     omega (arith, most, length-drop n l, shorter (plain_of c))
 
-add-t20 : tie.Need-overflow-add-t20
-add-t20 c = omega (arith, within (cut-part c.before.before))
+add-t20 : tie.Need-overflow_add-a
+add-t20 c = omega (arith, within (cut-part c.before))
 
 returns : tie.Need-returns-in_default
 returns c =
-    let cut = c.before.before.before in
+    let cut = c.before.before in
     let p = cut-part cut in
-    λ least. open-takes (rec-of p) least (walk_of p) (left p) (left_is p) _ c.stop.ensures (sym c.before.enum_told-1.given.1 ∙ extent-is cut)
+    λ least. open-takes (rec-of p) least (walk_of p) (left p) (left_is p) _ c.stop.ensures (sym c.in_default.is ∙ extent-is cut)
 
 part-take-yielded-end : tie.Need-slice_bounds-take_yielded-end
 part-take-yielded-end c = inside c
@@ -162,10 +162,10 @@ part-take-yielded-end c = inside c
 returns-2 : tie.Need-returns-in-Refused
 unfolding judged_of
 returns-2 c =
-    let j = c.before.before.before.before in
+    let j = c.before.before in
     let g = field j in
     let p = part_of g in
-    λ least. wrong-takes (rec-of p) least (walk_of p) (left p) (left_is p) (size g) (size_is g) _ _ c.stop-in-Refused.ensures (sym (judged-is j) ∙ ap judged_of c.before.before.number-1.given.1)
+    λ least. wrong-takes (rec-of p) least (walk_of p) (left p) (left_is p) (size g) (size_is g) _ _ c.stop-in-Refused.ensures (sym (judged-is j) ∙ ap judged_of c.in-Refused.is)
 
 -- a text ends the line
 returns-3 : tie.Need-returns-then-text
@@ -174,7 +174,7 @@ returns-3 c =
     let g = good-field d in
     let p = good-part d in
     λ least. text-takes (rec-of p) least (walk_of p) (left p) (left_is p) (size g) (size_is g) (then d) (took d) _ c.before_line.ensures
-    (sym g.before.before.before.before.is_text-text.ensures ∙ c.before.if-text.true)
+    (sym g.is_text-text.ensures ∙ c.if-text.true)
 
 add-f : tie.Need-overflow_add-f
 add-f c = omega (arith, shorter c)
@@ -182,7 +182,7 @@ add-f c = omega (arith, shorter c)
 shared-slice-read-if2 : tie.Need-bounds-left-n
 shared-slice-read-if2 c = shorter c.before
 
-add-t31 : tie.Need-overflow-add-t31
+add-t31 : tie.Need-overflow_add-ahead
 add-t31 c = omega (arith, within (good-part c.before.before.before), shorter c.before.before)
 
 -- a comma
@@ -193,7 +193,7 @@ returns-4 c =
     let p = good-part d in
     λ least. comma-takes (rec-of p) least (walk_of p) (left p) (left_is p) (size g) (size_is g) (then d) (took d) (no_text c.before.before) c.if-left-n-ne47.true
 
-sub-blanks-len : tie.Need-overflow-sub-blanks-len
+sub-blanks-len : tie.Need-slice_bounds-blanks_len-count
 sub-blanks-len c = omega (arith, shorter c.before.before)
 
 part-blanks-len-start : tie.Need-slice_bounds-blanks_len-start
@@ -202,7 +202,7 @@ part-blanks-len-start c = omega (arith, shorter c.before.before)
 add-t : tie.Need-overflow_add-t
 add-t c = omega (arith, blanks-within c)
 
-add-t37 : tie.Need-overflow-add-t37
+add-t37 : tie.Need-overflow_add-a-then-t-left
 add-t37 c = omega (arith, within (good-part (plain_of c.before).before), blanks-within c.before, shorter (plain_of c.before))
 
 -- a slash and a stray byte
@@ -212,10 +212,10 @@ returns-5 c =
     let d = (plain_of b).before in
     let g = good-field d in
     let p = good-part d in
-    λ least. stray-takes (rec-of p) least (walk_of p) (left p) (left_is p) (size g) (size_is g) (then d) (took d) (no_text (plain_of b)) b.before.before.if-left-n-ne47.false
-    (blanks-end b) (blanks-are b) _ c.stop-then-t-left.ensures c.before.if-t-left.true
+    λ least. stray-takes (rec-of p) least (walk_of p) (left p) (left_is p) (size g) (size_is g) (then d) (took d) (no_text (plain_of b)) b.if-left-n-ne47.false
+    (blanks-end b) (blanks-are b) _ c.stop-then-t-left.ensures c.if-t-left.true
 
-add-t34 : tie.Need-overflow-add-t34
+add-t34 : tie.Need-overflow_add-a-2
 add-t34 c = omega (arith, within (good-part (plain_of c.before).before), shorter (plain_of c.before))
 
 -- a slash
@@ -225,8 +225,8 @@ returns-6 c =
     let d = (plain_of b).before in
     let g = good-field d in
     let p = good-part d in
-    λ least. slash-takes (rec-of p) least (walk_of p) (left p) (left_is p) (size g) (size_is g) (then d) (took d) (no_text (plain_of b)) b.before.before.if-left-n-ne47.false
-    (blanks-end b) (blanks-are b) _ c.before_line-2.ensures c.before.if-t-left.false (blanks-within b)
+    λ least. slash-takes (rec-of p) least (walk_of p) (left p) (left_is p) (size g) (size_is g) (then d) (took d) (no_text (plain_of b)) b.if-left-n-ne47.false
+    (blanks-end b) (blanks-are b) _ c.before_line-2.ensures c.if-t-left.false (blanks-within b)
 
 pub field_here_spec : {M : Type 1} → statement M
 field_here_spec =

@@ -30,7 +30,7 @@ abbrev walk_of : Asked → Cursor
 walk_of c = (entry c).args.walk
 
 past : (c : Asked) → (walk_of c).end.0 < (walk_of c).at.0
-past c = c.before.if-here-over.false
+past c = c.if-here-over.false
 
 own_is : (c : Asked) (b : Bool) → not c.is_own.result ≡ b → own_line (entry c).args.least (walk_of c).line.0 (drop (walk_of c).line.0 (rec-of c)) ≡ not b
 own_is c b e = sym c.is_own.ensures ∙ flip _ _ e
@@ -50,7 +50,7 @@ abbrev end_of : Line → ℕ
 end_of c = c.body_end-end.result.0
 
 own : (c : Line) → own_line (entry (asked c)).args.least (start_of c) (drop (start_of c) (rec-of (asked c))) ≡ true
-own c = own_is (asked c) false c.before.if-not-is_own.false
+own c = own_is (asked c) false c.if-not-is_own.false-raw
 
 end_is : (c : Line) → end_of c ≡ start_of c + body_len (drop (start_of c) (rec-of (asked c)))
 end_is c = c.body_end-end.ensures.0
@@ -67,10 +67,10 @@ abbrev line_of : Ended → Line
 line_of c = c.before.before.before.before.before.before
 
 abbrev next_of : Ended → ℕ
-next_of c = end_of (line_of c) + c.before.end_len.result
+next_of c = end_of (line_of c) + c.end_len.result
 
 next-sum : (c : Ended) → next_of c ≡ end_of (line_of c) + end_len (drop (end_of (line_of c)) (rec-of (asked (line_of c))))
-next-sum c = ap (λ (n : ℕ). end_of (line_of c) + n) c.before.end_len.ensures
+next-sum c = ap (λ (n : ℕ). end_of (line_of c) + n) c.end_len.ensures
 
 next-at : (c : Ended) → next_of c ≡ start_of (line_of c) + line_len (drop (start_of (line_of c)) (rec-of (asked (line_of c))))
 next-at c = next-is (rec-of (asked (line_of c))) (start_of (line_of c)) (end_of (line_of c)) (next_of c) (end_is (line_of c)) (next-sum c)
@@ -86,9 +86,9 @@ inside c =
 returns-2 : tie.Need-returns-then-not-is_own
 returns-2 c =
     let a = c.before.before in
-    end-enters (rec-of a) _ (walk_of a) (past a) _ (own_is a true c.before.if-not-is_own.true) c.at_end.ensures
+    end-enters (rec-of a) _ (walk_of a) (past a) _ (own_is a true c.if-not-is_own.true-raw) c.at_end.ensures
 
-add-t14 : tie.Need-overflow-add-t14
+add-t14 : tie.Need-overflow_add-at
 add-t14 c = omega (arith, some_byte c.before)
 
 returns-3 : tie.Need-returns-then-end-at
@@ -96,14 +96,14 @@ returns-3 c =
     let l = c.before.before.before.before in
     short-enters (rec-of (asked l)) _ (walk_of (asked l)) (past (asked l)) (own l) (end_of l) _ (end_is l) refl c.if-end-at.true
 
-add-t16 : tie.Need-overflow-add-t16
+add-t16 : tie.Need-overflow_add-line
 add-t16 c = omega (arith, inside c)
 
 returns-4 : tie.Need-returns
 returns-4 c =
     let l = line_of c in
     line-enters (rec-of (asked l)) _ (walk_of (asked l)) (past (asked l)) (own l) (end_of l) (next_of c) (end_is l) (next-at c)
-    c.before.before.if-end-at.false (omega arith) (inside c)
+    c.if-end-at.false (omega arith) (inside c)
 
 pub in_line_spec : {M : Type 1} → statement M
 in_line_spec =

@@ -19,16 +19,16 @@ enters : (c : Entered) (r : Ahead) → c.in_line.result ≡ r → Enters (entry 
 enters c r e = subst (Enters (entry c).args.rec.now (entry c).args.least (entry c).args.walk) e c.in_line.ensures
 
 returns : tie.Need-returns-in-Refused
-returns c = let e = c.before.before.before in stop-steps _ _ _ _ (enters e _ c.before.why-1.given.1)
+returns c = let e = c.before in stop-steps _ _ _ _ (enters e _ c.in-Refused.is)
 
 returns-2 : tie.Need-returns-in-Over
-returns-2 c = let e = c.before.before in over-steps _ _ _ (enters e _ c.enum_told-1.given.1)
+returns-2 c = let e = c.before in over-steps _ _ _ (enters e _ c.in-Over.is)
 
 returns-3 : tie.Need-returns-in-Line
 returns-3 c =
     let k = c.before in
-    let e = k.before.before.before in
-    line-steps _ _ _ _ _ (enters e _ k.before.here-1.given.1) (c.field_here.ensures (entry e).args.least)
+    let e = k.before in
+    line-steps _ _ _ _ _ (enters e _ k.in-Line.is) (c.field_here.ensures (entry e).args.least)
 
 pub next_field_spec : {M : Type 1} → statement M
 next_field_spec =

@@ -27,7 +27,7 @@ returns-2 c =
     let lent = ap (λ (m : ℕ). take m (drop a.place.0 a.rec.now)) n in
     let size = shown.handed_length-shown.ensures ∙ ap (λ (bs : Bytes). cond (eqb 21 a.kind && just slash bs) 0 (length bs)) lent in
     record {
-      put = λ h. (put.put_field.ensures ∙ ap (λ (l : ℕ). take a.at a.out-1.now ++ (a.kind ∷ (a.start.0 + a.place.0) ∷ l ∷ drop (a.at + 3) a.out-1.now)) size, refl);
+      put = λ h. (put.put_field.ensures ∙ ap (λ (l : ℕ). take a.at a.out.now ++ (a.kind ∷ (a.start.0 + a.place.0) ∷ l ∷ drop (a.at + 3) a.out.now)) size, refl);
       full = λ h. absurd (omega (arith, h, room.if-out-at-lt3.false, s.requires.1));
     }
 

@@ -37,13 +37,13 @@ abbrev entry : Asked → tie.Start invariant-loop decreases-loop
 entry c = (began c).before.before.before.before.before
 
 abbrev rec-of : Asked → Bytes
-rec-of c = (began c).before.before.part-rec.result.now
+rec-of c = (began c).part-rec.result.now
 
 abbrev start_of : Asked → ℕ
 start_of c = (entry c).args.start.0
 
 abbrev walk_of : Asked → Cursor
-walk_of c = c.before.loop-why.walk
+walk_of c = c.loop-why.walk
 
 abbrev all : Asked → Trace
 all c = trace_of (rec-of c) (entry c).args.least (began c).before_record-walk.result
@@ -52,7 +52,7 @@ all c = trace_of (rec-of c) (entry c).args.least (began c).before_record-walk.re
 rec-is : (c : Asked) → rec-of c ≡ drop (start_of c) (entry c).args.file.now
 rec-is c =
     let file = (entry c).args.file.now in
-    (began c).before.before.part-rec.ensures ∙ ap (λ (bs : Bytes). drop (start_of c) bs) (take_all (length file) file (omega arith))
+    (began c).part-rec.ensures ∙ ap (λ (bs : Bytes). drop (start_of c) bs) (take_all (length file) file (omega arith))
 
 short : (c : Asked) → length (rec-of c) ≤ length (entry c).args.file.now - start_of c
 short c = omega (arith, ap length (rec-is c), length-drop (start_of c) (entry c).args.file.now)
@@ -63,18 +63,18 @@ steps c = c.next_field.ensures
 all-is : (c : Asked) → all c ≡ trace_of_record (rec-of c) (entry c).args.least (code_meant (entry c).args.code)
 all-is c =
     ((began c).before_record-walk.ensures.1 (rec-of c) (entry c).args.least).0
-    ∙ ap (λ (ks : List Kind). trace_lines 0 ks 0 (own_lines (entry c).args.least 0 (lines_of (rec-of c)))) (began c).before.first_want.ensures
+    ∙ ap (λ (ks : List Kind). trace_lines 0 ks 0 (own_lines (entry c).args.least 0 (lines_of (rec-of c)))) (began c).first_want.ensures
 
 -- what holds there
-going : (c : Asked) → Going (rec-of c) (start_of c) (entry c).args.least (entry c).args.sought (all c) (entry c).args.out.now (walk_of c) c.before.loop-why.n c.before.loop-why.at c.before.loop-why.out
-going c = c.before.loop-why.invariant
+going : (c : Asked) → Going (rec-of c) (start_of c) (entry c).args.least (entry c).args.sought (all c) (entry c).args.out.now (walk_of c) c.loop-why.n c.loop-why.at c.loop-why.out
+going c = c.loop-why.invariant
 
 -- what is promised there, of the bytes as the contract names them
 promised : (c : Asked) (x : Reached)
-    → WalksTo (rec-of c) (start_of c) (entry c).args.least (code_meant (entry c).args.code) (entry c).args.sought (entry c).args.out.now c.before.loop-why.out x
-    → WalksTo (drop (start_of c) (entry c).args.file.now) (start_of c) (entry c).args.least (code_meant (entry c).args.code) (entry c).args.sought (entry c).args.out.now c.before.loop-why.out x
+    → WalksTo (rec-of c) (start_of c) (entry c).args.least (code_meant (entry c).args.code) (entry c).args.sought (entry c).args.out.now c.loop-why.out x
+    → WalksTo (drop (start_of c) (entry c).args.file.now) (start_of c) (entry c).args.least (code_meant (entry c).args.code) (entry c).args.sought (entry c).args.out.now c.loop-why.out x
 promised c x h =
-    subst (λ (bs : Bytes). WalksTo bs (start_of c) (entry c).args.least (code_meant (entry c).args.code) (entry c).args.sought (entry c).args.out.now c.before.loop-why.out x) (rec-is c) h
+    subst (λ (bs : Bytes). WalksTo bs (start_of c) (entry c).args.least (code_meant (entry c).args.code) (entry c).args.sought (entry c).args.out.now c.loop-why.out x) (rec-is c) h
 
 -- ---- at a field
 
@@ -82,7 +82,7 @@ abbrev Field : Type 0
 Field = tie.After-kind_number-kind invariant-loop decreases-loop
 
 abbrev asked : Field → Asked
-asked c = c.before.before.before.before
+asked c = c.before.before
 
 abbrev Put : Type 0
 Put = tie.After-put_next-at invariant-loop decreases-loop
@@ -92,32 +92,32 @@ field c = c.before.before.before
 
 loop-holds : tie.Need-loop-why-init invariant-loop decreases-loop
 loop-holds c =
-    let rec = c.before.before.part-rec.result.now in
-    let least = c.before.before.before.before.before.args.least in
+    let rec = c.part-rec.result.now in
+    let least = c.args.least in
     going_start rec _ least _ c.before_record-walk.result _ (c.before_record-walk.ensures.1 rec least).1
 
 refused-there-requires : tie.Need-refused_there-requires invariant-loop decreases-loop
 refused-there-requires c κs =
-    let a = c.before.before.before in
-    let near = stop-within (rec-of a) _ _ _ (all a) _ (walk_of a) _ _ _ (going a) _ (steps a) _ c.before.why-1.given.1 in
-    omega (arith, near.0, near.1, short a, (entry a).well-formed)
+    let a = c.before in
+    let near = stop-within (rec-of a) _ _ _ (all a) _ (walk_of a) _ _ _ (going a) _ (steps a) _ c.in-Refused.is in
+    omega (arith, near.0, near.1, short a, (entry a).well_formed)
 
 same_length : tie.Need-shape_of-out-in-Refused invariant-loop decreases-loop
-same_length c = (going c.before.before.before.before).long
+same_length c = (going c.before.before).long
 
 returns : tie.Need-returns-in-Refused invariant-loop decreases-loop
 returns c =
-    let a = c.before.before.before.before in
+    let a = c.before.before in
     promised a _
-    (stop-ends (rec-of a) _ _ _ (all a) _ (walk_of a) _ _ _ (going a) _ (steps a) (code_meant (entry a).args.code) (all-is a) _ _ c.before.before.why-1.given.1 c.refused_there.ensures)
+    (stop-ends (rec-of a) _ _ _ (all a) _ (walk_of a) _ _ _ (going a) _ (steps a) (code_meant (entry a).args.code) (all-is a) _ _ c.in-Refused.is c.refused_there.ensures)
 
 same-length-2 : tie.Need-shape_of-out-in-Over invariant-loop decreases-loop
-same-length-2 c = (going c.before.before).long
+same-length-2 c = (going c.before).long
 
 returns-2 : tie.Need-returns-in-Over invariant-loop decreases-loop
 returns-2 c =
-    let a = c.before.before in
-    promised a _ (over-ends (rec-of a) _ _ _ (all a) _ (walk_of a) _ _ _ (going a) _ (steps a) (code_meant (entry a).args.code) (all-is a) c.enum_told-1.given.1)
+    let a = c.before in
+    promised a _ (over-ends (rec-of a) _ _ _ (all a) _ (walk_of a) _ _ _ (going a) _ (steps a) (code_meant (entry a).args.code) (all-is a) c.in-Over.is)
 
 same-length-3 : tie.Need-shape_of-out-then-kind-sought invariant-loop decreases-loop
 same-length-3 c = (going (asked c.before)).long
@@ -127,13 +127,13 @@ returns-3 c =
     let f = c.before in
     let a = asked f in
     promised a _
-    (met-ends (rec-of a) _ _ _ (all a) _ (walk_of a) _ _ _ (going a) _ (steps a) (code_meant (entry a).args.code) (all-is a) _ _ _ f.before.before.place-1.given.1 _ f.kind_number-kind.ensures c.if-kind-sought.true)
+    (met-ends (rec-of a) _ _ _ (all a) _ (walk_of a) _ _ _ (going a) _ (steps a) (code_meant (entry a).args.code) (all-is a) _ _ _ f.in-Field.is _ f.kind_number-kind.ensures c.if-kind-sought.true)
 
 put-next-requires : tie.Need-put_next-at-requires invariant-loop decreases-loop
 put-next-requires c κs =
     let f = c.before.before in
     let a = asked f in
-    let o = onward (rec-of a) _ _ _ (all a) _ (walk_of a) _ _ _ (going a) _ (steps a) _ _ _ f.before.before.place-1.given.1 in
+    let o = onward (rec-of a) _ _ _ (all a) _ (walk_of a) _ _ _ (going a) _ (steps a) _ _ _ f.in-Field.is in
     (o.0, (going a).within, omega (arith, o.0, short a, (entry a).good))
 
 add-n : tie.Need-overflow_add-n invariant-loop decreases-loop
@@ -143,15 +143,15 @@ loop-less : tie.Need-loop-why-smaller invariant-loop decreases-loop
 loop-less c =
     let f = field c.before.before in
     let a = asked f in
-    (onward (rec-of a) _ _ _ (all a) _ (walk_of a) _ _ _ (going a) _ (steps a) _ _ _ f.before.before.place-1.given.1).2
+    (onward (rec-of a) _ _ _ (all a) _ (walk_of a) _ _ _ (going a) _ (steps a) _ _ _ f.in-Field.is).2
 
 loop-again : tie.Need-loop-why-preserved invariant-loop decreases-loop
 loop-again c =
     let p = c.before.before in
     let f = field p in
     let a = asked f in
-    going_next (rec-of a) _ _ _ (all a) _ (walk_of a) _ _ _ (going a) _ (steps a) (code_meant (entry a).args.code) (all-is a) _ _ _ f.before.before.place-1.given.1 _ f.kind_number-kind.ensures
-    _ _ p.before.before.if-kind-sought.false p.put_next-at.ensures
+    going_next (rec-of a) _ _ _ (all a) _ (walk_of a) _ _ _ (going a) _ (steps a) (code_meant (entry a).args.code) (all-is a) _ _ _ f.in-Field.is _ f.kind_number-kind.ensures
+    _ _ p.if-kind-sought.false p.put_next-at.ensures
 
 pub walk_to_spec : {M : Type 1} → statement M
 walk_to_spec =

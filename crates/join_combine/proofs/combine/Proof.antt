@@ -31,8 +31,8 @@ first-is c v e = subst (λ (x : Judged). JudgedIs x (a-of c)) e c.judge_file.ens
 
 returns : tie.Need-returns-in-Refused
 returns c =
-    let f = c.before.before.before.before in
-    c.refused.ensures (out_of f) ∙ first-refused (a-of f) (b-of f) (out_of f) _ (first-is f _ c.before.before.why-1.given.1)
+    let f = c.before.before in
+    c.refused.ensures (out_of f) ∙ first-refused (a-of f) (b-of f) (out_of f) _ (first-is f _ c.in-Refused.is)
 
 -- ---- A is accepted, and B is judged
 
@@ -40,38 +40,38 @@ abbrev Second : Type 0
 Second = tie.After-judge_file-in-Accepted
 
 abbrev first_of : Second → First
-first_of c = c.before.before.before.before
+first_of c = c.before.before
 
-first_good : (c : Second) → IsGood c.before.before.first-1.given.0.0 (a-of (first_of c))
-first_good c = first-is (first_of c) _ c.before.before.first-1.given.1
+first_good : (c : Second) → IsGood c.in-Accepted.first (a-of (first_of c))
+first_good c = first-is (first_of c) _ c.in-Accepted.is
 
 second_is : (c : Second) (v : Judged) → c.judge_file-in-Accepted.result ≡ v → JudgedIs v (b-of (first_of c))
 second_is c v e = subst (λ (x : Judged). JudgedIs x (b-of (first_of c))) e c.judge_file-in-Accepted.ensures
 
 returns-2 : tie.Need-returns-in-Refused-judge_file
 returns-2 c =
-    let s = c.before.before.before.before in
+    let s = c.before.before in
     let f = first_of s in
     c.refused-in-Refused-judge_file.ensures (out_of f)
-    ∙ second-refused (a-of f) (b-of f) (out_of f) _ (first_good s).accepts _ (second_is s _ c.before.before.why-in-Refused-judge_file-2-1.given.1)
+    ∙ second-refused (a-of f) (b-of f) (out_of f) _ (first_good s).accepts _ (second_is s _ c.in-Refused-judge_file.is)
 
 -- ---- both are accepted
 
 abbrev Both : Type 0
-Both = tie.In-Accepted-judge_file-2
+Both = tie.In-Accepted-judge_file
 
-second-good : (c : Both) → IsGood c.second-1.given.0.0 (b-of (first_of c.before.before))
-second-good c = second_is c.before.before _ c.second-1.given.1
+second-good : (c : Both) → IsGood c.in-Accepted-judge_file.second (b-of (first_of c.before))
+second-good c = second_is c.before _ c.in-Accepted-judge_file.is
 
 combine-accepted-requires : tie.Need-combine_accepted-requires
-combine-accepted-requires c κs = let both = c.before.before in (first_good both.before.before, second-good both)
+combine-accepted-requires c κs = let both = c.before in (first_good both.before, second-good both)
 
 returns-3 : tie.Need-returns-in-Accepted-judge_file
 returns-3 c =
-    let both = c.before.before.before.before.before in
-    let s = both.before.before in
+    let both = c.before.before.before.before in
+    let s = both.before in
     let f = first_of s in
-    c.before.before.combine_accepted.ensures
+    c.combine_accepted.ensures
     ∙ both-accepted (a-of f) (b-of f) (out_of f) _ (first_good s).accepts _ (second-good both).accepts
 
 pub combine_spec : {M : Type 1} → statement M

@@ -45,7 +45,7 @@ abbrev out_of : Joined → Bytes
 out_of c = (begun c).args.out.now
 
 abbrev sums : Joined → Sum
-sums c = sum_meant (first_of c).summary.total-1 ⊕ sum_meant (second-of c).summary.total-1
+sums c = sum_meant (first_of c).summary.total ⊕ sum_meant (second-of c).summary.total
 
 -- what a branch knows of the answer
 told : (c : Joined) (v : UnitsSum) → c.join.result ≡ v → v ≡ units_within (sums c)
@@ -53,10 +53,10 @@ told c v e = sym e ∙ c.join.ensures
 
 returns-2 : tie.Need-returns-in-Beyond
 returns-2 c =
-    let s = c.before.before.before in
+    let s = c.before.before in
     c.refused_by.ensures (out_of s)
     ∙ too_large (a-of s) (b-of s) (out_of s) (summary_meant (first_of s).summary) (summary_meant (second-of s).summary)
-    (beyond-most (sums s) (told s _ c.before.enum_told-1.given.1))
+    (beyond-most (sums s) (told s _ c.in-Beyond.is))
 
 -- ---- B's header ends
 
@@ -64,7 +64,7 @@ abbrev At : Type 0
 At = tie.After-record_end-header
 
 abbrev sum_of : At → Joined
-sum_of c = c.before.before.before.before
+sum_of c = c.before.before
 
 abbrev header_of : At → ℕ
 header_of c = c.record_end-header.result.0
@@ -73,26 +73,26 @@ header_is : (c : At) → header_of c ≡ record_size (first_record (lines_of (b-
 header_is c = c.record_end-header.ensures.0 ∙ zero-add _
 
 -- the sum is within the largest
-within-sum : (c : At) → Within c.before.before.total-1.given.0.0 ≡ units_within (sums (sum_of c))
-within-sum c = told (sum_of c) _ c.before.before.total-1.given.1
+within-sum : (c : At) → Within c.in-Within.total ≡ units_within (sums (sum_of c))
+within-sum c = told (sum_of c) _ c.in-Within.is
 
 header-fits : (c : At) → header_of c ≤ (second-of (sum_of c)).last.0
-header-fits c = let s = sum_of c in header-first (b-of s) (second-of s) (begun s).pre.1 (header_of c) (header_is c)
+header-fits c = let s = sum_of c in header-first (b-of s) (second-of s) (begun s).requires.1 (header_of c) (header_is c)
 
-sub_within : tie.Need-overflow-sub-within
+sub_within : tie.Need-slice_bounds-within-count
 sub_within c = omega (arith, header-fits c)
 
 part-within-start : tie.Need-slice_bounds-within-start
 part-within-start c = omega (arith, header-fits c)
 
 part-within-end : tie.Need-slice_bounds-within-end
-part-within-end c = let s = sum_of c in omega (arith, last-inside (b-of s) (second-of s) (begun s).pre.1)
+part-within-end c = let s = sum_of c in omega (arith, last-inside (b-of s) (second-of s) (begun s).requires.1)
 
 within-requires : tie.Need-within-requires
 within-requires c κs =
     let m = c.before in
     let s = sum_of m in
-    groups-within (b-of s) (second-of s) (begun s).pre.1 (header_of m) (header_is m)
+    groups-within (b-of s) (second-of s) (begun s).requires.1 (header_of m) (header_is m)
 
 -- ---- B's lines are tested
 
@@ -107,8 +107,8 @@ tested c =
     let m = at_of c in
     let s = sum_of m in
     c.within.ensures
-    ∙ same_lines (b-of s) (second-of s) (begun s).pre.1 (header_of m) (header_is m) (first_of s).limit
-    ∙ ap (λ (l : ℕ). lines_within l (concat (concat (groups_in (b-of s))))) (begun s).pre.0.limit
+    ∙ same_lines (b-of s) (second-of s) (begun s).requires.1 (header_of m) (header_is m) (first_of s).limit
+    ∙ ap (λ (l : ℕ). lines_within l (concat (concat (groups_in (b-of s))))) (begun s).requires.0.limit
 
 returns : tie.Need-returns-then-not-within
 returns c =
@@ -116,21 +116,21 @@ returns c =
     let s = sum_of (at_of w) in
     c.refused_by-then-not-within.ensures (out_of s)
     ∙ too_wide (a-of s) (b-of s) (out_of s) (summary_meant (first_of s).summary) (summary_meant (second-of s).summary)
-    (within-most (sums s) _ (within-sum (at_of w))) (sym (tested w) ∙ not-true _ c.before.if-not-within.true)
+    (within-most (sums s) _ (within-sum (at_of w))) (sym (tested w) ∙ not-true _ c.if-not-within.true-raw)
 
 combine-fitting-requires : tie.Need-combine_fitting-requires
 combine-fitting-requires c κs =
     let m = at_of c.before.before in
     let s = sum_of m in
-    ((begun s).pre.0, (begun s).pre.1, header_is m, within-is (sums s) _ (within-sum m))
+    ((begun s).requires.0, (begun s).requires.1, header_is m, within-is (sums s) _ (within-sum m))
 
 returns-3 : tie.Need-returns-else-not-within
 returns-3 c =
     let w = c.before.before.before.before.before in
     let s = sum_of (at_of w) in
-    c.before.before.combine_fitting.ensures
+    c.combine_fitting.ensures
     ∙ to-fit (a-of s) (b-of s) (out_of s) (summary_meant (first_of s).summary) (summary_meant (second-of s).summary)
-    (within-most (sums s) _ (within-sum (at_of w))) (sym (tested w) ∙ not-false _ c.before.before.before.before.if-not-within.false)
+    (within-most (sums s) _ (within-sum (at_of w))) (sym (tested w) ∙ not-false _ c.if-not-within.false-raw)
 
 pub combine_accepted_spec : {M : Type 1} → statement M
 combine_accepted_spec =

@@ -4,13 +4,13 @@ use native.Mathlib.Omega.{arith}
 use mathlib.Core.Path.{◌≡◌, sym, ap, subst, ◌∙◌}
 use mathlib.Core.List.{◌++◌}
 use lib.ListN.{length, take, drop}
-use Rattle.rules.specs.bytes-1.{Bytes}
+use Rattle.rules.specs.Bytes.{Bytes}
 use Rattle.rules.specs.Lines.{lines_of}
 use Rattle.rules.specs.Limits.{longest_file}
 use Rattle.base_quantities.specs.QuantityMeanings.{sum_meant}
 use Rattle.base_numerals.specs.PutBytes.{Put}
 use Rattle.base_numerals.proofs.PutLaws.{rest-is}
-use Rattle.join_trailer.specs.fresh_trailer-last.{last_line, trailer_of}
+use Rattle.join_trailer.specs.FreshTrailer.{last_line, trailer_of}
 use Rattle.join_combine.specs.CombineAnswers.{combined_result, combined_fitting}
 use Rattle.join_trailer.proofs.TrailerLengths.{in-front}
 use Rattle.join_trailer.proofs.FitsLaws.{too_long, no_room, written, part-most, front-size}
@@ -69,7 +69,7 @@ abbrev begun : Measured → At
 begun c = (counted_of c).before.before.before.before.before.before.before.before.before
 
 abbrev records-of : Measured → ℕ
-records-of c = c.before.add.result.0
+records-of c = c.add.result.0
 
 abbrev last_of : Measured → Bytes
 last_of c = let s = (begun c).args in last_line (sum_meant s.total) (s.first.summary.groups.0 + s.second.summary.groups.0) (records-of c)
@@ -78,7 +78,7 @@ abbrev size_of : Measured → ℕ
 size_of c = c.fresh_trailer-last.result.length
 
 fresh : (c : Measured) → c.fresh_trailer-last.result ≡ trailer_of (last_of c)
-fresh c = c.fresh_trailer-last.ensures.0 ∙ ap (λ (n : ℕ). trailer_of (last_line (sum_meant (begun c).args.total) n (records-of c))) c.before.before.both.ensures
+fresh c = c.fresh_trailer-last.ensures.0 ∙ ap (λ (n : ℕ). trailer_of (last_line (sum_meant (begun c).args.total) n (records-of c))) c.both.ensures
 
 -- the result, part by part, and its length
 result : (c : Measured) → let s = begun c in take (x-of s) (a-of s) ++ (take (y_of s - h-of s) (drop (h-of s) (b-of s)) ++ last_of c) ≡ combined_result (a-of s) (b-of s)
@@ -89,15 +89,15 @@ result c =
     let la = ap (λ (xs : Bytes). length (lines_of xs)) (rest-is (x-of s) (a-of s)) in
     let lh = ap (λ (k : ℕ). length (lines_of (take k (b-of s)))) e in
     let lb = ap (λ (xs : Bytes). length (lines_of xs)) (rest-is (y_of s) (b-of s)) in
-    result-is (a-of s) (b-of s) s.args.first s.args.second s.pre.0 s.pre.1 (h-of s) s.pre.2 (sum_meant s.args.total) (records-of c) s.pre.3
-    (omega (arith, c.before.add.ensures, n.ensures, la, lh, lb, s.pre.0.records, s.pre.1.records))
+    result-is (a-of s) (b-of s) s.args.first s.args.second s.requires.0 s.requires.1 (h-of s) s.requires.2 (sum_meant s.args.total) (records-of c) s.requires.3
+    (omega (arith, c.add.ensures, n.ensures, la, lh, lb, s.requires.0.records, s.requires.1.records))
 
 size : (c : Measured) → let s = begun c in (x-of s + (y_of s - h-of s)) + size_of c ≡ length (combined_result (a-of s) (b-of s))
 size c =
     let s = begun c in
     let last = c.fresh_trailer-last.ensures in
     let long : length (last_of c) ≡ size_of c = front-size (last_of c) _ (size_of c) (in-front (last_of c) _ (fresh c)) (omega (arith, last.1, last.2)) in
-    omega (arith, ap length (result c), result-size (a-of s) (b-of s) s.args.first s.args.second s.pre.0 s.pre.1 (h-of s) s.pre.2 (last_of c), long)
+    omega (arith, ap length (result c), result-size (a-of s) (b-of s) s.args.first s.args.second s.requires.0 s.requires.1 (h-of s) s.requires.2 (last_of c), long)
 
 -- the same, as the slices are lent
 lent : (c : Measured) → let s = begun c in
@@ -120,7 +120,7 @@ Counting = tie.After-t-1
 abbrev counting : Counting → At
 counting c = c.before.before.before.before.before
 
-sub-records-left : tie.Need-overflow-sub-records-left
+sub-records-left : tie.Need-slice_bounds-records_left-count
 sub-records-left c = omega (arith, (inside (counting c)).a-last)
 
 part-records-left-start : tie.Need-slice_bounds-records_left-start
@@ -129,7 +129,7 @@ part-records-left-start c = omega (arith, (inside (counting c)).a-last)
 part-records-left-end-2 : tie.Need-slice_bounds-records_left-end-2
 part-records-left-end-2 c = let i = inside (counting c.before) in omega (arith, i.header, i.b-last)
 
-sub-records-left-3 : tie.Need-overflow-sub-records-left-3
+sub-records-left-3 : tie.Need-slice_bounds-records_left-count-3
 sub-records-left-3 c = omega (arith, (inside (counting c.before.before)).b-last)
 
 part-records-left-start-3 : tie.Need-slice_bounds-records_left-start-3
@@ -139,15 +139,15 @@ records-left-requires : tie.Need-records_left-records-requires
 records-left-requires c κs =
     let s = counting c.before.before.before in
     let i = inside s in (
-      s.pre.0.records,
-      s.pre.1.records,
+      s.requires.0.records,
+      s.requires.1.records,
       part-most longest_file (length (a-of s) - x-of s) (x-of s) (a-of s) i.a-short,
       part-most longest_file (h-of s - 0) 0 (b-of s) i.b-short,
       part-most longest_file (length (b-of s) - y_of s) (y_of s) (b-of s) i.b-short,
     )
 
 both-requires : tie.Need-both-requires
-both-requires c κs = let s = counting c.before.before.before.before in (s.pre.0.groups, s.pre.1.groups)
+both-requires c κs = let s = counting c.before.before.before.before in (s.requires.0.groups, s.requires.1.groups)
 
 -- ---- 18, 15
 
@@ -186,15 +186,15 @@ abbrev fit_of : Fits → At
 fit_of c = begun (measured-of c)
 
 short-enough : (c : Fits) → let s = fit_of c in length (combined_result (a-of s) (b-of s)) ≤ longest_file
-short-enough c = omega (arith, size (measured-of c), c.before.before.if-length-gt-LONGEST_FILE.false)
+short-enough c = omega (arith, size (measured-of c), c.if-length-gt-LONGEST_FILE.false)
 
 room : (c : Fits) → let s = fit_of c in length (combined_result (a-of s) (b-of s)) ≤ length (out_of s)
-room c = omega (arith, size (measured-of c), c.before.if-out-length.false)
+room c = omega (arith, size (measured-of c), c.if-out-length.false)
 
 part-put-three-end : tie.Need-slice_bounds-put_three-end
 part-put-three-end c = omega (arith, (inside (fit_of c)).a-last)
 
-sub-put-three-2 : tie.Need-overflow-sub-put-three-2
+sub-put-three-2 : tie.Need-slice_bounds-put_three-count-2
 sub-put-three-2 c = omega (arith, (inside (fit_of c.before)).header)
 
 part-put-three-start-2 : tie.Need-slice_bounds-put_three-start-2
@@ -211,7 +211,7 @@ put-three-requires c κs =
 returns-3 : tie.Need-returns
 unfolding combined_fitting
 returns-3 c =
-    let put = c.before.before.put_three in
+    let put = c.put_three in
     let f = c.before.before.before.before.before.before.before.before in
     let s = fit_of f in
     written (combined_result (a-of s) (b-of s)) (out_of s) 0 (short-enough f) (room f) put.result put.new.1.1.1.0

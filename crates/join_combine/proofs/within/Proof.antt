@@ -11,20 +11,20 @@ use Rattle.join_combine.proofs.within.Tie as tie
 
 returns : tie.Need-returns-then-known-limit
 returns c =
-    let a = c.before.before.args in
-    sym (is_true _ (within_more a.known a.limit c.if-known-limit.true (lines_of a.s.now) c.before.before.requires))
+    let a = c.args in
+    sym (is_true _ (within_more a.known a.limit c.if-known-limit.true (lines_of a.s.now) c.requires))
 
 returns-2 : tie.Need-returns-in-Fine
 returns-2 c =
-    let n = c.before.before in
-    let a = n.before.before.before.args in
-    none_within a.limit 0 (lines_of a.s.now) (sym n.none_longer.ensures.0 ∙ ap (λ (v : Checked). checked_of v) c.enum_told-1.given.1)
+    let n = c.before in
+    let a = n.args in
+    none_within a.limit 0 (lines_of a.s.now) (sym n.none_longer.ensures.0 ∙ ap (λ (v : Checked). checked_of v) c.in-Fine.is)
 
 returns-3 : tie.Need-returns-in-Refused
 returns-3 c =
-    let n = c.before.before in
-    let a = n.before.before.before.args in
-    none_over a.limit 0 (lines_of a.s.now) _ (sym n.none_longer.ensures.0 ∙ ap (λ (v : Checked). checked_of v) c.enum_told-in-Refused-1.given.1)
+    let n = c.before in
+    let a = n.args in
+    none_over a.limit 0 (lines_of a.s.now) _ (sym n.none_longer.ensures.0 ∙ ap (λ (v : Checked). checked_of v) c.in-Refused.is)
 
 pub within_spec : {M : Type 1} → statement M
 within_spec =

@@ -12,10 +12,10 @@ use Rattle.join_groups.proofs.read_trailer.Tie as tie
 
 returns : tie.Need-returns
 returns c =
-    let r = lines_of c.before.before.before.before.before.before.args.rec.now in
+    let r = lines_of c.args.rec.now in
     let total = c.before.before.before in (
-      c.adds.ensures ∙ ap amount_adds (total.amount_in-total.ensures ∙ ap amount_read total.before.field.ensures ∙ total-found (fields_of group_trailer) r),
-      c.before.value-records.ensures.0 ∙ ap value_of c.before.before.field-2.ensures ∙ records-found (fields_of group_trailer) r,
+      c.adds.ensures ∙ ap amount_adds (total.amount_in-total.ensures ∙ ap amount_read total.field.ensures ∙ total-found (fields_of group_trailer) r),
+      c.value-records.ensures.0 ∙ ap value_of c.field-2.ensures ∙ records-found (fields_of group_trailer) r,
     )
 
 pub read_trailer_spec : {M : Type 1} → statement M

@@ -47,7 +47,7 @@ abbrev at_of : Turn → ℕ
 at_of c = (head c).loop-last.at
 
 abbrev last_of : Turn → ℕ
-last_of c = c.before.next_line_of-last.result.0
+last_of c = c.next_line_of-last.result.0
 
 abbrev end_of : Turn → ℕ
 end_of c = c.record_end-e.result.0
@@ -57,10 +57,10 @@ abbrev here_of : Turn → Bytes
 here_of c = drop (at_of c) (file-of c)
 
 begun : (c : Turn) → same_bytes (code_bytes group_header) (take 3 (here_of c)) ≡ true
-begun c = sym c.before.before.before.begins.ensures ∙ c.before.before.loop-last-test.true
+begun c = sym c.begins.ensures ∙ c.loop-last-test.true
 
 places : (c : Turn) → (at_of c + 3 ≤ last_of c) × (last_of c ≤ end_of c) × (end_of c ≤ length (file-of c)) × (length (take (end_of c - at_of c) (here_of c)) ≡ end_of c - at_of c)
-places c = spans (file-of c) (at_of c) (last_of c) (end_of c) (begun c) c.before.next_line_of-last.ensures c.record_end-e.ensures
+places c = spans (file-of c) (at_of c) (last_of c) (end_of c) (begun c) c.next_line_of-last.ensures c.record_end-e.ensures
 
 -- ---- once it is known whether the group is for the name
 
@@ -73,8 +73,8 @@ turn-of c = c.before.before.before
 passes : (c : Asked) → let t = turn-of c in TurnIs (name_of t) (file-of t) (at_of t) (last_of t) (end_of t) c.is_for.result
 passes c =
     let t = turn-of c in
-    let header = c.before.before.record_end-header in
-    turn_is (file-of t) (at_of t) (last_of t) (end_of t) (begun t) t.before.next_line_of-last.ensures.0 t.record_end-e.ensures.0 (name_of t) header.result.0 c.is_for.result
+    let header = c.record_end-header in
+    turn_is (file-of t) (at_of t) (last_of t) (end_of t) (begun t) t.next_line_of-last.ensures.0 t.record_end-e.ensures.0 (name_of t) header.result.0 c.is_for.result
     header.ensures.0 c.is_for.ensures
 
 -- what was taken so far, and these groups ahead
@@ -82,7 +82,7 @@ abbrev So-far : Asked → List (List Record) → Type 0
 So-far c gs =
     let t = turn-of c in
     let l = (head t).loop-last in
-    Taking (groups_taken (name_of t) (drop (entry t).args.from.0 (file-of t))) gs (entry t).args.out.now l.groups l.bytes (sum_meant l.total) l.records.0 l.o l.out-1
+    Taking (groups_taken (name_of t) (drop (entry t).args.from.0 (file-of t))) gs (entry t).args.out.now l.groups l.bytes (sum_meant l.total) l.records.0 l.o l.out
 
 -- ---- at the end of a turn that took the group
 
@@ -100,16 +100,16 @@ read_of c = c.before.before
 
 loop-holds : tie.Need-loop-last-init invariant-loop decreases-loop
 loop-holds c =
-    let a = c.before.before.before.args in
-    (omega arith, refl, omega arith, omega arith, omega arith, take-start (groups_taken a.name.now (drop a.from.0 a.file.now)) a.out-1.now)
+    let a = c.args in
+    (omega arith, refl, omega arith, omega arith, omega arith, take-start (groups_taken a.name.now (drop a.from.0 a.file.now)) a.out.now)
 
 part-is-for-end : tie.Need-slice_bounds-is_for-end invariant-loop decreases-loop
 part-is-for-end c = omega (arith, places c.before, c.record_end-header.ensures.1)
 
-part-put-end-2 : tie.Need-slice-bounds-put-end-2 invariant-loop decreases-loop
+part-put-end-2 : tie.Need-slice_bounds-put-end-then-is_for invariant-loop decreases-loop
 part-put-end-2 c = (places (turn-of c.before.before)).2
 
-sub-read-trailer : tie.Need-overflow-sub-read-trailer invariant-loop decreases-loop
+sub-read-trailer : tie.Need-slice_bounds-read_trailer-count invariant-loop decreases-loop
 sub-read-trailer c = omega (arith, places (turn-of c.before.before.before.before.before.before))
 
 part-read-trailer-start : tie.Need-slice_bounds-read_trailer-start invariant-loop decreases-loop
@@ -119,10 +119,10 @@ part-read-trailer-end : tie.Need-slice_bounds-read_trailer-end invariant-loop de
 part-read-trailer-end c = omega (arith, places (turn-of c.before.before.before.before.before.before))
 
 add-groups : tie.Need-overflow_add-groups invariant-loop decreases-loop
-add-groups c = let t = turn-of (asked_of c) in omega (arith, places t, (head t).loop-last.inv.2)
+add-groups c = let t = turn-of (asked_of c) in omega (arith, places t, (head t).loop-last.invariant.2)
 
 add-bytes : tie.Need-overflow_add-bytes invariant-loop decreases-loop
-add-bytes c = let t = turn-of (asked_of c) in omega (arith, places t, (head t).loop-last.inv.3)
+add-bytes c = let t = turn-of (asked_of c) in omega (arith, places t, (head t).loop-last.invariant.3)
 
 loop-less : tie.Need-loop-last-smaller-then-is_for invariant-loop decreases-loop
 loop-less c = omega (arith, places (turn-of (asked_of c)))
@@ -139,13 +139,13 @@ loop-again c =
     let l = (head t).loop-last in
     let h = places t in
     let turn = passes asked in
-    let is-taken = c.before.before.before.before.before.before.before.before.before.if-is_for.true in
+    let is-taken = c.if-is_for.true in
     let read = (read_of c).read_trailer-trailer.ensures in
-    let kept = c.before.before.before.before.before.out-1.given.1 in
+    let kept = c.out-1.given.1 in
     let ahead = subst (So-far asked) (turn.next-taken is-taken) l.invariant.5 in
-    let sum = c.before.add-total.ensures ∙ ap (λ (a : Sum). wrapped_sum (sum_meant l.total ⊕ a)) (read.0 ∙ ap (λ (r : Record). stated_total r) turn.trailer) in
+    let sum = c.add-total.ensures ∙ ap (λ (a : Sum). wrapped_sum (sum_meant l.total ⊕ a)) (read.0 ∙ ap (λ (r : Record). stated_total r) turn.trailer) in
     let lines = c.add-records.ensures ∙ ap (λ (n : ℕ). min (l.records.0 + n) most_records) (read.1 ∙ ap (λ (r : Record). stated_records r) turn.trailer) in (
-      omega (arith, within-rest l.o _ l.out-1 _ _ l.invariant.0 (put_of c).put-o.ensures, kept),
+      omega (arith, within-rest l.o _ l.out _ _ l.invariant.0 (put_of c).put-o.ensures, kept),
       kept ∙ l.invariant.1,
       omega (arith, l.invariant.2),
       omega (arith, l.invariant.3),
@@ -174,12 +174,12 @@ loop-again-2 c =
 
 returns : tie.Need-returns invariant-loop decreases-loop
 returns c =
-    let l = c.before.before.loop-last in
-    let a = c.before.before.before.before.before.before.args in
+    let l = c.loop-last in
+    let a = c.args in
     let all = groups_taken a.name.now (drop a.from.0 a.file.now) in
-    let over = no_more a.name.now (drop l.at a.file.now) (sym c.before.begins.ensures ∙ c.loop-last-test.false) in
-    let took = subst (λ (gs : List (List Record)). Taking all gs a.out-1.now l.groups l.bytes (sum_meant l.total) l.records.0 l.o l.out-1) over l.invariant.5 in
-    (take-end all a.out-1.now l.groups l.bytes l.total l.records l.o l.out-1 took, take_put all a.out-1.now l.groups l.bytes l.total l.records l.o l.out-1 took)
+    let over = no_more a.name.now (drop l.at a.file.now) (sym c.begins.ensures ∙ c.loop-last-test.false) in
+    let took = subst (λ (gs : List (List Record)). Taking all gs a.out.now l.groups l.bytes (sum_meant l.total) l.records.0 l.o l.out) over l.invariant.5 in
+    (take-end all a.out.now l.groups l.bytes l.total l.records l.o l.out took, take_put all a.out.now l.groups l.bytes l.total l.records l.o l.out took)
 
 pub take_groups_spec : {M : Type 1} → statement M
 take_groups_spec =

@@ -6,7 +6,7 @@ use Rattle.join_receivers.proofs.is_for.Statement.{statement}
 use Rattle.join_receivers.proofs.is_for.Tie as tie
 
 returns : tie.Need-returns
-returns c = c.same_bytes.ensures ∙ ap (same_bytes c.before.before.before.before.args.name.now) c.before.field.ensures
+returns c = c.same_bytes.ensures ∙ ap (same_bytes c.args.name.now) c.field.ensures
 
 pub is_for_spec : {M : Type 1} → statement M
 is_for_spec = tie.close (tie.spec (λ c κs. search rules) (λ c κs. search rules) returns)

@@ -7,12 +7,12 @@ use Rattle.join_split.proofs.is_asked.Statement.{statement}
 use Rattle.join_split.proofs.is_asked.Tie as tie
 
 returns : tie.Need-returns-then-not-is_name
-returns c = not-name c.before.before.before.args.name.now (sym c.before.is_name.ensures ∙ not-true _ c.if-not-is_name.true)
+returns c = not-name c.args.name.now (sym c.is_name.ensures ∙ not-true _ c.if-not-is_name.true-raw)
 
 returns-2 : tie.Need-returns
 returns-2 c =
-    let name = c.before.before.before.before.args.name.now in
-    c.is_clean.ensures ∙ sym (name-clean name (sym c.before.before.is_name.ensures ∙ not-false _ c.before.if-not-is_name.false))
+    let name = c.args.name.now in
+    c.is_clean.ensures ∙ sym (name-clean name (sym c.is_name.ensures ∙ not-false _ c.if-not-is_name.false-raw))
 
 pub is_asked_spec : {M : Type 1} → statement M
 is_asked_spec = tie.close (tie.spec (λ c κs. search rules) returns (λ c κs. search rules) returns-2)

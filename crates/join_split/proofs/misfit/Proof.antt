@@ -18,22 +18,22 @@ returns c =
     let a = s.args in
     let p = s.requires in
     let most = result-most a.name.now a.file.now a.header (opened a.file.now p.0.0 a.header p.0.1 p.1) in
-    misfit-none (split_result a.name.now a.file.now) a.room (omega (arith, most, leb-true (length a.file.now + 64) 16777216 c.if-most-le-LONGEST_FILE.true)) (omega (arith, most, c.before.if-most-room.true))
+    misfit-none (split_result a.name.now a.file.now) a.room (omega (arith, most, leb-true (length a.file.now + 64) 16777216 c.if-most-le-LONGEST_FILE.true-raw)) (omega (arith, most, c.if-most-room.true))
 
 returns-2 : tie.Need-returns-then-length-gt-LONGEST_FILE
 returns-2 c =
-    let a = c.before.before.before.before.before.args in
-    misfit-long (split_result a.name.now a.file.now) a.room (omega (arith, c.before.split_length-length.ensures))
+    let a = c.args in
+    misfit-long (split_result a.name.now a.file.now) a.room (omega (arith, c.split_length-length.ensures))
 
 returns-3 : tie.Need-returns-then-room-length
 returns-3 c =
-    let a = c.before.before.before.before.before.before.args in
-    misfit-room (split_result a.name.now a.file.now) a.room (omega (arith, c.before.before.split_length-length.ensures)) (omega (arith, c.before.before.split_length-length.ensures))
+    let a = c.args in
+    misfit-room (split_result a.name.now a.file.now) a.room (omega (arith, c.split_length-length.ensures)) (omega (arith, c.split_length-length.ensures))
 
 returns-4 : tie.Need-returns
 returns-4 c =
-    let a = c.before.before.before.before.before.before.args in
-    misfit-none (split_result a.name.now a.file.now) a.room (omega (arith, c.before.before.split_length-length.ensures)) (omega (arith, c.before.before.split_length-length.ensures))
+    let a = c.args in
+    misfit-none (split_result a.name.now a.file.now) a.room (omega (arith, c.split_length-length.ensures)) (omega (arith, c.split_length-length.ensures))
 
 pub misfit_spec : {M : Type 1} → statement M
 misfit_spec =

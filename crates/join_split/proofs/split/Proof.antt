@@ -33,7 +33,7 @@ out_of c = (begun c).args.out.now
 returns : tie.Need-returns-then-not-is_asked
 returns c =
     let s = c.before.before in
-    c.refused.ensures (out_of s) ∙ split-16 (name_of s) (file-of s) (out_of s) (sym s.is_asked.ensures ∙ not-true _ c.before.if-not-is_asked.true)
+    c.refused.ensures (out_of s) ∙ split-16 (name_of s) (file-of s) (out_of s) (sym s.is_asked.ensures ∙ not-true _ c.if-not-is_asked.true-raw)
 
 -- ---- it may be asked for, and the file is read
 
@@ -44,7 +44,7 @@ abbrev asked_of : Read → Asked
 asked_of c = c.before.before
 
 name_is : (c : Read) → is_name (name_of (asked_of c)) ≡ true
-name_is c = sym (asked_of c).is_asked.ensures ∙ not-false _ c.before.if-not-is_asked.false
+name_is c = sym (asked_of c).is_asked.ensures ∙ not-false _ c.if-not-is_asked.false-raw
 
 -- what a branch knows of the verdict
 told : (c : Read) (v : Verdict) → c.read.result ≡ v → judge (file-of (asked_of c)) ≡ verdict_meant v
@@ -52,21 +52,21 @@ told c v e = sym c.read.ensures ∙ ap (λ (x : Verdict). verdict_meant x) e
 
 split-accepted-requires : tie.Need-split_accepted-requires
 split-accepted-requires c κs =
-    let told_of = c.before.enum_told-1 in
-    (summary_meant told_of.given.0.0, told c.before.before.before _ told_of.given.1)
+    let told_of = c.enum_told-1 in
+    (summary_meant told_of.given.0.0, told c.before.before _ told_of.given.1)
 
 returns-2 : tie.Need-returns-in-Refused
 returns-2 c =
-    let r = c.before.before.before.before in
+    let r = c.before.before in
     let s = asked_of r in
-    c.refused-in-Refused.ensures (out_of s) ∙ split-refused (name_of s) (file-of s) (out_of s) (name_is r) _ (told r _ c.before.before.why-1.given.1)
+    c.refused-in-Refused.ensures (out_of s) ∙ split-refused (name_of s) (file-of s) (out_of s) (name_is r) _ (told r _ c.in-Refused.is)
 
 returns-3 : tie.Need-returns-in-Accepted
 returns-3 c =
-    let r = c.before.before.before.before.before.before in
+    let r = c.before.before.before.before.before in
     let s = asked_of r in
-    c.before.before.split_accepted.ensures
-    ∙ split-accepted (name_of s) (file-of s) (out_of s) (name_is r) _ (told r _ c.before.before.before.before.enum_told-1.given.1)
+    c.split_accepted.ensures
+    ∙ split-accepted (name_of s) (file-of s) (out_of s) (name_is r) _ (told r _ c.in-Accepted.is)
 
 pub split_spec : {M : Type 1} → statement M
 split_spec =

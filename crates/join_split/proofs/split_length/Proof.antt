@@ -17,25 +17,25 @@ abbrev Took : Type 0
 Took = tie.After-struct_known-1
 
 abbrev name_of : Took → Bytes
-name_of c = c.before.before.before.before.before.before.before.args.name.now
+name_of c = c.args.name.now
 
 abbrev file-of : Took → Bytes
-file-of c = c.before.before.before.before.before.before.before.args.file.now
+file-of c = c.args.file.now
 
 abbrev header_of : Took → ℕ
-header_of c = c.before.before.before.before.before.before.before.args.header
+header_of c = c.args.header
 
 known : (c : Took) → Opened (file-of c) (header_of c)
-known c = let p = c.before.before.before.before.before.before.before.requires in opened (file-of c) p.0.0 (header_of c) p.0.1 p.1
+known c = let p = c.requires in opened (file-of c) p.0.0 (header_of c) p.0.1 p.1
 
-sizes : (c : Took) → let r = c.before.before.before.take_rest-rest.result in (header_of c + r.bytes) + r.last-1.length ≡ length (split_result (name_of c) (file-of c))
+sizes : (c : Took) → let r = c.take_rest-rest.result in (header_of c + r.bytes) + r.last.length ≡ length (split_result (name_of c) (file-of c))
 sizes c =
-    let r = c.before.before.before.take_rest-rest.result in
-    let rest = c.before.before.before.take_rest-rest.ensures in
+    let r = c.take_rest-rest.result in
+    let rest = c.take_rest-rest.ensures in
     omega (
       arith,
       rest.count,
-      front-size (split_last (name_of c) (file-of c)) r.last-1.bytes r.last-1.length rest.is_last (omega (arith, rest.last-most)),
+      front-size (split_last (name_of c) (file-of c)) r.last.bytes r.last.length rest.is_last (omega (arith, rest.last-most)),
       result-size (name_of c) (file-of c) (header_of c) (known c),
     )
 

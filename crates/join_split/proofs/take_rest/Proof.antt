@@ -22,24 +22,24 @@ abbrev Took : Type 0
 Took = tie.After-slice_known-2-1
 
 abbrev name_of : Took → Bytes
-name_of c = c.before.before.before.before.before.before.before.args.name.now
+name_of c = c.args.name.now
 
 abbrev file-of : Took → Bytes
-file-of c = c.before.before.before.before.before.before.before.args.file.now
+file-of c = c.args.file.now
 
 abbrev out_of : Took → Bytes
-out_of c = c.before.before.before.before.before.before.before.args.out.now
+out_of c = c.args.out.now
 
 abbrev header_of : Took → ℕ
-header_of c = c.before.before.before.before.before.before.before.args.header
+header_of c = c.args.header
 
 known : (c : Took) → Opened (file-of c) (header_of c)
-known c = let p = c.before.before.before.before.before.before.before.requires in opened (file-of c) p.0.0 (header_of c) p.0.1 p.1
+known c = let p = c.requires in opened (file-of c) p.0.0 (header_of c) p.0.1 p.1
 
-took : (c : Took) → let t = c.before.before.take_groups-tally in let xs = drop (header_of c) (file-of c) in Takes (matching (name_of c) xs) (length xs) (out_of c) t.result t.new.1.1.1.0
+took : (c : Took) → let t = c.take_groups-tally in let xs = drop (header_of c) (file-of c) in Takes (matching (name_of c) xs) (length xs) (out_of c) t.result t.new.1.1.1.0
 took c =
     let xs = drop (header_of c) (file-of c) in
-    takes (name_of c) xs (known c).ahead (omega (arith, length-drop (header_of c) (file-of c), (known c).not-too-long)) _ _ _ c.before.before.take_groups-tally.ensures
+    takes (name_of c) xs (known c).ahead (omega (arith, length-drop (header_of c) (file-of c), (known c).not-too-long)) _ _ _ c.take_groups-tally.ensures
 
 same-put : (bs cs before : Bytes) (n : ℕ) (after : Bytes) → bs ≡ cs → (length bs ≤ length before → Put bs before n after) → length cs ≤ length before → Put cs before n after
 same-put bs cs before n after e p = subst (λ (xs : Bytes). length xs ≤ length before → Put xs before n after) e p
@@ -50,18 +50,18 @@ part-count-lines-end c = (known c).inside
 returns : tie.Need-returns
 returns c =
     let m = c.before.before.before.before.before in
-    let t = m.before.before.take_groups-tally in
+    let t = m.take_groups-tally in
     let taken = took m in
     let name = name_of m in
     let file = file-of m in
     let h = header_of m in
-    let count = c.before.before.before.count_lines in
+    let count = c.count_lines in
     let n = count.result.0 in
     let e : h - 0 ≡ h = omega arith in
     let lines : n ≡ length (lines_of (take h file)) = count.ensures.0 ∙ ap (λ (k : ℕ). length (lines_of (take k file))) e in
     let few : n ≤ length file = omega (arith, count.ensures.1, part-most (length file) (h - 0) 0 file (omega arith), (known m).inside) in
-    let all : c.before.add.result.0 ≡ (n + t.result.records.0) + 1 =
-    omega (arith, c.before.add.ensures, c.before.before.add-records.ensures, few, taken.tallied.few, taken.inside, length-drop h file, (known m).inside, (known m).not-too-long) in
+    let all : c.add.result.0 ≡ (n + t.result.records.0) + 1 =
+    omega (arith, c.add.ensures, c.add-records.ensures, few, taken.tallied.few, taken.inside, length-drop h file, (known m).inside, (known m).not-too-long) in
     let groups = groups-are name file h (known m) in
     let last = c.fresh_trailer.ensures in
     record {

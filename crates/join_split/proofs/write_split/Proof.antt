@@ -5,7 +5,7 @@ use mathlib.Core.Path.{◌≡◌, ap, subst, ◌∙◌}
 use mathlib.Core.List.{◌++◌}
 use borrow.Rule.Slice.PartMut.{mid_of, put_mid}
 use lib.ListN.{length, take, drop}
-use Rattle.rules.specs.bytes-1.{Bytes}
+use Rattle.rules.specs.Bytes.{Bytes}
 use Rattle.base_numerals.specs.PutBytes.{Put}
 use Rattle.base_slices.specs.WroteBytes.{Wrote}
 use Rattle.base_slices.proofs.WroteLaws.{wrote-first, wrote-part, wrote-last, has_room, within-rest}
@@ -70,13 +70,13 @@ out_of c = (begun c).args.out.now
 abbrev holds : Took → Bytes
 holds c =
     let put = (header-put c).put-o in
-    put_mid put.result (length put.last-1.0 - put.result) put.last-1.0 (rest_of c).take_rest-rest.new.1.1.1.0
+    put_mid put.result (length put.last.0 - put.result) put.last.0 (rest_of c).take_rest-rest.new.1.1.1.0
 
 wrote : (c : Took) → Wrote (split_result (name_of c) (file-of c)) (out_of c) ((header-put c).put-o.result + (rest_of c).take_rest-rest.result.bytes) (split_last (name_of c) (file-of c)) (holds c)
 wrote c =
     let put = (header-put c).put-o in
     let rest = (rest_of c).take_rest-rest in
-    after-groups (name_of c) (file-of c) (out_of c) (begun c).args.header (begun c).requires.0 (begun c).requires.1 put.result put.last-1.0 put.ensures rest.result.bytes _ rest.ensures.put
+    after-groups (name_of c) (file-of c) (out_of c) (begun c).args.header (begun c).requires.0 (begun c).requires.1 put.result put.last.0 put.ensures rest.result.bytes _ rest.ensures.put
 
 small : (c : Took) → length (out_of c) < 18446744073709551616
 small c = omega arith
@@ -87,7 +87,7 @@ part-put-end c = let s = c.before.before.before.before in (known s.args.file.now
 add-o : tie.Need-overflow_add-o
 add-o c = omega (arith, (wrote c).room)
 
-sub-put-2 : tie.Need-overflow-sub-put-2
+sub-put-2 : tie.Need-slice_bounds-put-count-2
 sub-put-2 c = omega (arith, (wrote c).room, (wrote c).long)
 
 part-put-start-2 : tie.Need-slice_bounds-put-start-2
@@ -112,7 +112,7 @@ returns c =
     let last = c.before.before in
     let m = took_of last in
     let rest = (rest_of m).take_rest-rest in
-    ends_with _ _ _ _ _ rest.result.last.bytes-1 rest.result.last.length _ _ (wrote m) rest.ensures.is_last last.put-o-2.ensures
+    ends_with _ _ _ _ _ rest.result.last.bytes rest.result.last.length _ _ (wrote m) rest.ensures.is_last last.put-o-2.ensures
 
 pub write_split_spec : {M : Type 1} → statement M
 write_split_spec =

@@ -30,30 +30,30 @@ abbrev Turn : Type 0
 Turn = tie.After-next_line-at invariant-loop decreases-loop
 
 abbrev s-of : Turn → Bytes
-s-of c = c.before.before.before.before.args.s.now
+s-of c = c.args.s.now
 
 abbrev at_of : Turn → ℕ
-at_of c = c.before.before.loop-at.at
+at_of c = c.loop-at.at
 
 passed : (c : Turn) → (at_of c < c.next_line-at.result.0) × (length (lines_of (drop (at_of c) (s-of c))) ≡ 1 + length (lines_of (drop c.next_line-at.result.0 (s-of c))))
 passed c = line-more (s-of c) (at_of c) c.next_line-at.result.0 (omega arith) c.next_line-at.ensures.0
 
 add-n : tie.Need-overflow_add-n invariant-loop decreases-loop
-add-n c = omega (arith, c.before.before.loop-at.invariant.0)
+add-n c = omega (arith, c.loop-at.invariant.0)
 
 loop-less : tie.Need-loop-at-smaller invariant-loop decreases-loop
 loop-less c = omega (arith, passed c)
 
 loop-again : tie.Need-loop-at-preserved invariant-loop decreases-loop
 loop-again c =
-    let l = c.before.before.loop-at in
+    let l = c.loop-at in
     (omega (arith, (passed c).0, l.invariant.0), omega (arith, c.next_line-at.ensures.1), omega (arith, (passed c).1, l.invariant.2))
 
 returns : tie.Need-returns invariant-loop decreases-loop
 unfolding lines_of
 returns c =
-    let s = c.before.before.before.args.s.now in
-    let l = c.before.loop-at in
+    let s = c.args.s.now in
+    let l = c.loop-at in
     let none : length (lines_of (drop l.at s)) ≡ 0 = rw (drop_of_length-le s {i = l.at} (omega arith)) in
     (omega (arith, l.invariant.2, none), omega (arith, l.invariant.0, l.invariant.1))
 

@@ -8,14 +8,14 @@ use Rattle.join_trailer.proofs.fresh_trailer.Tie as tie
 
 put-trailer-requires : tie.Need-put_trailer-length-requires
 put-trailer-requires c κs =
-    let a = c.before.args in
+    let a = c.args in
     omega (arith, last-most (sum_meant a.total) a.groups.0 a.records.0 (omega arith) (omega arith) (omega arith) (omega arith))
 
 returns : tie.Need-returns
 returns c =
-    let a = c.before.before.before.args in
+    let a = c.args in
     let most = last-most (sum_meant a.total) a.groups.0 a.records.0 (omega arith) (omega arith) (omega arith) (omega arith) in
-    put-80 _ _ _ most c.before.put_trailer-length.ensures
+    put-80 _ _ _ most c.put_trailer-length.ensures
 
 pub fresh_trailer_spec : {M : Type 1} → statement M
 fresh_trailer_spec = tie.close (tie.spec (λ c. search rules) put-trailer-requires returns)

@@ -10,11 +10,11 @@ use Rattle.name_codes.proofs.letter_of.Tie as tie
 
 returns : tie.Need-returns-then-code-gt999
 unfolding entry_meant
-returns c = sym (over-unlisted c.before.args.code c.if-code-gt999.true)
+returns c = sym (over-unlisted c.args.code c.if-code-gt999.true)
 
 returns-2 : tie.Need-returns
 unfolding entries_from entry_in entry_of
-returns-2 c = letter_at c.before.args.code (search rules)
+returns-2 c = letter_at c.args.code (search rules)
 
 pub letter_of_spec : {M : Type 1} → statement M
 letter_of_spec = tie.close (tie.spec returns (λ c. search rules) returns-2)

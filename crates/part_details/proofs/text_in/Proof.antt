@@ -13,14 +13,14 @@ use borrow.Author.Rules.{rules}
 use Rattle.part_details.proofs.text_in.Statement.{statement}
 use Rattle.part_details.proofs.text_in.Tie as tie
 
-sub-rec : tie.Need-overflow-sub-rec
-sub-rec c = c.before.requires.0
+sub-rec : tie.Need-slice_bounds-rec-count
+sub-rec c = c.requires.0
 
 part-rec-start : tie.Need-slice_bounds-rec-start
-part-rec-start c = c.before.requires.0
+part-rec-start c = c.requires.0
 
 part-rec-end : tie.Need-slice_bounds-rec-end
-part-rec-end c = c.before.requires.1
+part-rec-end c = c.requires.1
 
 -- ---- the search has found the text's place in the record
 
@@ -46,10 +46,10 @@ fits : (c : Sought) → c.seek-text.result.start.0 + c.seek-text.result.length �
 fits c = omega (arith, c.seek-text.ensures.within, length-take (to-of c - from-of c) (drop (from-of c) (file-of c)))
 
 add-end : tie.Need-overflow_add-end
-add-end c = omega (arith, fits c.before.before, (begun c.before.before).requires.1, (begun c.before.before).well-formed)
+add-end c = omega (arith, fits c.before.before, (begun c.before.before).requires.1, (begun c.before.before).well_formed)
 
 part-is-one-of-end : tie.Need-slice_bounds-is_one_of-end
-part-is-one-of-end c = c.before.before.seek-text.ensures.within
+part-is-one-of-end c = c.seek-text.ensures.within
 
 -- ---- whether it is a lone slash
 
@@ -73,7 +73,7 @@ returns c =
     record { answer = no-piece (from-of (sought-of t)) (found_in t) (sym (tested t) ∙ c.if-is_one_of.true); inside = zero-le }
 
 add-in-file : tie.Need-overflow_add-in_file
-add-in-file c = let s = sought-of c.before in omega (arith, fits s, (begun s).pre.0, (begun s).pre.1, (begun s).good)
+add-in-file c = let s = sought-of c.before in omega (arith, fits s, (begun s).requires.0, (begun s).requires.1, (begun s).good)
 
 returns-2 : tie.Need-returns
 returns-2 c =
@@ -81,8 +81,8 @@ returns-2 c =
     let s = sought-of t in
     let found = spot_is text (rec-of s) (spot_meant (rec-of s) s.seek-text.result) s.seek-text.ensures.answer in
     record {
-      answer = some-piece (file-of s) (from-of s) (to-of s) _ _ (found_in t) found (begun s).pre.0 (fits s) (sym (tested t) ∙ c.if-is_one_of.false);
-      inside = omega (arith, fits s, (begun s).pre.0, (begun s).pre.1);
+      answer = some-piece (file-of s) (from-of s) (to-of s) _ _ (found_in t) found (begun s).requires.0 (fits s) (sym (tested t) ∙ c.if-is_one_of.false);
+      inside = omega (arith, fits s, (begun s).requires.0, (begun s).requires.1);
     }
 
 pub text_in-spec : {M : Type 1} → statement M

@@ -11,24 +11,24 @@ use Rattle.part_fields.proofs.fields_at.Tie as tie
 
 returns : tie.Need-returns-then-file-start
 returns c =
-    let a = c.before.before.before.before.before.args in
-    ap (λ (x : Fields). fields_meant x a.out-1.now) c.refuse.ensures ∙ past-gives a.file.now a.start.0 a.out-1.now c.before.if-file-start.true
+    let a = c.args in
+    ap (λ (x : Fields). fields_meant x a.out.now) c.refuse.ensures ∙ past-gives a.file.now a.start.0 a.out.now c.if-file-start.true
 
 returns-2 : tie.Need-returns-in-None
 returns-2 c =
-    let f = c.before.before.before in
-    let a = f.before.before.before.before.before.args in
-    ap (λ (x : Fields). fields_meant x a.out-1.now) c.refuse-in-None.ensures
-    ∙ uncoded-gives a.file.now a.start.0 a.out-1.now f.before.if-file-start.false (sym (ap code_found c.before.enum_told-1.given.1) ∙ f.code_there.ensures)
+    let f = c.before.before in
+    let a = f.args in
+    ap (λ (x : Fields). fields_meant x a.out.now) c.refuse-in-None.ensures
+    ∙ uncoded-gives a.file.now a.start.0 a.out.now f.if-file-start.false (sym (ap code_found c.in-None.is) ∙ f.code_there.ensures)
 
 returns-3 : tie.Need-returns-in-With
 returns-3 c =
     let g = c.before.before in
-    let found = g.before.before.before in
-    let f = found.before.before in
-    let a = f.before.before.before.before.before.args in
+    let found = g.before.before in
+    let f = found.before in
+    let a = f.args in
     g.fields_of.ensures
-    ∙ found-gives a.file.now a.start.0 a.out-1.now f.before.if-file-start.false (code_meant found.code-1.given.0.0) (sym (ap code_found found.code-1.given.1) ∙ f.code_there.ensures)
+    ∙ found-gives a.file.now a.start.0 a.out.now f.if-file-start.false (code_meant found.in-With.code) (sym (ap code_found found.in-With.is) ∙ f.code_there.ensures)
 
 pub fields_at_spec : {M : Type 1} → statement M
 fields_at_spec =

@@ -50,13 +50,13 @@ abbrev Tested : Type 0
 Tested = tie.After-has_room
 
 abbrev walked : Tested → Walked
-walked c = c.before.before.before.before.before
+walked c = c.before.before.before
 
 abbrev count : Tested → ℕ
-count c = c.before.before.count-1.given.0.0.0
+count c = c.in-Over.count.0
 
 count-is : (c : Tested) → over_after (count c) ≡ walk_end 0 (start_of (walked c)) (all (walked c))
-count-is c = end_is (walked c) _ c.before.before.count-1.given.1
+count-is c = end_is (walked c) _ c.in-Over.is
 
 room : (c : Tested) (b : Bool) → c.has_room.result ≡ b → leb (3 * count c) (length (before (walked c))) ≡ b
 room c b e = sym c.has_room.ensures ∙ e
@@ -66,7 +66,7 @@ returns c =
     let t = c.before.before in
     let k = walked t in
     ap (λ (x : Fields). fields_meant x (before k)) c.refuse-then-not-has_room.ensures
-    ∙ no-room-gives (start_of k) (all k) (before k) (count t) (count-is t) (room t false (flip _ _ c.before.if-not-has_room.true))
+    ∙ no-room-gives (start_of k) (all k) (before k) (count t) (count-is t) (room t false (flip _ _ c.if-not-has_room.true-raw))
 
 -- put into the slice itself
 returns-2 : tie.Need-returns-then-n-gt-HELD
@@ -74,19 +74,19 @@ returns-2 c =
     let h = c.before.before in
     let t = h.before.before.before.before in
     let k = walked t in
-    let fits = room t true (flip _ _ h.before.before.before.if-not-has_room.false) in
+    let fits = room t true (flip _ _ h.if-not-has_room.false-raw) in
     gives (start_of k) (all k) (before k) (count t) (count-is t) h.walk_to-then-n-gt-HELD.new.1.1.1.1.1.0 fits
     (h.walk_to-then-n-gt-HELD.ensures.out ∙ all-put (start_of k) (all k) (before k) (count t) (count-is t) (before k) (leb-true (3 * count t) (length (before k)) fits))
 
 returns-3 : tie.Need-returns-in-Refused
 returns-3 c =
-    let k = c.before.before.before.before in
-    refused-gives (start_of k) (all k) (before k) _ (end_is k _ c.before.why-1.given.1)
+    let k = c.before.before in
+    refused-gives (start_of k) (all k) (before k) _ (end_is k _ c.in-Refused.is)
 
 returns-4 : tie.Need-returns-in-Field
 returns-4 c =
-    let k = c.before.before.before.before in
-    absurd (met-never (start_of k) (all k) (before k) _ _ (end_is k _ c.before.enum_told-1.given.1))
+    let k = c.before.before.before in
+    absurd (met-never (start_of k) (all k) (before k) _ _ (end_is k _ c.in-Field.is))
 
 -- put into the space of the call's own, then copied
 returns-5 : tie.Need-returns-else-n-gt-HELD
@@ -95,11 +95,11 @@ returns-5 c =
     let t = p.before.before.before.before.before.before in
     let k = walked t in
     let held = k.walk_to.last.1.1.1.1.1.0 in
-    let few = p.before.before.before.before.if-n-gt-HELD.false in
+    let few = p.if2.false in
     let filled = k.walk_to.ensures.out ∙ all-put (start_of k) (all k) (before k) (count t) (count-is t) _ (omega (arith, few)) in
     let whole : 3 * count t - 0 ≡ 3 * count t = omega arith in
     let lent = ap (λ (n : ℕ). take n held) whole ∙ ap (λ (ns : List ℕ). take (3 * count t) ns) filled in
-    let fits = room t true (flip _ _ p.before.before.before.before.before.if-not-has_room.false) in
+    let fits = room t true (flip _ _ p.if1.false) in
     gives (start_of k) (all k) (before k) (count t) (count-is t) p.put_numbers.new.0 fits
     (copied (numbers_passed 0 (start_of k) (all k)) _ (before k) p.put_numbers.new.0 (3 * count t) p.put_numbers.result
     (numbers-size (start_of k) (all k) (before k) (count t) (count-is t))

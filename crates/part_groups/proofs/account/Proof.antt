@@ -15,8 +15,8 @@ bytes-of-requires c κs = c.find_account.ensures.1
 returns : tie.Need-returns
 unfolding account_part
 returns c =
-    let a = c.before.before.before.args in
-    let f = c.before.find_account in
+    let a = c.args in
+    let f = c.find_account in
     c.bytes_of.ensures ∙ named-slice a.file.now (account_at a.file.now a.g a.n) (part_meant f.result) f.ensures.0 (account-is-slice a.file.now a.g a.n)
 
 pub account_spec : {M : Type 1} → statement M

@@ -7,7 +7,7 @@ use Rattle.part_groups.proofs.account_refusal.Tie as tie
 
 returns : tie.Need-returns
 unfolding account_part part_answer
-returns c = ap (λ (q : PartAnswer). q.refusal) c.before.find_account-part.ensures.0
+returns c = ap (λ (q : PartAnswer). q.refusal) c.find_account-part.ensures.0
 
 pub account_refusal_spec : {M : Type 1} → statement M
 account_refusal_spec = tie.close (tie.spec (λ c κs. search rules) returns)

@@ -9,9 +9,9 @@ use Rattle.part_groups.proofs.bytes_of.Tie as tie
 
 returns : tie.Need-returns
 returns c =
-    let a = c.before.before.before.args in
-    let size : a.part.start-1.0 + a.part.length - a.part.start-1.0 ≡ a.part.length = omega arith in
-    ap (λ (n : ℕ). take n (drop a.part.start-1.0 a.file.now)) size
+    let a = c.args in
+    let size : a.part.start.0 + a.part.length - a.part.start.0 ≡ a.part.length = omega arith in
+    ap (λ (n : ℕ). take n (drop a.part.start.0 a.file.now)) size
 
 pub bytes_of_spec : {M : Type 1} → statement M
 bytes_of_spec =

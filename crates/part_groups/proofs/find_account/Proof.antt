@@ -12,8 +12,8 @@ part-within-requires c κs = c.find_group.ensures.1
 returns : tie.Need-returns
 unfolding group_part account_part account_at in_accounts
 returns c =
-    let a = c.before.before.before.args in
-    (c.part_within.ensures.found (group_at a.file.now a.g) c.before.find_group.ensures.0 (outer-group a.file.now a.g), c.part_within.ensures.inside)
+    let a = c.args in
+    (c.part_within.ensures.found (group_at a.file.now a.g) c.find_group.ensures.0 (outer-group a.file.now a.g), c.part_within.ensures.inside)
 
 pub find_account_spec : {M : Type 1} → statement M
 find_account_spec = tie.close (tie.spec (λ c κs. search rules) part-within-requires returns)

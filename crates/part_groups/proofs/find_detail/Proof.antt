@@ -12,8 +12,8 @@ part-within-requires c κs = c.find_account.ensures.1
 returns : tie.Need-returns
 unfolding account_part detail_part_at in_details
 returns c =
-    let a = c.before.before.before.args in
-    (c.part_within.ensures.found (account_at a.file.now a.g a.a) c.before.find_account.ensures.0 (outer-account a.file.now a.g a.a), c.part_within.ensures.inside)
+    let a = c.args in
+    (c.part_within.ensures.found (account_at a.file.now a.g a.a) c.find_account.ensures.0 (outer-account a.file.now a.g a.a), c.part_within.ensures.inside)
 
 pub find_detail_spec : {M : Type 1} → statement M
 find_detail_spec = tie.close (tie.spec (λ c κs. search rules) part-within-requires returns)

@@ -11,14 +11,14 @@ use Rattle.part_groups.proofs.find_group.Tie as tie
 
 returns : tie.Need-returns-in-Refused
 returns c =
-    let a = c.before.before.before.before.before.before.args in
-    let said = sym c.before.before.before.before.read.ensures ∙ ap (λ (v : Verdict). verdict_meant v) c.before.before.why-1.given.1 in
+    let a = c.args in
+    let said = sym c.read.ensures ∙ ap (λ (v : Verdict). verdict_meant v) c.in-Refused.is in
     (c.no_part.ensures ∙ group-refused a.file.now a.n _ said, subst (Inside a.file.now) (sym c.no_part.ensures) (omega arith))
 
 returns-2 : tie.Need-returns-in-Accepted
 returns-2 c =
-    let a = c.before.before.before.before.before.args in
-    let said = sym c.before.before.before.read.ensures ∙ ap (λ (v : Verdict). verdict_meant v) c.before.enum_told-1.given.1 in
+    let a = c.args in
+    let said = sym c.read.ensures ∙ ap (λ (v : Verdict). verdict_meant v) c.in-Accepted.is in
     (group-accepted a.file.now _ a.n _ said (c.nth_part.ensures.found (file-envelope a.file.now _ said)), c.nth_part.ensures.inside)
 
 pub find_group_spec : {M : Type 1} → statement M

@@ -15,8 +15,8 @@ bytes-of-requires c κs = c.find_group.ensures.1
 returns : tie.Need-returns
 unfolding group_part
 returns c =
-    let a = c.before.before.before.args in
-    let f = c.before.find_group in
+    let a = c.args in
+    let f = c.find_group in
     c.bytes_of.ensures ∙ named-slice a.file.now (group_at a.file.now a.n) (part_meant f.result) f.ensures.0 (group-is-slice a.file.now a.n)
 
 pub group_spec : {M : Type 1} → statement M

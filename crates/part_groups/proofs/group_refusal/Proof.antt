@@ -7,7 +7,7 @@ use Rattle.part_groups.proofs.group_refusal.Tie as tie
 
 returns : tie.Need-returns
 unfolding group_part part_answer
-returns c = ap (λ (q : PartAnswer). q.refusal) c.before.find_group-part.ensures.0
+returns c = ap (λ (q : PartAnswer). q.refusal) c.find_group-part.ensures.0
 
 pub group_refusal_spec : {M : Type 1} → statement M
 group_refusal_spec = tie.close (tie.spec (λ c κs. search rules) returns)

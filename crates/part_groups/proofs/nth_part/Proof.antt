@@ -53,18 +53,18 @@ at_of c = (head c).loop-opening.at
 
 -- where its first record ends, and where it ends
 abbrev first-end : Turn → ℕ
-first-end c = c.before.record_end-after.result.0
+first-end c = c.record_end-after.result.0
 
 abbrev end_of : Turn → ℕ
 end_of c = c.next_line_of-e.result.0
 
 begun : (c : Turn) → same_bytes (code_bytes (opening_of c)) (take 3 (drop (at_of c) (s-of c))) ≡ true
-begun c = sym c.before.before.before.begins.ensures ∙ c.before.before.loop-opening-test.true
+begun c = sym c.begins.ensures ∙ c.loop-opening-test.true
 
 places : (c : Turn) → (at_of c < end_of c) × (end_of c ≤ length (s-of c))
 places c =
     spans (opening_of c) (closing-of c) (s-of c) (at_of c) (first-end c) (end_of c) (begun c)
-    (head c).loop-opening.invariant.0 c.before.record_end-after.ensures c.next_line_of-e.ensures
+    (head c).loop-opening.invariant.0 c.record_end-after.ensures c.next_line_of-e.ensures
 
 sub-length : tie.Need-overflow_sub-length invariant-loop decreases-loop
 sub-length c = omega (arith, places c.before)
@@ -76,7 +76,7 @@ returns c =
     record {
       found = λ e.
           hit (opening_of t) (closing-of t) e.others e.apart (s-of t) (at_of t) (first-end t) (end_of t) (begun t)
-          t.before.record_end-after.ensures.0 t.next_line_of-e.ensures.0 _ _ c.if-left-eq0.true ((head t).loop-opening.invariant.1 e);
+          t.record_end-after.ensures.0 t.next_line_of-e.ensures.0 _ _ c.if-left-eq0.true ((head t).loop-opening.invariant.1 e);
       inside = omega (arith, places t);
     }
 
@@ -90,7 +90,7 @@ loop-again c =
       (places t).1,
       λ e.
           go (opening_of t) (closing-of t) e.others e.apart (s-of t) (at_of t) (first-end t) (end_of t) (begun t)
-          t.before.record_end-after.ensures.0 t.next_line_of-e.ensures.0 _ _ (omega arith) ((head t).loop-opening.invariant.1 e),
+          t.record_end-after.ensures.0 t.next_line_of-e.ensures.0 _ _ (omega arith) ((head t).loop-opening.invariant.1 e),
     )
 
 -- ---- no part is left
@@ -98,12 +98,12 @@ loop-again c =
 returns-2 : tie.Need-returns invariant-loop decreases-loop
 returns-2 c =
     let l = c.before.before.before in
-    let a = l.before.before.before.args in
+    let a = l.args in
     record {
       found = λ e.
           c.no_part.ensures
           ∙ missed (code_meant a.opening) (code_meant a.closing) e.others e.apart a.s.now _ _ _
-          (sym c.before.before.begins.ensures ∙ c.before.loop-opening-test.false) (l.loop-opening.invariant.1 e);
+          (sym c.begins.ensures ∙ c.loop-opening-test.false) (l.loop-opening.invariant.1 e);
       inside = subst (Inside a.s.now) (sym c.no_part.ensures) (omega arith);
     }
 

@@ -17,17 +17,17 @@ use Rattle.part_groups.proofs.part_within.Tie as tie
 
 returns : tie.Need-returns-then-why-ne0
 returns c =
-    let a = c.before.before.before.before.before.args in
+    let a = c.args in
     record {
-      found = λ o e u. c.no_part.ensures ∙ same-refusal (part_meant a.outer) o _ e c.before.if-why-ne0.true;
+      found = λ o e u. c.no_part.ensures ∙ same-refusal (part_meant a.outer) o _ e c.if-why-ne0.true;
       inside = subst (Inside a.file.now) (sym c.no_part.ensures) (omega arith);
     }
 
 add-to : tie.Need-overflow_add-to
-add-to c = omega (arith, c.before.before.before.before.before.before.requires)
+add-to c = omega (arith, c.requires)
 
 part-nth-part-end : tie.Need-slice_bounds-nth_part-end
-part-nth-part-end c = omega (arith, c.before.before.before.before.before.before.requires)
+part-nth-part-end c = omega (arith, c.requires)
 
 -- ---- once the inner part was sought
 
@@ -53,24 +53,24 @@ abbrev inner_of : Sought → PartAnswer
 inner_of c = part_meant c.nth_part-inner.result
 
 fits : (c : Sought) → (outer-of c).start + ((inner_of c).start + (inner_of c).len) ≤ length (file-of c)
-fits c = inner-fits (opening_of c) (closing-of c) (file-of c) _ (outer-of c) (inner_of c) c.before.before.before.before.if-why-ne0.false c.nth_part-inner.ensures (begun c).requires
+fits c = inner-fits (opening_of c) (closing-of c) (file-of c) _ (outer-of c) (inner_of c) c.if-why-ne0.false c.nth_part-inner.ensures (begun c).requires
 
 returns-2 : tie.Need-returns-then-missing-ne0
 returns-2 c =
     let s = c.before.before.before in
     record {
-      found = inner-refused (opening_of s) (closing-of s) (file-of s) _ (outer-of s) (inner_of s) s.before.before.before.before.if-why-ne0.false s.nth_part-inner.ensures c.if-missing-ne0.true;
+      found = inner-refused (opening_of s) (closing-of s) (file-of s) _ (outer-of s) (inner_of s) s.if-why-ne0.false s.nth_part-inner.ensures c.if-missing-ne0.true;
       inside = omega (arith, fits s);
     }
 
 add_start : tie.Need-overflow_add-start
-add_start c = let s = c.before.before.before.before.before in omega (arith, (begun s).well-formed, fits s)
+add_start c = let s = c.before.before.before.before.before in omega (arith, (begun s).well_formed, fits s)
 
 returns-3 : tie.Need-returns
 returns-3 c =
     let s = c.before.before.before.before.before in
     record {
-      found = inner-found (opening_of s) (closing-of s) (file-of s) _ (outer-of s) (inner_of s) s.before.before.before.before.if-why-ne0.false s.nth_part-inner.ensures c.before.before.if-missing-ne0.false;
+      found = inner-found (opening_of s) (closing-of s) (file-of s) _ (outer-of s) (inner_of s) s.if-why-ne0.false s.nth_part-inner.ensures c.if-missing-ne0.false;
       inside = omega (arith, fits s);
     }
 

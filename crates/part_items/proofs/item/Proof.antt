@@ -11,8 +11,8 @@ use Rattle.part_items.proofs.item.Tie as tie
 returns : tie.Need-returns-then-refusal-ne0
 returns c =
     let p = c.before.before.before.before in
-    let a = p.before.before.args in
-    c.no_item.ensures ∙ account-refused a.file.now a.g a.a a.n (part_meant p.find_account-part.result) p.find_account-part.ensures.0 c.before.if-refusal-ne0.true
+    let a = p.args in
+    c.no_item.ensures ∙ account-refused a.file.now a.g a.a a.n (part_meant p.find_account-part.result) p.find_account-part.ensures.0 c.if-refusal-ne0.true
 
 -- where the 03 was searched
 abbrev Searched : Type 0
@@ -22,27 +22,27 @@ abbrev part_of : Searched → tie.After-find_account-part
 part_of c = c.before.before.before.before.before.before.before
 
 add-to : tie.Need-overflow_add-to
-add-to c = let p = c.before.before.before.before.before in omega (arith, p.find_account-part.ensures.1, p.before.before.well-formed)
+add-to c = let p = c.before.before.before.before.before in omega (arith, p.find_account-part.ensures.1, p.well_formed)
 
 part_end : tie.Need-slice_bounds-item_in-end
-part_end c = c.before.before.before.before.before.find_account-part.ensures.1
+part_end c = c.find_account-part.ensures.1
 
 returns-2 : tie.Need-returns-in-NoItem
 returns-2 c =
-    let s = c.before.before.before in
+    let s = c.before.before in
     let p = part_of s in
-    let a = p.before.before.args in
+    let a = p.args in
     c.no_item-in-NoItem.ensures
-    ∙ none_found a.file.now a.n (part_meant p.find_account-part.result) a.g a.a p.find_account-part.ensures.0 s.before.before.before.before.if-refusal-ne0.false
-    (sym (ap found_meant c.before.enum_told-1.given.1) ∙ s.item_in.ensures)
+    ∙ none_found a.file.now a.n (part_meant p.find_account-part.result) a.g a.a p.find_account-part.ensures.0 s.if-refusal-ne0.false
+    (sym (ap found_meant c.in-NoItem.is) ∙ s.item_in.ensures)
 
 returns-3 : tie.Need-returns-in-Item
 returns-3 c =
-    let s = c.before.before.before in
+    let s = c.before in
     let p = part_of s in
-    let a = p.before.before.args in
-    one_found a.file.now a.n (part_meant p.find_account-part.result) a.g a.a p.find_account-part.ensures.0 s.before.before.before.before.if-refusal-ne0.false _
-    (sym (ap found_meant c.before.type_code-1.given.1) ∙ s.item_in.ensures)
+    let a = p.args in
+    one_found a.file.now a.n (part_meant p.find_account-part.result) a.g a.a p.find_account-part.ensures.0 s.if-refusal-ne0.false _
+    (sym (ap found_meant c.in-Item.is) ∙ s.item_in.ensures)
 
 pub item_spec : {M : Type 1} → statement M
 item_spec =

@@ -23,7 +23,7 @@ abbrev Asked : Type 0
 Asked = tie.After-begins-in-loop-i invariant-loop decreases-loop
 
 abbrev there : Asked → Bytes
-there c = let a = c.before.before.before.before.before.before.before.args in drop a.start.0 a.file.now
+there c = let a = c.args in drop a.start.0 a.file.now
 
 loop-holds : tie.Need-loop-i-init invariant-loop decreases-loop
 unfolding code_of meant
@@ -33,24 +33,24 @@ loop-holds c = (omega arith, refl)
 returns : tie.Need-returns-then-begins invariant-loop decreases-loop
 returns c =
     let b = c.before in
-    let a = b.before.before.args in
+    let a = b.args in
     sym (detail-found (drop a.start.0 a.file.now) (sym b.begins.ensures ∙ c.if-begins.true))
 
 returns-2 : tie.Need-returns-then-begins-2 invariant-loop decreases-loop
 returns-2 c =
     let a = c.before in
-    sym (a.before.before.before.loop-i.invariant.1 ∙ code-found (there a) _ a.before.before.before.loop-i.i _ a.before.before.loop-i-test.true (sym a.begins-in-loop-i.ensures ∙ c.if-begins-2.true))
+    sym (a.loop-i.invariant.1 ∙ code-found (there a) _ a.loop-i.i _ a.loop-i-test.true (sym a.begins-in-loop-i.ensures ∙ c.if-begins-2.true))
 
 loop-again : tie.Need-loop-i-preserved invariant-loop decreases-loop
 loop-again c =
     let a = c.before in
-    let l = a.before.before.before.loop-i in
-    (omega (arith, a.before.before.loop-i-test.true), l.invariant.1 ∙ code-passed (there a) _ l.i _ a.before.before.loop-i-test.true (sym a.begins-in-loop-i.ensures ∙ c.if-begins-2.false))
+    let l = a.loop-i in
+    (omega (arith, a.loop-i-test.true), l.invariant.1 ∙ code-passed (there a) _ l.i _ a.loop-i-test.true (sym a.begins-in-loop-i.ensures ∙ c.if-begins-2.false))
 
 returns-3 : tie.Need-returns invariant-loop decreases-loop
 returns-3 c =
-    let l = c.before.loop-i in
-    let a = c.before.before.before.before.before.args in
+    let l = c.loop-i in
+    let a = c.args in
     sym (l.invariant.1 ∙ none_left (drop a.start.0 a.file.now) _ l.i c.loop-i-test.false)
 
 pub code_there_spec : {M : Type 1} → statement M

@@ -18,15 +18,15 @@ decreases-loop f i₀ i = length f - i
 returns : tie.Need-returns-then-f-i-ne32 invariant-loop decreases-loop
 returns c =
     let l = c.before.before.before in
-    (until_stop no_blank _ _ l.loop-i.invariant.1 c.before.before.loop-i-test.true (blank_none _ c.if-f-i-ne32.true) ∙ blanks-until _, omega arith)
+    (until_stop no_blank _ _ l.loop-i.invariant.1 c.loop-i-test.true (blank_none _ c.if-f-i-ne32.true) ∙ blanks-until _, omega arith)
 
 loop-again : tie.Need-loop-i-preserved invariant-loop decreases-loop
 loop-again c =
     let l = c.before.before.before in
-    (omega arith, until-on no_blank _ _ l.loop-i.invariant.1 c.before.before.loop-i-test.true (blank-here _ c.if-f-i-ne32.false))
+    (omega arith, until-on no_blank _ _ l.loop-i.invariant.1 c.loop-i-test.true (blank-here _ c.if-f-i-ne32.false))
 
 returns-2 : tie.Need-returns invariant-loop decreases-loop
-returns-2 c = (until_end no_blank _ _ c.before.loop-i.invariant.1 c.loop-i-test.false ∙ blanks-until _, omega arith)
+returns-2 c = (until_end no_blank _ _ c.loop-i.invariant.1 c.loop-i-test.false ∙ blanks-until _, omega arith)
 
 pub blanks_len_spec : {M : Type 1} → statement M
 blanks_len_spec =

@@ -18,20 +18,20 @@ decreases-loop f i₀ i = length f - i
 returns : tie.Need-returns-then-f-i-eq44 invariant-loop decreases-loop
 returns c =
     let l = c.before.before.before in
-    (until_stop is_mark _ _ l.loop-i.invariant.1 c.before.before.loop-i-test.true (mark-comma _ c.if-f-i-eq44.true), omega arith)
+    (until_stop is_mark _ _ l.loop-i.invariant.1 c.loop-i-test.true (mark-comma _ c.if-f-i-eq44.true), omega arith)
 
 returns-2 : tie.Need-returns-then-f-i-eq47 invariant-loop decreases-loop
 returns-2 c =
     let l = c.before.before.before.before in
-    (until_stop is_mark _ _ l.before.loop-i.invariant.1 l.loop-i-test.true (mark-slash _ c.if-f-i-eq47.true), omega arith)
+    (until_stop is_mark _ _ l.loop-i.invariant.1 l.loop-i-test.true (mark-slash _ c.if-f-i-eq47.true), omega arith)
 
 loop-again : tie.Need-loop-i-preserved invariant-loop decreases-loop
 loop-again c =
     let l = c.before.before.before.before in
-    (omega arith, until-on is_mark _ _ l.before.loop-i.invariant.1 l.loop-i-test.true (mark-none _ c.before.before.if-f-i-eq44.false c.if-f-i-eq47.false))
+    (omega arith, until-on is_mark _ _ l.loop-i.invariant.1 l.loop-i-test.true (mark-none _ c.if-f-i-eq44.false c.if-f-i-eq47.false))
 
 returns-3 : tie.Need-returns invariant-loop decreases-loop
-returns-3 c = (until_end is_mark _ _ c.before.loop-i.invariant.1 c.loop-i-test.false, omega arith)
+returns-3 c = (until_end is_mark _ _ c.loop-i.invariant.1 c.loop-i-test.false, omega arith)
 
 pub field_len_spec : {M : Type 1} → statement M
 field_len_spec =

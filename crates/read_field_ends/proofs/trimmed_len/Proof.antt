@@ -24,7 +24,7 @@ shared-slice-read-if1 c = omega arith
 returns : tie.Need-returns-then-f-n-ne32 invariant-loop decreases-loop
 returns c =
     let l = c.before.before.before in
-    trim-stop _ _ c.before.before.loop-n-test.true l.loop-n.invariant.0 l.loop-n.invariant.1 c.if-f-n-ne32.true
+    trim-stop _ _ c.loop-n-test.true l.loop-n.invariant.0 l.loop-n.invariant.1 c.if-f-n-ne32.true
 
 loop-less : tie.Need-loop-n-smaller invariant-loop decreases-loop
 loop-less c = omega arith
@@ -32,10 +32,10 @@ loop-less c = omega arith
 loop-again : tie.Need-loop-n-preserved invariant-loop decreases-loop
 loop-again c =
     let l = c.before.before.before in
-    (omega arith, trim-on _ _ c.before.before.loop-n-test.true l.loop-n.invariant.0 l.loop-n.invariant.1 c.if-f-n-ne32.false)
+    (omega arith, trim-on _ _ c.loop-n-test.true l.loop-n.invariant.0 l.loop-n.invariant.1 c.if-f-n-ne32.false)
 
 returns-2 : tie.Need-returns invariant-loop decreases-loop
-returns-2 c = trim-none _ _ c.loop-n-test.false c.before.loop-n.invariant.1
+returns-2 c = trim-none _ _ c.loop-n-test.false c.loop-n.invariant.1
 
 pub trimmed_len_spec : {M : Type 1} → statement M
 trimmed_len_spec =

@@ -11,37 +11,37 @@ use Rattle.read_fields.proofs.take_detail_first.Tie as tie
 
 -- the field's bytes, from an arm
 abbrev bytes : tie.After-shared_slice_known-1 → Bytes
-bytes k = k.before.args.f.now
+bytes k = k.args.f.now
 
 returns : tie.Need-returns-in-DetailType
 unfolding take_next wanted_of judged fields_of references wanted_after
 returns c =
-    arm (bytes c.before.before.before.before) c.before.before.enum_told-1.given.1
-    (c.detail.ensures ∙ ap (λ (x : Class). and_then (detail_of x) references) c.before.type_class.ensures)
+    arm (bytes c.before.before.before) c.in-DetailType.is
+    (c.detail.ensures ∙ ap (λ (x : Class). and_then (detail_of x) references) c.type_class.ensures)
 
 returns-2 : tie.Need-returns-in-DetailAmount
 unfolding take_next wanted_of judged fields_of references wanted_after
-returns-2 c = arm-optional (bytes c.before.before.before.before) c.before.before.enum_told-in-DetailAmount-1.given.1 c.before.is_unsigned.ensures refl c.fitted_or_none.ensures refl
+returns-2 c = arm-optional (bytes c.before.before.before) c.in-DetailAmount.is c.is_unsigned.ensures refl c.fitted_or_none.ensures refl
 
 returns-3 : tie.Need-returns-in-DetailFunds
 unfolding take_next wanted_of judged fields_of references wanted_after
-returns-3 c = arm (bytes c.before.before.before) c.before.enum_told-in-DetailFunds-1.given.1 c.take_funds.ensures
+returns-3 c = arm (bytes c.before.before) c.in-DetailFunds.is c.take_funds.ensures
 
 returns-4 : tie.Need-returns-in-BankReference
 unfolding take_next wanted_of judged fields_of references wanted_after
-returns-4 c = arm-fits (bytes c.before.before.before.before) c.before.before.enum_told-in-BankReference-1.given.1 c.before.is_reference.ensures refl c.fitted.ensures refl
+returns-4 c = arm-fits (bytes c.before.before.before) c.in-BankReference.is c.is_reference.ensures refl c.fitted.ensures refl
 
 returns-5 : tie.Need-returns-in-CustomerReference
 unfolding take_next wanted_of judged fields_of references wanted_after
-returns-5 c = arm-fits (bytes c.before.before.before.before) c.before.before.enum_told-in-CustomerReference-1.given.1 c.before.is_reference-in-CustomerReference.ensures refl c.fitted-in-CustomerReference.ensures refl
+returns-5 c = arm-fits (bytes c.before.before.before) c.in-CustomerReference.is c.is_reference-in-CustomerReference.ensures refl c.fitted-in-CustomerReference.ensures refl
 
 returns-6 : tie.Need-returns-in-Text
 unfolding take_next wanted_of judged fields_of references wanted_after
-returns-6 c = arm (bytes c.before.before.before) c.before.enum_told-in-Text-1.given.1 c.take_first_piece.ensures
+returns-6 c = arm (bytes c.before.before) c.in-Text.is c.take_first_piece.ensures
 
 returns-7 : tie.Need-returns-in-FurtherText
 unfolding take_next wanted_of judged fields_of references wanted_after
-returns-7 c = arm (bytes c.before.before.before) c.before.enum_told-in-FurtherText-1.given.1 c.take_piece.ensures
+returns-7 c = arm (bytes c.before.before) c.in-FurtherText.is c.take_piece.ensures
 
 pub take_detail_first_spec : {M : Type 1} → statement M
 take_detail_first_spec =

@@ -7,11 +7,11 @@ use Rattle.read_file.proofs.at_end.Tie as tie
 
 returns : tie.Need-returns-then-has_ended
 unfolding at_end
-returns c = (rw (sym c.before.before.has_ended.ensures ∙ c.before.if-has_ended.true), refl)
+returns c = (rw (sym c.has_ended.ensures ∙ c.if-has_ended.true), refl)
 
 returns-2 : tie.Need-returns
 unfolding at_end
-returns-2 c = rw (sym c.before.has_ended.ensures ∙ c.if-has_ended.false)
+returns-2 c = rw (sym c.has_ended.ensures ∙ c.if-has_ended.false)
 
 pub at_end_spec : {M : Type 1} → statement M
 at_end_spec = tie.close (tie.spec (λ c κs. search rules) returns returns-2)

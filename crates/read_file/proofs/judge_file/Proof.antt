@@ -19,7 +19,7 @@ use Rattle.rules.specs.Verdict as verdict
 use Rattle.read_file.proofs.judge_file.Tie as tie
 
 abbrev invariant-loop : tie.invariant-loop-why
-invariant-loop file st₀ last₀ at₀ st last at = (at ≤ length file) × Held st × (st.file.records.0 + (length file - at) ≤ longest_file) × (run_from 0 verdict.start-st file ≡ run_from at (state_meant st) file) × (last_from 0 0 file ≡ last_from last at file)
+invariant-loop file st₀ last₀ at₀ st last at = (at ≤ length file) × Held st × (st.file.records.0 + (length file - at) ≤ longest_file) × (run_from 0 verdict.start file ≡ run_from at (state_meant st) file) × (last_from 0 0 file ≡ last_from last at file)
 
 abbrev decreases-loop : tie.decreases-loop-why
 decreases-loop file st₀ last₀ at₀ st last at = length file - at
@@ -34,7 +34,7 @@ abbrev Turn : Type 0
 Turn = tie.At-loop-why invariant-loop decreases-loop
 
 abbrev file-of : Turn → Bytes
-file-of c = c.before.before.before.before.before.args.file.now
+file-of c = c.args.file.now
 
 abbrev at_of : Turn → ℕ
 at_of c = c.loop-why.at
@@ -62,15 +62,15 @@ told c r e = subst (λ (x : Stepped). StepIs x (turn c).loop-why.st (drop (at_of
 -- ---- before the loop
 
 returns : tie.Need-returns-then-file-eq0 invariant-loop decreases-loop
-returns c = judge-empty c.before.before.args.file.now c.if-file-eq0.true
+returns c = judge-empty c.args.file.now c.if-file-eq0.true
 
 returns-2 : tie.Need-returns-then-file-gt-LONGEST_FILE invariant-loop decreases-loop
-returns-2 c = judge-long c.before.before.before.args.file.now (omega arith) (omega arith)
+returns-2 c = judge-long c.args.file.now (omega arith) (omega arith)
 
 loop-holds : tie.Need-loop-why-init invariant-loop decreases-loop
 loop-holds c =
     let e = c.start-st.ensures in
-    (omega arith, e.1, omega arith, ap (λ (s : verdict.State). run_from 0 s c.before.before.before.before.args.file.now) (sym e.0), refl)
+    (omega arith, e.1, omega arith, ap (λ (s : verdict.State). run_from 0 s c.args.file.now) (sym e.0), refl)
 
 step-requires : tie.Need-step-requires invariant-loop decreases-loop
 step-requires c κs =
@@ -82,30 +82,30 @@ step-requires c κs =
 
 returns-3 : tie.Need-returns-in-End invariant-loop decreases-loop
 returns-3 c =
-    let t = turn c.before.before.before in
-    let z = told c.before.before.before _ c.before.enum_told-1.given.1 in
+    let t = turn c.before.before in
+    let z = told c.before.before _ c.in-End.is in
     let l = length-drop (at_of t) (file-of t) in
-    judged-end (file-of t) t.loop-why.st t.loop-why.last (omega arith) (omega arith) t.loop-why.inv.1 (omega (arith, t.loop-why.inv.2))
-    (t.loop-why.inv.3 ∙ run_end (at_of t) (state-of t) (file-of t) (omega arith))
-    (t.loop-why.inv.4 ∙ last_end _ (at_of t) (file-of t) (omega arith))
+    judged-end (file-of t) t.loop-why.st t.loop-why.last (omega arith) (omega arith) t.loop-why.invariant.1 (omega (arith, t.loop-why.invariant.2))
+    (t.loop-why.invariant.3 ∙ run_end (at_of t) (state-of t) (file-of t) (omega arith))
+    (t.loop-why.invariant.4 ∙ last_end _ (at_of t) (file-of t) (omega arith))
     c.at_end.result c.at_end.ensures
 
 -- ---- the record is refused
 
 add-place : tie.Need-overflow_add-place invariant-loop decreases-loop
 add-place c =
-    let s = c.before.before.before.before.before in
+    let s = c.before.before.before in
     let l = length-drop (at_of (turn s)) (file-of (turn s)) in
-    let z = told s _ c.before.before.before.why-1.given.1 in
+    let z = told s _ c.in-Refused.is in
     omega (arith, z.within)
 
 returns-4 : tie.Need-returns-in-Refused invariant-loop decreases-loop
 returns-4 c =
-    let s = c.before.before.before.before.before in
+    let s = c.before.before.before in
     let t = turn s in
     let l = length-drop (at_of t) (file-of t) in
-    let z = told s _ c.before.before.before.why-1.given.1 in
-    judge-stop (file-of t) (omega arith) (omega arith) _ (t.loop-why.inv.3
+    let z = told s _ c.in-Refused.is in
+    judge-stop (file-of t) (omega arith) (omega arith) _ (t.loop-why.invariant.3
     ∙ run-stop (at_of t) (record_size (first_record (lines_of (drop (at_of t) (file-of t))))) (state-of t) (file-of t) (omega (arith, z.some_byte)) refl _ z.stops)
 
 -- ---- the record is accepted
@@ -114,10 +114,10 @@ abbrev Next : Type 0
 Next = tie.In-Next invariant-loop decreases-loop
 
 abbrev step_of : Next → Stepping
-step_of c = c.before.before.before
+step_of c = c.before
 
-passed : (c : Next) → Passed (turn (step_of c)).loop-why.st (drop (at_of (turn (step_of c))) (file-of (turn (step_of c)))) c.before.next-1.given.0.0 c.before.next-1.given.0.1.0
-passed c = told (step_of c) _ c.before.next-1.given.1
+passed : (c : Next) → Passed (turn (step_of c)).loop-why.st (drop (at_of (turn (step_of c))) (file-of (turn (step_of c)))) c.in-Next.next c.in-Next.size
+passed c = told (step_of c) _ c.in-Next.is
 
 add_at : tie.Need-overflow_add-at invariant-loop decreases-loop
 add_at c = let t = turn (step_of c) in let l = length-drop (at_of t) (file-of t) in omega (arith, (passed c).ranges)
@@ -132,9 +132,9 @@ loop-again c =
     let z = passed c in (
       omega (arith, z.fits),
       z.held,
-      omega (arith, z.records, z.fits, t.loop-why.inv.2),
-      t.loop-why.inv.3 ∙ run-go (at_of t) _ (state-of t) (file-of t) (omega (arith, z.fits, z.some_byte)) z.extent _ z.steps,
-      t.loop-why.inv.4 ∙ last-go (at_of t) _ (state-of t) (file-of t) (omega (arith, z.fits, z.some_byte)) z.extent _,
+      omega (arith, z.records, z.fits, t.loop.invariant.2),
+      t.loop.invariant.3 ∙ run-go (at_of t) _ (state-of t) (file-of t) (omega (arith, z.fits, z.some_byte)) z.extent _ z.steps,
+      t.loop.invariant.4 ∙ last-go (at_of t) _ (state-of t) (file-of t) (omega (arith, z.fits, z.some_byte)) z.extent _,
     )
 
 pub judge_file_spec : {M : Type 1} → statement M

@@ -8,13 +8,13 @@ use Rattle.read_file.proofs.read.Tie as tie
 
 returns : tie.Need-returns-in-Accepted
 returns c =
-    let j = c.before.before.before.before in
-    sym (subst (λ (v : Judged). JudgedIs v j.before.before.args.file.now) c.before.before.good2.given.1 j.judge_file.ensures).accepts
+    let j = c.before.before in
+    sym (subst (λ (v : Judged). JudgedIs v j.args.file.now) c.good2.given.1 j.judge_file.ensures).accepts
 
 returns-2 : tie.Need-returns-in-Refused
 returns-2 c =
-    let j = c.before.before.before in
-    sym (subst (λ (v : Judged). JudgedIs v j.before.before.args.file.now) c.before.why-1.given.1 j.judge_file.ensures)
+    let j = c.before in
+    sym (subst (λ (v : Judged). JudgedIs v j.args.file.now) c.in-Refused.is j.judge_file.ensures)
 
 pub read_spec : {M : Type 1} → statement M
 read_spec = tie.close (tie.spec (λ c κs. search rules) (λ c. search rules) (λ c. search rules) returns returns-2)

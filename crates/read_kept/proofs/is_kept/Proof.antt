@@ -6,22 +6,22 @@ use Rattle.read_kept.proofs.is_kept.Statement.{statement}
 use Rattle.read_kept.proofs.is_kept.Tie as tie
 
 returns : tie.Need-returns-in-Amount
-returns c = rw (sym c.before.before.kept_for.ensures ∙ ap keep_meant c.enum_told-1.given.1)
+returns c = rw (sym c.kept_for.ensures ∙ ap keep_meant c.in-Amount.is)
 
 returns-2 : tie.Need-returns-in-Total
-returns-2 c = rw (sym c.before.before.kept_for.ensures ∙ ap keep_meant c.enum_told-in-Total-1.given.1)
+returns-2 c = rw (sym c.kept_for.ensures ∙ ap keep_meant c.in-Total.is)
 
 returns-3 : tie.Need-returns-in-Count
-returns-3 c = rw (sym c.before.before.kept_for.ensures ∙ ap keep_meant c.enum_told-in-Count-1.given.1)
+returns-3 c = rw (sym c.kept_for.ensures ∙ ap keep_meant c.in-Count.is)
 
 returns-4 : tie.Need-returns-in-Records
-returns-4 c = rw (sym c.before.before.kept_for.ensures ∙ ap keep_meant c.enum_told-in-Records-1.given.1)
+returns-4 c = rw (sym c.kept_for.ensures ∙ ap keep_meant c.in-Records.is)
 
 returns-5 : tie.Need-returns-in-Length
-returns-5 c = rw (sym c.before.before.kept_for.ensures ∙ ap keep_meant c.enum_told-in-Length-1.given.1)
+returns-5 c = rw (sym c.kept_for.ensures ∙ ap keep_meant c.in-Length.is)
 
 returns-6 : tie.Need-returns-in-Nothing
-returns-6 c = rw (sym c.before.before.kept_for.ensures ∙ ap keep_meant c.enum_told-in-Nothing-1.given.1)
+returns-6 c = rw (sym c.kept_for.ensures ∙ ap keep_meant c.in-Nothing.is)
 
 pub is_kept_spec : {M : Type 1} → statement M
 is_kept_spec =

@@ -13,32 +13,32 @@ use Rattle.read_line_checks.proofs.good_line.Statement.{statement}
 use Rattle.read_line_checks.proofs.good_line.Tie as tie
 
 returns : tie.Need-returns-in-Refused
-returns c = rw c.before.why-1.given.1 at c.before.before.before.clean_line.ensures
+returns c = rw c.in-Refused.is at c.clean_line.ensures
 
 returns-2 : tie.Need-returns-in-None
 returns-2 c =
-    let clean = c.before.before.before.before in
-    let a = clean.before.before.before.before.args in
-    let g = rw clean.e-1.given.1 at clean.before.before.clean_line.ensures in
-    (line_code a.start.0 a.limit (first_line (drop a.start.0 a.s.now)) g.0 (ap code_found (sym c.enum_told-1.given.1) ∙ c.before.before.code_at.ensures), omega arith)
+    let clean = c.before.before in
+    let a = clean.args in
+    let g = rw clean.in-Ends.is at clean.clean_line.ensures in
+    (line_code a.start.0 a.limit (first_line (drop a.start.0 a.s.now)) g.0 (ap code_found (sym c.in-None.is) ∙ c.code_at.ensures), omega arith)
 
-add-t13 : tie.Need-overflow-add-t13
+add-t13 : tie.Need-overflow_add-result
 add-t13 c =
-    let clean = c.before.before.before.before.before.before.before in
-    let a = clean.before.before.before.before.args in
-    let e = clean.e-1.given.0.0.0 in
-    let g = rw clean.e-1.given.1 at clean.before.before.clean_line.ensures in
-    let h = next-within a.s.now a.start.0 e (e + c.before.end_len.result) g.1 (rw c.before.end_len.ensures) in
+    let clean = c.before.before.before.before in
+    let a = clean.args in
+    let e = clean.in-Ends.e.0 in
+    let g = rw clean.in-Ends.is at clean.clean_line.ensures in
+    let h = next-within a.s.now a.start.0 e (e + c.end_len.result) g.1 (rw c.end_len.ensures) in
     omega arith
 
 returns-3 : tie.Need-returns-in-With
 returns-3 c =
-    let clean = c.before.before.before.before.before.before.before in let coded = c.before.before.before in
-    let a = clean.before.before.before.before.args in
-    let e = clean.e-1.given.0.0.0 in
-    let g = rw clean.e-1.given.1 at clean.before.before.clean_line.ensures in (
-      line-fine a.start.0 a.limit (first_line (drop a.start.0 a.s.now)) g.0 (code_meant coded.code-1.given.0.0) (ap code_found (sym coded.code-1.given.1) ∙ coded.before.before.code_at.ensures),
-      next-is a.s.now a.start.0 e (e + c.before.end_len.result) g.1 (rw c.before.end_len.ensures),
+    let clean = c.before.before.before.before in let coded = c.before.before in
+    let a = clean.args in
+    let e = clean.in-Ends.e.0 in
+    let g = rw clean.in-Ends.is at clean.clean_line.ensures in (
+      line-fine a.start.0 a.limit (first_line (drop a.start.0 a.s.now)) g.0 (code_meant coded.in-With.code) (ap code_found (sym coded.in-With.is) ∙ coded.code_at.ensures),
+      next-is a.s.now a.start.0 e (e + c.end_len.result) g.1 (rw c.end_len.ensures),
     )
 
 pub good_line_spec : {M : Type 1} → statement M

@@ -22,31 +22,31 @@ loop-holds c = (omega arith, refl)
 
 returns : tie.Need-returns-then-limit-e invariant-loop decreases-loop
 returns c =
-    let a = c.before.before.before.before.before.args in let at = c.before.before.before.loop-start.start in
-    (sym (c.before.before.before.loop-start.invariant.1 ∙ short-stop a.s.now at a.limit (omega arith) (omega arith)), omega arith)
+    let a = c.args in let at = c.loop-start.start in
+    (sym (c.loop-start.invariant.1 ∙ short-stop a.s.now at a.limit (omega arith) (omega arith)), omega arith)
 
 add_start : tie.Need-overflow_add-start invariant-loop decreases-loop
 add_start c =
-    let a = c.before.before.before.before.before.before.args in let at = c.before.before.before.before.loop-start.start in let e = c.before.before.body_end-e.result.0 in
-    let h = next-within a.s.now at e (e + c.end_len.result) c.before.before.body_end-e.ensures.0 (rw c.end_len.ensures) in
+    let a = c.args in let at = c.loop-start.start in let e = c.body_end-e.result.0 in
+    let h = next-within a.s.now at e (e + c.end_len.result) c.body_end-e.ensures.0 (rw c.end_len.ensures) in
     omega arith
 
 loop-less : tie.Need-loop-start-smaller invariant-loop decreases-loop
 loop-less c =
-    let a = c.before.before.before.before.before.before.args in let at = c.before.before.before.before.loop-start.start in let e = c.before.before.body_end-e.result.0 in
-    let h = next-after a.s.now at e (e + c.end_len.result) c.before.before.body_end-e.ensures.0 (rw c.end_len.ensures) (omega arith) in
+    let a = c.args in let at = c.loop-start.start in let e = c.body_end-e.result.0 in
+    let h = next-after a.s.now at e (e + c.end_len.result) c.body_end-e.ensures.0 (rw c.end_len.ensures) (omega arith) in
     omega arith
 
 loop-again : tie.Need-loop-start-preserved invariant-loop decreases-loop
 loop-again c =
-    let a = c.before.before.before.before.before.before.args in let at = c.before.before.before.before.loop-start.start in let e = c.before.before.body_end-e.result.0 in let p = c.before.before.body_end-e.ensures.0 in
+    let a = c.args in let at = c.loop-start.start in let e = c.body_end-e.result.0 in let p = c.body_end-e.ensures.0 in
     let w = next-within a.s.now at e (e + c.end_len.result) p (rw c.end_len.ensures) in
-    (omega arith, c.before.before.before.before.loop-start.invariant.1 ∙ short-go a.s.now at a.limit (omega arith) (e + c.end_len.result) (omega arith) (next-is a.s.now at e (e + c.end_len.result) p (rw c.end_len.ensures)))
+    (omega arith, c.loop-start.invariant.1 ∙ short-go a.s.now at a.limit (omega arith) (e + c.end_len.result) (omega arith) (next-is a.s.now at e (e + c.end_len.result) p (rw c.end_len.ensures)))
 
 returns-2 : tie.Need-returns invariant-loop decreases-loop
 returns-2 c =
-    let a = c.before.before.before.args in
-    (sym (c.before.loop-start.invariant.1 ∙ short-end a.s.now c.before.loop-start.start a.limit (omega arith)), tt)
+    let a = c.args in
+    (sym (c.loop-start.invariant.1 ∙ short-end a.s.now c.loop-start.start a.limit (omega arith)), tt)
 
 pub none_longer_spec : {M : Type 1} → statement M
 none_longer_spec =

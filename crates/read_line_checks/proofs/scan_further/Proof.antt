@@ -24,43 +24,43 @@ decreases-loop s limit code at₀ n₀ at n = length s - at
 
 loop-holds : tie.Need-loop-code-init invariant-loop decreases-loop
 loop-holds c =
-    let a = c.before.args in let p = c.before.requires in let m = line-some a.s.now p.0 in let f = line-fits a.s.now in
+    let a = c.args in let p = c.requires in let m = line-some a.s.now p.0 in let f = line-fits a.s.now in
     (omega arith, omega arith, omega arith, omega arith, first-go a.limit a.s.now p.0 (code_meant a.code) a.next.0 p.1.0 (omega arith))
 
 clean-line-requires : tie.Need-clean_line-requires invariant-loop decreases-loop
-clean-line-requires c κs = further-some c.before.before.before.before.args.s.now c.before.before.loop-code.at (sym c.before.begins_with.ensures ∙ c.loop-code-test.true)
+clean-line-requires c κs = further-some c.args.s.now c.loop-code.at (sym c.begins_with.ensures ∙ c.loop-code-test.true)
 
 returns : tie.Need-returns-in-Refused invariant-loop decreases-loop
 returns c =
-    let turn = c.before.before.before.before.before.before in let code_read = c.before.before.before.before in
-    let a = turn.before.before.args in
+    let turn = c.before.before.before.before in let code_read = c.before.before in
+    let a = turn.args in
     let at = turn.loop-code.at in
-    let t = sym code_read.before.begins_with.ensures ∙ code_read.loop-code-test.true in
+    let t = sym code_read.begins_with.ensures ∙ code_read.loop-code-test.true in
     let l = length-drop at a.s.now in
-    let g = rw c.before.why-1.given.1 at c.before.before.before.clean_line.ensures in
-    record { stops = further-stop a.s.now at t a.limit (first_record (lines_of a.s.now)) turn.loop-code.n turn.loop-code.invariant.4 _ g.0; some_byte = turn.before.before.requires.0; within = omega arith }
+    let g = rw c.in-Refused.is at c.clean_line.ensures in
+    record { stops = further-stop a.s.now at t a.limit (first_record (lines_of a.s.now)) turn.loop-code.n turn.loop-code.invariant.4 _ g.0; some_byte = turn.requires.0; within = omega arith }
 
 -- the line that a turn reads: its place, that it begins "88,", what is left of its checks, and the place after it
 abbrev Turn : Type 0
 Turn = tie.After-struct_known-1 invariant-loop decreases-loop
 
 abbrev bytes_of : Turn → Bytes
-bytes_of c = c.before.before.before.before.before.before.before.before.before.before.args.s.now
+bytes_of c = c.args.s.now
 
 abbrev at_of : Turn → ℕ
-at_of c = c.before.before.before.before.before.before.before.before.loop-code.at
+at_of c = c.loop-code.at
 
 abbrev next_of : Turn → ℕ
-next_of c = c.before.before.before.e-1.given.0.0.0 + c.before.end_len.result
+next_of c = c.in-Ends.e.0 + c.end_len.result
 
 is-88 : (c : Turn) → same_bytes (code_bytes continuation) (take 3 (drop (at_of c) (bytes_of c))) ≡ true
-is-88 c = sym c.before.before.before.before.before.before.before.begins_with.ensures ∙ c.before.before.before.before.before.before.loop-code-test.true
+is-88 c = sym c.begins_with.ensures ∙ c.loop-code-test.true
 
 the-next : (c : Turn) → next_of c ≡ at_of c + line_len (drop (at_of c) (bytes_of c))
 the-next c =
-    let clean = c.before.before.before in
-    let g = rw clean.e-1.given.1 at clean.before.before.clean_line.ensures in
-    next-is (bytes_of c) (at_of c) clean.e-1.given.0.0.0 (next_of c) g.1 (ap (λ (n : ℕ). clean.e-1.given.0.0.0 + n) c.before.end_len.ensures)
+    let clean = c.before.before in
+    let g = rw clean.in-Ends.is at clean.clean_line.ensures in
+    next-is (bytes_of c) (at_of c) clean.in-Ends.e.0 (next_of c) g.1 (ap (λ (n : ℕ). clean.in-Ends.e.0 + n) c.end_len.ensures)
 
 add_at : tie.Need-overflow_add-at invariant-loop decreases-loop
 add_at c =
@@ -78,11 +78,11 @@ loop-less c =
 
 loop-again : tie.Need-loop-code-preserved invariant-loop decreases-loop
 loop-again c =
-    let clean = c.before.before.before in let turn = c.before.before.before.before.before.before.before.before in
-    let limit = turn.before.before.args.limit in
+    let clean = c.before.before in let turn = c.before.before.before.before.before.before in
+    let limit = turn.args.limit in
     let s = bytes_of c in
     let at = at_of c in
-    let g = rw clean.e-1.given.1 at clean.before.before.clean_line.ensures in
+    let g = rw clean.in-Ends.is at clean.clean_line.ensures in
     let l = length-drop at s in let h = further-some s at (is-88 c) in
     let m = line-some (drop at s) (omega arith) in let f = line-fits (drop at s) in (
       omega (arith, the-next c),
@@ -96,11 +96,11 @@ loop-again c =
 returns-2 : tie.Need-returns invariant-loop decreases-loop
 unfolding good_lines record_size
 returns-2 c =
-    let a = c.before.before.before.before.args in let at = c.before.before.loop-code.at in
-    let e = further-end a.s.now at a.limit (first_record (lines_of a.s.now)) c.before.before.loop-code.n (sym c.before.begins_with.ensures ∙ c.loop-code-test.false) c.before.before.loop-code.invariant.4 in
+    let a = c.args in let at = c.loop-code.at in
+    let e = further-end a.s.now at a.limit (first_record (lines_of a.s.now)) c.loop-code.n (sym c.begins_with.ensures ∙ c.loop-code-test.false) c.loop-code.invariant.4 in
     record {
       good = e.checks;
-      code = good-code 0 a.limit (first_line a.s.now) (code_meant a.code) c.before.before.before.before.requires.1.0;
+      code = good-code 0 a.limit (first_line a.s.now) (code_meant a.code) c.requires.1.0;
       count = omega (arith, e.count);
       extent = omega (arith, e.size);
       some-line = omega arith;

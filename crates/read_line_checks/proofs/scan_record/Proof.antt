@@ -6,12 +6,12 @@ use Rattle.read_line_checks.proofs.scan_record.Statement.{statement}
 use Rattle.read_line_checks.proofs.scan_record.Tie as tie
 
 scan-further-requires : tie.Need-scan_further-requires
-scan-further-requires c κs = (omega arith, rw c.before.code-1.given.1 at c.before.before.before.good_line.ensures)
+scan-further-requires c κs = (omega arith, rw c.in-Good.is at c.good_line.ensures)
 
 returns-2 : tie.Need-returns-in-Refused
 returns-2 c =
-    let a = c.before.before.before.before.before.before.args in
-    let g = rw c.before.why-1.given.1 at c.before.before.before.good_line.ensures in
+    let a = c.args in
+    let g = rw c.in-Refused.is at c.good_line.ensures in
     record { stops = first-stop a.limit a.s.now (omega arith) _ g.0; some_byte = omega arith; within = omega (arith, g.1) }
 
 pub scan_record_spec : {M : Type 1} → statement M

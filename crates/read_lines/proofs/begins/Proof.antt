@@ -8,8 +8,8 @@ use Rattle.read_lines.proofs.begins.Tie as tie
 
 returns : tie.Need-returns
 returns c =
-    let a = c.before.before.before.args in
-    c.begins_with.ensures ∙ ap (λ (bs : Bytes). same_bytes bs (take 3 (drop a.start.0 a.s.now))) c.before.digits_of-d.ensures
+    let a = c.args in
+    c.begins_with.ensures ∙ ap (λ (bs : Bytes). same_bytes bs (take 3 (drop a.start.0 a.s.now))) c.digits_of-d.ensures
 
 pub begins_spec : {M : Type 1} → statement M
 begins_spec = tie.close (tie.spec (λ c κs. search rules) (λ c κs. search rules) returns)

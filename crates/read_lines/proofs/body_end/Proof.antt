@@ -18,22 +18,22 @@ decreases-loop s i₀ i = length s - i
 
 returns : tie.Need-returns-then-end_len-gt0 invariant-loop decreases-loop
 returns c =
-    let i : ℕ = c.before.before.before.loop-i.i in
-    let s = c.before.before.before.before.before.args.s.now in
-    let h = run-stop is_end s i (omega arith) (is-end-at s i (omega arith) ∙ end-some (end_of (drop i s)) (omega (arith, c.before.end_len.ensures))) in
+    let i : ℕ = c.loop-i.i in
+    let s = c.args.s.now in
+    let h = run-stop is_end s i (omega arith) (is-end-at s i (omega arith) ∙ end-some (end_of (drop i s)) (omega (arith, c.end_len.ensures))) in
     (omega arith, omega arith)
 
 loop-again : tie.Need-loop-i-preserved invariant-loop decreases-loop
 loop-again c =
-    let i : ℕ = c.before.before.before.before.loop-i.i in
-    let s = c.before.before.before.before.before.before.args.s.now in
-    let h = run_step is_end s i (omega arith) (is-end-at s i (omega arith) ∙ end_empty (end_of (drop i s)) (omega (arith, c.before.before.end_len.ensures))) in
+    let i : ℕ = c.loop-i.i in
+    let s = c.args.s.now in
+    let h = run_step is_end s i (omega arith) (is-end-at s i (omega arith) ∙ end_empty (end_of (drop i s)) (omega (arith, c.end_len.ensures))) in
     let f = body-from s (i + 1) c.plain_end-i.result.0 255 c.plain_end-i.ensures.0 in
     (omega arith, omega arith)
 
 returns-2 : tie.Need-returns invariant-loop decreases-loop
 returns-2 c =
-    let h = run_none is_end c.before.before.before.args.s.now c.before.loop-i.i (omega arith) in
+    let h = run_none is_end c.args.s.now c.loop-i.i (omega arith) in
     (omega arith, omega arith)
 
 pub body_end_spec : {M : Type 1} → statement M

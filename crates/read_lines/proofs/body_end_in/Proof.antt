@@ -10,23 +10,23 @@ use Rattle.read_lines.proofs.LineLaws.{next-within, body-in}
 use Rattle.read_lines.proofs.body_end_in.Statement.{statement}
 use Rattle.read_lines.proofs.body_end_in.Tie as tie
 
-add-if1 : tie.Need-overflow-add-if1
+add-if1 : tie.Need-overflow_add-e
 add-if1 c =
-    let a = c.before.before.before.before.args in
-    let e = c.before.before.body_end-e.result.0 in
-    let h = next-within a.s.now a.start.0 e (e + c.before.end_len.result) c.before.before.body_end-e.ensures.0 (rw c.before.end_len.ensures) in
+    let a = c.args in
+    let e = c.body_end-e.result.0 in
+    let h = next-within a.s.now a.start.0 e (e + c.end_len.result) c.body_end-e.ensures.0 (rw c.end_len.ensures) in
     omega arith
 
 returns : tie.Need-returns-then-e-end_len
 returns c =
-    let a = c.before.before.before.before.before.args in
-    let e = c.before.before.before.body_end-e.result.0 in
-    body-in a.s.now a.size a.start.0 e (e + c.before.before.end_len.result) c.before.before.before.body_end-e.ensures.0 (rw c.before.before.end_len.ensures) c.if-e-end_len.true
+    let a = c.args in
+    let e = c.body_end-e.result.0 in
+    body-in a.s.now a.size a.start.0 e (e + c.end_len.result) c.body_end-e.ensures.0 (rw c.end_len.ensures) c.if-e-end_len.true
 
 returns-2 : tie.Need-returns
 returns-2 c =
-    let a = c.before.before.before.before.before.before.before.args in
-    c.body_end.ensures.0 ∙ ap (λ (bs : Bytes). a.start.0 + body_len (drop a.start.0 bs)) c.before.front.ensures
+    let a = c.args in
+    c.body_end.ensures.0 ∙ ap (λ (bs : Bytes). a.start.0 + body_len (drop a.start.0 bs)) c.front.ensures
 
 pub body_end_in_spec : {M : Type 1} → statement M
 body_end_in_spec =

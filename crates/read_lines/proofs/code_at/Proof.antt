@@ -16,10 +16,10 @@ Left n s at = code_of (first_line (drop at s)) ≡ code_in (drop n all_codes) (f
 
 -- the bytes and the place, at each test
 abbrev s-1 : tie.After-begins → Bytes
-s-1 c = c.before.before.args.s.now
+s-1 c = c.args.s.now
 
 abbrev at_1 : tie.After-begins → ℕ
-at_1 c = c.before.before.args.start.0
+at_1 c = c.args.start.0
 
 abbrev s-2 : tie.After-begins-2 → Bytes
 s-2 c = s-1 c.before.before
@@ -65,53 +65,53 @@ at_8 c = at_7 c.before.before
 
 left-1 : (c : tie.Else-begins) → Left 1 (s-1 c.before) (at_1 c.before)
 unfolding code_of
-left-1 c = code-after (s-1 c.before) (at_1 c.before) file_header (drop 1 all_codes) c.before.begins.result c.before.begins.ensures c.if-begins.false
+left-1 c = code-after (s-1 c.before) (at_1 c.before) file_header (drop 1 all_codes) c.begins.result c.begins.ensures c.if-begins.false
 
 left-2 : (c : tie.Else-begins-2) → Left 2 (s-2 c.before) (at-2 c.before)
-left-2 c = left-1 c.before.before ∙ code-after (s-2 c.before) (at-2 c.before) group_header (drop 2 all_codes) c.before.begins-2.result c.before.begins-2.ensures c.if-begins-2.false
+left-2 c = left-1 c.before.before ∙ code-after (s-2 c.before) (at-2 c.before) group_header (drop 2 all_codes) c.begins-2.result c.begins-2.ensures c.if-begins-2.false
 
 left-3 : (c : tie.Else-begins-3) → Left 3 (s-3 c.before) (at-3 c.before)
-left-3 c = left-2 c.before.before ∙ code-after (s-3 c.before) (at-3 c.before) account_header (drop 3 all_codes) c.before.begins-3.result c.before.begins-3.ensures c.if-begins-3.false
+left-3 c = left-2 c.before.before ∙ code-after (s-3 c.before) (at-3 c.before) account_header (drop 3 all_codes) c.begins-3.result c.begins-3.ensures c.if-begins-3.false
 
 left-4 : (c : tie.Else-begins-4) → Left 4 (s-4 c.before) (at-4 c.before)
-left-4 c = left-3 c.before.before ∙ code-after (s-4 c.before) (at-4 c.before) detail (drop 4 all_codes) c.before.begins-4.result c.before.begins-4.ensures c.if-begins-4.false
+left-4 c = left-3 c.before.before ∙ code-after (s-4 c.before) (at-4 c.before) detail (drop 4 all_codes) c.begins-4.result c.begins-4.ensures c.if-begins-4.false
 
 left-5 : (c : tie.Else-begins-5) → Left 5 (s-5 c.before) (at_5 c.before)
-left-5 c = left-4 c.before.before ∙ code-after (s-5 c.before) (at_5 c.before) account_trailer (drop 5 all_codes) c.before.begins-5.result c.before.begins-5.ensures c.if-begins-5.false
+left-5 c = left-4 c.before.before ∙ code-after (s-5 c.before) (at_5 c.before) account_trailer (drop 5 all_codes) c.begins-5.result c.begins-5.ensures c.if-begins-5.false
 
 left-6 : (c : tie.Else-begins-6) → Left 6 (s-6 c.before) (at-6 c.before)
-left-6 c = left-5 c.before.before ∙ code-after (s-6 c.before) (at-6 c.before) group_trailer (drop 6 all_codes) c.before.begins-6.result c.before.begins-6.ensures c.if-begins-6.false
+left-6 c = left-5 c.before.before ∙ code-after (s-6 c.before) (at-6 c.before) group_trailer (drop 6 all_codes) c.begins-6.result c.begins-6.ensures c.if-begins-6.false
 
 left-7 : (c : tie.Else-begins-7) → Left 7 (s-7 c.before) (at_7 c.before)
-left-7 c = left-6 c.before.before ∙ code-after (s-7 c.before) (at_7 c.before) file_trailer (drop 7 all_codes) c.before.begins-7.result c.before.begins-7.ensures c.if-begins-7.false
+left-7 c = left-6 c.before.before ∙ code-after (s-7 c.before) (at_7 c.before) file_trailer (drop 7 all_codes) c.begins-7.result c.begins-7.ensures c.if-begins-7.false
 
 left-8 : (c : tie.Else-begins-8) → Left 8 (s-8 c.before) (at_8 c.before)
-left-8 c = left-7 c.before.before ∙ code-after (s-8 c.before) (at_8 c.before) continuation (drop 8 all_codes) c.before.begins-8.result c.before.begins-8.ensures c.if-begins-8.false
+left-8 c = left-7 c.before.before ∙ code-after (s-8 c.before) (at_8 c.before) continuation (drop 8 all_codes) c.begins-8.result c.begins-8.ensures c.if-begins-8.false
 
 returns : tie.Need-returns-then-begins
 unfolding code_of
-returns c = sym (code_here (s-1 c.before) (at_1 c.before) file_header (drop 1 all_codes) c.before.begins.result c.before.begins.ensures c.if-begins.true)
+returns c = sym (code_here (s-1 c.before) (at_1 c.before) file_header (drop 1 all_codes) c.begins.result c.begins.ensures c.if-begins.true)
 
 returns-2 : tie.Need-returns-then-begins-2
-returns-2 c = sym (left-1 c.before.before ∙ code_here (s-2 c.before) (at-2 c.before) group_header (drop 2 all_codes) c.before.begins-2.result c.before.begins-2.ensures c.if-begins-2.true)
+returns-2 c = sym (left-1 c.before.before ∙ code_here (s-2 c.before) (at-2 c.before) group_header (drop 2 all_codes) c.begins-2.result c.begins-2.ensures c.if-begins-2.true)
 
 returns-3 : tie.Need-returns-then-begins-3
-returns-3 c = sym (left-2 c.before.before ∙ code_here (s-3 c.before) (at-3 c.before) account_header (drop 3 all_codes) c.before.begins-3.result c.before.begins-3.ensures c.if-begins-3.true)
+returns-3 c = sym (left-2 c.before.before ∙ code_here (s-3 c.before) (at-3 c.before) account_header (drop 3 all_codes) c.begins-3.result c.begins-3.ensures c.if-begins-3.true)
 
 returns-4 : tie.Need-returns-then-begins-4
-returns-4 c = sym (left-3 c.before.before ∙ code_here (s-4 c.before) (at-4 c.before) detail (drop 4 all_codes) c.before.begins-4.result c.before.begins-4.ensures c.if-begins-4.true)
+returns-4 c = sym (left-3 c.before.before ∙ code_here (s-4 c.before) (at-4 c.before) detail (drop 4 all_codes) c.begins-4.result c.begins-4.ensures c.if-begins-4.true)
 
 returns-5 : tie.Need-returns-then-begins-5
-returns-5 c = sym (left-4 c.before.before ∙ code_here (s-5 c.before) (at_5 c.before) account_trailer (drop 5 all_codes) c.before.begins-5.result c.before.begins-5.ensures c.if-begins-5.true)
+returns-5 c = sym (left-4 c.before.before ∙ code_here (s-5 c.before) (at_5 c.before) account_trailer (drop 5 all_codes) c.begins-5.result c.begins-5.ensures c.if-begins-5.true)
 
 returns-6 : tie.Need-returns-then-begins-6
-returns-6 c = sym (left-5 c.before.before ∙ code_here (s-6 c.before) (at-6 c.before) group_trailer (drop 6 all_codes) c.before.begins-6.result c.before.begins-6.ensures c.if-begins-6.true)
+returns-6 c = sym (left-5 c.before.before ∙ code_here (s-6 c.before) (at-6 c.before) group_trailer (drop 6 all_codes) c.begins-6.result c.begins-6.ensures c.if-begins-6.true)
 
 returns-7 : tie.Need-returns-then-begins-7
-returns-7 c = sym (left-6 c.before.before ∙ code_here (s-7 c.before) (at_7 c.before) file_trailer (drop 7 all_codes) c.before.begins-7.result c.before.begins-7.ensures c.if-begins-7.true)
+returns-7 c = sym (left-6 c.before.before ∙ code_here (s-7 c.before) (at_7 c.before) file_trailer (drop 7 all_codes) c.begins-7.result c.begins-7.ensures c.if-begins-7.true)
 
 returns-8 : tie.Need-returns-then-begins-8
-returns-8 c = sym (left-7 c.before.before ∙ code_here (s-8 c.before) (at_8 c.before) continuation (drop 8 all_codes) c.before.begins-8.result c.before.begins-8.ensures c.if-begins-8.true)
+returns-8 c = sym (left-7 c.before.before ∙ code_here (s-8 c.before) (at_8 c.before) continuation (drop 8 all_codes) c.begins-8.result c.begins-8.ensures c.if-begins-8.true)
 
 returns-9 : tie.Need-returns
 unfolding code_in

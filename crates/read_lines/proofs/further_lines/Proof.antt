@@ -29,13 +29,13 @@ abbrev Line : Type 0
 Line = tie.After-next_line-end invariant-loop decreases-loop
 
 abbrev bytes : Line → Bytes
-bytes c = c.before.before.before.before.before.args.s.now
+bytes c = c.args.s.now
 
 abbrev at_of : Line → ℕ
-at_of c = c.before.before.before.loop-end.end.0
+at_of c = c.loop-end.end.0
 
 carries-on : (c : Line) → same_bytes (code_bytes continuation) (take 3 (drop (at_of c) (bytes c))) ≡ true
-carries-on c = sym c.before.before.begins.ensures ∙ c.before.loop-end-test.true
+carries-on c = sym c.begins.ensures ∙ c.loop-end-test.true
 
 -- it has a byte
 further-on : (c : Line) → (at_of c < length (bytes c)) × (at_of c < c.next_line-end.result.0)
@@ -47,14 +47,14 @@ loop-holds : tie.Need-loop-end-init invariant-loop decreases-loop
 loop-holds c = (omega arith, refl, omega arith, omega arith)
 
 add-n : tie.Need-overflow_add-n invariant-loop decreases-loop
-add-n c = omega (arith, (further-on c).0, c.before.before.before.loop-end.invariant.3)
+add-n c = omega (arith, (further-on c).0, c.loop-end.invariant.3)
 
 loop-less : tie.Need-loop-end-smaller invariant-loop decreases-loop
 loop-less c = omega (arith, (further-on c).0, (further-on c).1)
 
 loop-again : tie.Need-loop-end-preserved invariant-loop decreases-loop
 loop-again c =
-    let i = c.before.before.before.loop-end.invariant in
+    let i = c.loop-end.invariant in
     let next = c.next_line-end in (
       omega (arith, i.0, (further-on c).0, next.ensures.1),
       i.1 ∙ further-size (bytes c) (at_of c) (carries-on c) next.result.0 next.ensures.0,
@@ -65,9 +65,9 @@ loop-again c =
 returns : tie.Need-returns invariant-loop decreases-loop
 unfolding record_size
 returns c =
-    let s = c.before.before.before.before.args.s.now in
-    let l = c.before.before.loop-end in
-    let over = further-none s l.end.0 (sym c.before.begins.ensures ∙ c.loop-end-test.false) in
+    let s = c.args.s.now in
+    let l = c.loop-end in
+    let over = further-none s l.end.0 (sym c.begins.ensures ∙ c.loop-end-test.false) in
     let size = rw over at l.invariant.1 in
     let count = rw over at l.invariant.2 in
     record { count = omega (arith, count); ends = omega (arith, size); within = l.invariant.0; few = l.invariant.3 }

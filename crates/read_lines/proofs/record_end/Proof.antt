@@ -8,10 +8,10 @@ use Rattle.read_lines.proofs.record_end.Tie as tie
 
 returns : tie.Need-returns
 returns c =
-    let a = c.before.before.before.before.args in
-    let next = c.before.before.next_line in
-    let further = c.before.further_lines.ensures in
-    (further.ends ∙ sym (record-start a.s.now a.start.0 next.result-1.0 next.ensures.0), omega (arith, further.within, next.ensures.1))
+    let a = c.args in
+    let next = c.next_line in
+    let further = c.further_lines.ensures in
+    (further.ends ∙ sym (record-start a.s.now a.start.0 next.result.0 next.ensures.0), omega (arith, further.within, next.ensures.1))
 
 pub record_end_spec : {M : Type 1} → statement M
 record_end_spec = tie.close (tie.spec (λ c κs. search rules) (λ c κs. search rules) returns)

@@ -7,35 +7,35 @@ use Rattle.read_trailers.proofs.balance.Tie as tie
 
 returns : tie.Need-returns-in-FileHeader
 unfolding balanced_k
-returns c = rw c.enum_told-1.given.1
+returns c = rw c.in-FileHeader.is
 
 returns-2 : tie.Need-returns-in-GroupHeader
 unfolding balanced_k
-returns-2 c = rw c.enum_told-in-GroupHeader-1.given.1
+returns-2 c = rw c.in-GroupHeader.is
 
 returns-3 : tie.Need-returns-in-AccountHeader
 unfolding balanced_k
-returns-3 c = rw c.enum_told-in-AccountHeader-1.given.1
+returns-3 c = rw c.in-AccountHeader.is
 
 returns-4 : tie.Need-returns-in-Detail
 unfolding balanced_k
-returns-4 c = rw c.enum_told-in-Detail-1.given.1
+returns-4 c = rw c.in-Detail.is
 
 returns-5 : tie.Need-returns-in-AccountTrailer
 unfolding balanced_k
-returns-5 c = c.right_account.ensures ∙ sym (rw c.before.enum_told-in-AccountTrailer-1.given.1)
+returns-5 c = c.right_account.ensures ∙ sym (rw c.in-AccountTrailer.is)
 
 returns-6 : tie.Need-returns-in-GroupTrailer
 unfolding balanced_k
-returns-6 c = c.right_trailer.ensures ∙ sym (rw c.before.enum_told-in-GroupTrailer-1.given.1)
+returns-6 c = c.right_trailer.ensures ∙ sym (rw c.in-GroupTrailer.is)
 
 returns-7 : tie.Need-returns-in-FileTrailer
 unfolding balanced_k
-returns-7 c = c.right_trailer-in-FileTrailer.ensures ∙ sym (rw c.before.enum_told-in-FileTrailer-1.given.1)
+returns-7 c = c.right_trailer-in-FileTrailer.ensures ∙ sym (rw c.in-FileTrailer.is)
 
 returns-8 : tie.Need-returns-in-Continuation
 unfolding balanced_k
-returns-8 c = rw c.enum_told-in-Continuation-1.given.1
+returns-8 c = rw c.in-Continuation.is
 
 pub balance_spec : {M : Type 1} → statement M
 balance_spec =

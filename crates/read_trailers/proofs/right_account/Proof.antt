@@ -8,11 +8,11 @@ use Rattle.read_trailers.proofs.right_account.Tie as tie
 
 returns : tie.Need-returns-in-Refused
 unfolding account_k
-returns c = sym (rw (sym c.before.before.before.right_total.ensures ∙ ap checked_of c.before.why-1.given.1))
+returns c = sym (rw (sym c.right_total.ensures ∙ ap checked_of c.in-Refused.is))
 
 returns-2 : tie.Need-returns
 unfolding account_k
-returns-2 c = c.right_records.ensures ∙ sym (rw (sym c.before.before.before.right_total.ensures ∙ ap checked_of c.before.enum_told-1.given.1))
+returns-2 c = c.right_records.ensures ∙ sym (rw (sym c.right_total.ensures ∙ ap checked_of c.in-Fine.is))
 
 pub right_account_spec : {M : Type 1} → statement M
 right_account_spec =

@@ -5,12 +5,12 @@ use Rattle.read_trailers.proofs.right_count.Tie as tie
 
 returns : tie.Need-returns-then-n-count
 returns c =
-    let a = c.before.before.before.before.before.before.args in
+    let a = c.args in
     count-wrong a.n.0 a.kept c.if-n-count.true
 
 returns-2 : tie.Need-returns
 returns-2 c =
-    let a = c.before.before.before.before.before.before.args in
+    let a = c.args in
     count-fine a.n.0 a.kept c.if-n-count.false
 
 pub right_count_spec : {M : Type 1} → statement M

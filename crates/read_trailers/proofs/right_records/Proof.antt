@@ -6,12 +6,12 @@ use Rattle.read_trailers.proofs.right_records.Tie as tie
 
 returns : tie.Need-returns-then-n-records
 returns c =
-    let a = c.before.before.before.before.before.before.before.args in
+    let a = c.args in
     records-wrong (summary_meant a.s) a.kept c.if-n-records.true
 
 returns-2 : tie.Need-returns
 returns-2 c =
-    let a = c.before.before.before.before.before.before.before.args in
+    let a = c.args in
     records-fine (summary_meant a.s) a.kept c.if-n-records.false
 
 pub right_records_spec : {M : Type 1} → statement M

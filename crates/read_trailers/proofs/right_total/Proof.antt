@@ -7,32 +7,32 @@ use Rattle.read_trailers.proofs.right_total.Tie as tie
 
 returns : tie.Need-returns-then-sum
 returns c =
-    let sign = c.before.before in let a = sign.before.before.before.before.before.args in
+    let sign = c.before.before in let a = sign.args in
     minus-wrong (summary_meant a.s) a.kept sign.if-kept.true (λ e. omega arith)
 
 returns-2 : tie.Need-returns-then-sum-magnitude
 returns-2 c =
-    let sign = c.before.before.before.before.before in let a = sign.before.before.before.before.before.args in
+    let sign = c.before.before.before.before.before in let a = sign.args in
     minus-wrong (summary_meant a.s) a.kept sign.if-kept.true (λ e. c.if-sum-magnitude.true (omega arith))
 
 returns-3 : tie.Need-returns-then-kept
 returns-3 c =
-    let sign = c.before.before.before.before.before in let a = sign.before.before.before.before.before.args in
+    let sign = c.before.before.before.before.before in let a = sign.args in
     minus-fine (summary_meant a.s) a.kept sign.if-kept.true (omega arith)
 
 returns-4 : tie.Need-returns-then-sum-2
 returns-4 c =
-    let sign = c.before.before in let a = sign.before.before.before.before.before.args in
+    let sign = c.before.before in let a = sign.args in
     plus-wrong (summary_meant a.s) a.kept sign.if-kept.false (λ e. omega arith)
 
 returns-5 : tie.Need-returns-then-sum-magnitude-2
 returns-5 c =
-    let sign = c.before.before.before.before.before in let a = sign.before.before.before.before.before.args in
+    let sign = c.before.before.before.before.before in let a = sign.args in
     plus-wrong (summary_meant a.s) a.kept sign.if-kept.false (λ e. c.if-sum-magnitude-2.true (omega arith))
 
 returns-6 : tie.Need-returns
 returns-6 c =
-    let sign = c.before.before.before.before.before in let a = sign.before.before.before.before.before.args in
+    let sign = c.before.before.before.before.before in let a = sign.args in
     plus-fine (summary_meant a.s) a.kept sign.if-kept.false (omega arith)
 
 pub right_total_spec : {M : Type 1} → statement M

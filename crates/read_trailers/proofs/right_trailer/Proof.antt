@@ -8,32 +8,32 @@ use Rattle.read_trailers.proofs.right_trailer.Tie as tie
 
 returns : tie.Need-returns-in-Refused
 unfolding trailer_k
-returns c = sym (rw (sym c.before.before.before.sum_within.ensures ∙ ap checked_of c.before.why-1.given.1))
+returns c = sym (rw (sym c.sum_within.ensures ∙ ap checked_of c.in-Refused.is))
 
 returns-2 : tie.Need-returns-in-Refused-right_total
 unfolding trailer_k
 returns-2 c =
     sym (rw (
-      sym c.before.before.before.before.before.before.sum_within.ensures ∙ ap checked_of c.before.before.before.before.enum_told-1.given.1,
-      sym c.before.before.before.right_total.ensures ∙ ap checked_of c.before.why-in-Refused-right_total-1.given.1,
+      sym c.sum_within.ensures ∙ ap checked_of c.in-Fine.is,
+      sym c.right_total.ensures ∙ ap checked_of c.in-Refused-right_total.is,
     ))
 
 returns-3 : tie.Need-returns-in-Refused-right_count
 unfolding trailer_k
 returns-3 c =
     sym (rw (
-      sym c.before.before.before.before.before.before.before.before.before.sum_within.ensures ∙ ap checked_of c.before.before.before.before.before.before.before.enum_told-1.given.1,
-      sym c.before.before.before.before.before.before.right_total.ensures ∙ ap checked_of c.before.before.before.before.enum_told-in-Fine-right_total-1.given.1,
-      sym c.before.before.before.right_count.ensures ∙ ap checked_of c.before.why-in-Refused-right_count-1.given.1,
+      sym c.sum_within.ensures ∙ ap checked_of c.in-Fine.is,
+      sym c.right_total.ensures ∙ ap checked_of c.in-Fine-right_total.is,
+      sym c.right_count.ensures ∙ ap checked_of c.in-Refused-right_count.is,
     ))
 
 returns-4 : tie.Need-returns
 unfolding trailer_k
 returns-4 c =
     c.right_records.ensures ∙ sym (rw (
-      sym c.before.before.before.before.before.before.before.before.before.sum_within.ensures ∙ ap checked_of c.before.before.before.before.before.before.before.enum_told-1.given.1,
-      sym c.before.before.before.before.before.before.right_total.ensures ∙ ap checked_of c.before.before.before.before.enum_told-in-Fine-right_total-1.given.1,
-      sym c.before.before.before.right_count.ensures ∙ ap checked_of c.before.enum_told-in-Fine-right_count-1.given.1,
+      sym c.sum_within.ensures ∙ ap checked_of c.in-Fine.is,
+      sym c.right_total.ensures ∙ ap checked_of c.in-Fine-right_total.is,
+      sym c.right_count.ensures ∙ ap checked_of c.in-Fine-right_count.is,
     ))
 
 pub right_trailer_spec : {M : Type 1} → statement M

@@ -14,7 +14,7 @@ returns-3 : tie.Need-returns-then-b-eq44
 returns-3 c = is-comma _ c.if-b-eq44.true
 
 returns-4 : tie.Need-returns
-returns-4 c = by-slash _ _ c.before.before.if-b-lt32.false c.before.if-b-gt126.false c.if-b-eq44.false refl
+returns-4 c = by-slash _ _ c.if-b-lt32.false c.if-b-gt126.false c.if-b-eq44.false refl
 
 pub in_field_spec : {M : Type 1} → statement M
 in_field_spec = tie.close (tie.spec returns returns-2 returns-3 returns-4)

@@ -22,16 +22,16 @@ returns : tie.Need-returns-then-not-in_field invariant-loop decreases-loop
 returns c =
     let d = c.before in
     let t = d.before.before in
-    stop in_field _ _ t.before.loop-i.invariant.1 t.loop-i-test.true (sym d.in_field.ensures ∙ not-true _ c.if-not-in_field.true)
+    stop in_field _ _ t.loop-i.invariant.1 t.loop-i-test.true (sym d.in_field.ensures ∙ not-true _ c.if-not-in_field.true-raw)
 
 loop-again : tie.Need-loop-i-preserved invariant-loop decreases-loop
 loop-again c =
     let d = c.before in
     let t = d.before.before in
-    (search rules, go_on in_field _ _ t.before.loop-i.invariant.1 t.loop-i-test.true (sym d.in_field.ensures ∙ not-false _ c.if-not-in_field.false))
+    (search rules, go_on in_field _ _ t.loop-i.invariant.1 t.loop-i-test.true (sym d.in_field.ensures ∙ not-false _ c.if-not-in_field.false-raw))
 
 returns-2 : tie.Need-returns invariant-loop decreases-loop
-returns-2 c = done in_field _ _ c.before.loop-i.invariant.1 c.loop-i-test.false
+returns-2 c = done in_field _ _ c.loop-i.invariant.1 c.loop-i-test.false
 
 pub is_clean_spec : {M : Type 1} → statement M
 is_clean_spec =

@@ -8,10 +8,10 @@ returns : tie.Need-returns-then-f-eq0
 returns c = currency-none _ c.if-f-eq0.true
 
 returns-2 : tie.Need-returns-then-f-ne3
-returns-2 c = currency-not _ c.before.if-f-eq0.false c.if-f-ne3.true
+returns-2 c = currency-not _ c.if-f-eq0.false c.if-f-ne3.true
 
 returns-3 : tie.Need-returns
-returns-3 c = currency-three _ c.before.before.if-f-eq0.false _ c.before.if-f-ne3.false c.all_between.ensures
+returns-3 c = currency-three _ c.if-f-eq0.false _ c.if-f-ne3.false c.all_between.ensures
 
 pub is_currency_spec : {M : Type 1} → statement M
 is_currency_spec = tie.close (tie.spec returns returns-2 (λ c κs. search rules) returns-3)

@@ -9,7 +9,7 @@ returns : tie.Need-returns-then-f-lt1
 returns c = sym (below 1 76 _ c.if-f-lt1.true)
 
 returns-2 : tie.Need-returns
-returns-2 c = c.is_reference.ensures ∙ from_low 1 76 _ c.before.if-f-lt1.false
+returns-2 c = c.is_reference.ensures ∙ from_low 1 76 _ c.if-f-lt1.false
 
 pub is_name_spec : {M : Type 1} → statement M
 is_name_spec = tie.close (tie.spec returns (λ c κs. search rules) returns-2)

@@ -10,10 +10,10 @@ returns : tie.Need-returns-then-f-ne1
 returns c = sym (not-one _ _ _ c.if-f-ne1.true)
 
 returns-2 : tie.Need-returns-then-f-lo
-returns-2 c = sym (one _ _ _ c.before.before.if-f-ne1.false ∙ below _ _ _ c.if-f-lo.true)
+returns-2 c = sym (one _ _ _ c.if-f-ne1.false ∙ below _ _ _ c.if-f-lo.true)
 
 returns-3 : tie.Need-returns
-returns-3 c = from_low _ _ _ c.before.if-f-lo.false ∙ sym (one _ _ _ c.before.before.before.if-f-ne1.false)
+returns-3 c = from_low _ _ _ c.if-f-lo.false ∙ sym (one _ _ _ c.if-f-ne1.false)
 
 pub is_one_of_spec : {M : Type 1} → statement M
 is_one_of_spec =

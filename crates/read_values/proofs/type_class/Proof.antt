@@ -7,12 +7,12 @@ use Rattle.read_values.proofs.type_class.Statement.{statement}
 use Rattle.read_values.proofs.type_class.Tie as tie
 
 returns : tie.Need-returns-then-not-is_digits
-returns c = type-not _ (sym c.before.is_digits.ensures ∙ not-true _ c.if-not-is_digits.true)
+returns c = type-not _ (sym c.is_digits.ensures ∙ not-true _ c.if-not-is_digits.true-raw)
 
 returns-2 : tie.Need-returns
 returns-2 c =
     let d = c.before.before in
-    type-is _ _ _ (sym d.before.is_digits.ensures ∙ not-false _ d.if-not-is_digits.false) c.before.value.ensures.0 c.class_of.ensures
+    type-is _ _ _ (sym d.is_digits.ensures ∙ not-false _ d.if-not-is_digits.false-raw) c.value.ensures.0 c.class_of.ensures
 
 pub type_class_spec : {M : Type 1} → statement M
 type_class_spec =

@@ -64,17 +64,17 @@ abbrev rec-of : Line → Bytes
 rec-of c = (entry c).args.rec.now
 
 abbrev start_of : Line → ℕ
-start_of c = c.before.before.before.walk.at
+start_of c = c.walk.at
 
 abbrev end_of : Line → ℕ
-end_of c = c.before.body_end_in-e.result.0
+end_of c = c.body_end_in-e.result.0
 
 abbrev next_of : Line → ℕ
 next_of c = end_of c + c.end_len.result
 
 abbrev from-of : Line → WalkK
 from-of c =
-    let w = c.before.before.before.walk in
+    let w = c.walk in
     point (wanted_of w.want) w.auto w.slash.0
 
 -- the walk where the record starts
@@ -82,26 +82,26 @@ abbrev Made : Type 0
 Made = tie.After-none-kept invariant-loop decreases-loop invariant-walk decreases-walk
 
 abbrev first_of : Made → WalkK
-first_of c = point (wanted_of c.before.before.before.args.first) c.none-kept.result 0
+first_of c = point (wanted_of c.args.first) c.none-kept.result 0
 
-first-is : (c : Made) → first_of c ≡ point (wanted_of c.before.before.before.args.first) (nothing_kept c.before.before.before.args.before.0) 0
-first-is c = ap (λ (k : Kept). point (wanted_of c.before.before.before.args.first) k 0) c.none-kept.ensures
+first-is : (c : Made) → first_of c ≡ point (wanted_of c.args.first) (nothing_kept c.args.before.0) 0
+first-is c = ap (λ (k : Kept). point (wanted_of c.args.first) k 0) c.none-kept.ensures
 
 -- the magnitudes before, as they are kept where the record starts, and where a line does
-same-before : (c : Made) → c.none-kept.result.before.0 ≡ c.before.before.before.args.before.0
+same-before : (c : Made) → c.none-kept.result.before.0 ≡ c.args.before.0
 same-before c = ap (λ (k : Kept). k.before.0) c.none-kept.ensures
 
 abbrev before_of : Line → ℕ
-before_of c = c.before.before.before.walk.auto.before.0
+before_of c = c.walk.auto.before.0
 
-kept-before : (c : Line) → before_of c ≡ c.before.before.before.before.none-kept.result.before.0
-kept-before c = c.before.before.before.walk.invariant.1.kept.before
+kept-before : (c : Line) → before_of c ≡ c.none-kept.result.before.0
+kept-before c = c.walk.invariant.1.kept.before
 
 some_byte : (c : Line) → start_of c < length (rec-of c)
-some_byte c = c.before.before.if-rec-at.false
+some_byte c = c.if-rec-at.false
 
 end_is : (c : Line) → end_of c ≡ start_of c + body_len (drop (start_of c) (rec-of c))
-end_is c = c.before.body_end_in-e.ensures ∙ ap (λ (bs : Bytes). start_of c + body_len (drop (start_of c) bs)) (sym (entry c).requires)
+end_is c = c.body_end_in-e.ensures ∙ ap (λ (bs : Bytes). start_of c + body_len (drop (start_of c) bs)) (sym (entry c).requires)
 
 ends : (c : Line) → end_of c ≤ length (rec-of c)
 ends c = omega (arith, some_byte c, end_is c, run-le is_end (drop (start_of c) (rec-of c)), length-drop (start_of c) (rec-of c))
@@ -132,13 +132,13 @@ stop : (c : Line) (n q : ℕ) → walk_cells_k (from-of c) (cells_from (start_of
     → refuse n q ≡ walk_from (wanted_of (entry c).args.first) (nothing_kept (entry c).args.before.0) (lines_of (rec-of c))
 stop c n q r =
     from-stop _ _ (lines_of (rec-of c)) (first_of c.before.before.before.before) (first-is c.before.before.before.before) n q
-    (c.before.before.before.walk.invariant.2 ∙ line-stop (rec-of c) (start_of c) (end_of c) (next_of c) (some_byte c) (end_is c) (next-at c) (from-of c) n q r)
+    (c.walk.invariant.2 ∙ line-stop (rec-of c) (start_of c) (end_of c) (next_of c) (some_byte c) (end_is c) (next-at c) (from-of c) n q r)
 
 -- the walk goes on at the next line where this one is good
 go_on : (c : Line) (v : WalkK) → walk_cells_k (from-of c) (cells_from (start_of c + 3) (slice (start_of c + 3) (end_of c) (rec-of c))) ≡ fine v
     → walk_lines_k 0 (first_of c.before.before.before.before) (lines_of (rec-of c)) ≡ walk_lines_k (next_of c) v (lines_of (drop (next_of c) (rec-of c)))
 go_on c v r =
-    c.before.before.before.walk.invariant.2 ∙ line-go (rec-of c) (start_of c) (end_of c) (next_of c) (some_byte c) (end_is c) (next-at c) (from-of c) v r
+    c.walk.invariant.2 ∙ line-go (rec-of c) (start_of c) (end_of c) (next_of c) (some_byte c) (end_is c) (next-at c) (from-of c) v r
 
 -- ---- at a field: its line, where it starts, and the walk there
 
@@ -169,23 +169,23 @@ extent-is : (c : Cutting) → c.field_extent.result ≡ extent_of (wants-text c.
 extent-is c =
     let h = c.before.before.before in
     c.field_extent.ensures
-    ∙ ap (λ (t : Bool). extent_of t (take (end_of (line h) - at_of h) (drop (at_of h) (rec-of (line h))))) c.before.before.is_text-text.ensures
+    ∙ ap (λ (t : Bool). extent_of t (take (end_of (line h) - at_of h) (drop (at_of h) (rec-of (line h))))) c.is_text-text.ensures
     ∙ ap (λ (bs : Bytes). extent_of (wants-text h) bs) (part_slice (at_of h) (end_of (line h)) (rec-of (line h)) h.loop-n.invariant.0)
 
 abbrev Field : Type 0
 Field = tie.In-Field invariant-loop decreases-loop invariant-walk decreases-walk
 
 abbrev head : Field → Head
-head c = c.before.before.before.before.before.before
+head c = c.before.before.before.before
 
 abbrev asked : Field → tie.After-is_text-text invariant-loop decreases-loop invariant-walk decreases-walk
-asked c = c.before.before.before.before.before
+asked c = c.before.before.before
 
 abbrev size : Field → ℕ
-size c = c.before.n-1.given.0.0
+size c = c.in-Field.n
 
 field-extent : (c : Field) → extent.Field (size c) ≡ extent_of (wants-text (head c)) (left (head c))
-field-extent c = sym c.before.n-1.given.1 ∙ extent-is c.before.before.before
+field-extent c = sym c.in-Field.is ∙ extent-is c.before
 
 inside : (c : Field) → at_of (head c) + size c ≤ end_of (line (head c))
 inside c =
@@ -212,7 +212,7 @@ kept-is c =
     let h = head g in
     ⊎_elim
     (λ t. t.3 ∙ t.2.ensures ∙ ap (λ (bs : Bytes). keep_read (purpose (next_kind (here h).wanted)) (here h).kept (at_of h) bs) (lent g))
-    (λ t. t.1 ∙ kept-for-nothing (purpose (next_kind (here h).wanted)) (here h).kept (at_of h) (bytes g) (sym c.before.is_kept.ensures ∙ t.0.left))
+    (λ t. t.1 ∙ kept-for-nothing (purpose (next_kind (here h).wanted)) (here h).kept (at_of h) (bytes g) (sym c.is_kept.ensures ∙ t.0.false))
     c.if-is_kept.branch-raw
 
 -- ---- the field is judged
@@ -233,22 +233,22 @@ abbrev Good : Type 0
 Good = tie.In-Next invariant-loop decreases-loop invariant-walk decreases-walk
 
 abbrev good-field : Good → Field
-good-field c = field c.before.before.before
+good-field c = field c.before
 
 abbrev then : Good → WalkK
-then c = point (wanted_of c.before.next-1.given.0.0) (noted c.before.before.before).if-is_kept.kept (here (head (good-field c))).last_slash
+then c = point (wanted_of c.in-Next.next) (noted c.before).if-is_kept.kept (here (head (good-field c))).last_slash
 
 took : (c : Good) → taken_k (at_of (head (good-field c))) (bytes (good-field c)) (here (head (good-field c))) ≡ fine (then c)
 unfolding judged_of
 took c =
-    let j = c.before.before.before in
+    let j = c.before in
     took-good (at_of (head (field j))) (bytes (field j)) (here (head (field j))) _ _
-    (sym (judged-is j) ∙ ap judged_of c.before.next-1.given.1) (kept-is (noted j))
+    (sym (judged-is j) ∙ ap judged_of c.in-Next.is) (kept-is (noted j))
 
 fits : (c : Good) → Fits (length (rec-of (line (head (good-field c))))) (before_of (line (head (good-field c)))) (then c)
 fits c =
     let h = head (good-field c) in
-    taken-fits (length (rec-of (line h))) _ (at_of h) (bytes (good-field c)) (here h) (then c) (took c) (omega (arith, h.loop-n.inv.0, h.loop-n.inv.1)) h.loop-n.inv.2
+    taken-fits (length (rec-of (line h))) _ (at_of h) (bytes (good-field c)) (here h) (then c) (took c) (omega (arith, h.loop.invariant.0, h.loop.invariant.1)) h.loop.invariant.2
 
 -- ---- the field is no text
 
@@ -262,7 +262,7 @@ short : (c : Plain) → at_of (head (good-field c.before)) + size (good-field c.
 short c =
     let g = good-field c.before in
     field-short (rec-of (line (head g))) (here (head g)) (at_of (head g)) (end_of (line (head g)))
-    (head g).loop-n.inv.0 (head g).loop-n.inv.1 (size g) (field-extent g) (no_text c)
+    (head g).loop-n.invariant.0 (head g).loop-n.invariant.1 (size g) (field-extent g) (no_text c)
 
 -- ---- after a slash, blanks
 
@@ -292,20 +292,20 @@ blanks-in c =
       arith,
       c.blanks_len.ensures.1,
       ap length (part_slice (at_of h + size g + 1) (end_of (line h)) (rec-of (line h)) (omega arith)),
-      length-slice (at_of h + size g + 1) (end_of (line h)) (rec-of (line h)) h.loop-n.inv.1,
+      length-slice (at_of h + size g + 1) (end_of (line h)) (rec-of (line h)) h.loop-n.invariant.1,
     )
 
 walk-holds : tie.Need-walk-init invariant-loop decreases-loop invariant-walk decreases-walk
 walk-holds c = (zero-le, fits-same _ _ _ (first_of c) (sym (same-before c)) (start_fits _ _ (first_of c) c.none-kept.ensures refl), refl)
 
 add_a : tie.Need-overflow_add-a invariant-loop decreases-loop invariant-walk decreases-walk
-add_a c = omega (arith, c.before.if-rec-at.false)
+add_a c = omega (arith, c.if-rec-at.false)
 
 add_at : tie.Need-overflow_add-at invariant-loop decreases-loop invariant-walk decreases-walk
 add_at c = omega (arith, within c)
 
 loop-holds : tie.Need-loop-n-init invariant-loop decreases-loop invariant-walk decreases-walk
-loop-holds c = (omega arith, ends c.before, fits-same _ _ _ (from-of c.before) (sym (kept-before c.before)) c.before.before.before.before.walk.invariant.1, refl)
+loop-holds c = (omega arith, ends c.before, fits-same _ _ _ (from-of c.before) (sym (kept-before c.before)) c.walk.invariant.1, refl)
 
 add-f : tie.Need-overflow_add-f invariant-loop decreases-loop invariant-walk decreases-walk
 add-f c = omega (arith, inside c, ends (line (head c)))
@@ -325,19 +325,19 @@ walk-again c =
     let h = head g in (
       within (line h),
       fits-same _ _ _ (then c.before) (kept-before (line h)) (fits c.before),
-      go_on (line h) (then c.before) (h.loop-n.inv.3
+      go_on (line h) (then c.before) (h.loop-n.invariant.3
           ∙ text-here (rec-of (line h)) (here h) (at_of h) (end_of (line h))
-          h.loop-n.inv.0 h.loop-n.inv.1 (size g) (field-extent g) (then c.before)
+          h.loop-n.invariant.0 h.loop-n.invariant.1 (size g) (field-extent g) (then c.before)
           (sym (asked (good-field c.before)).is_text-text.ensures ∙ c.if-text.true) (took c.before)),
     )
 
-add-a-2 : tie.Need-overflow-add-a-2 invariant-loop decreases-loop invariant-walk decreases-walk
+add-a-2 : tie.Need-overflow_add-a-in-loop-n invariant-loop decreases-loop invariant-walk decreases-walk
 add-a-2 c = let l = line (head (good-field c.before)) in omega (arith, short c, ends l, (entry l).good)
 
 shared-slice-read-if5 : tie.Need-bounds-rec-f invariant-loop decreases-loop invariant-walk decreases-walk
 shared-slice-read-if5 c = omega (arith, short c.before, ends (line (head (good-field c.before.before))))
 
-sub-blanks-len : tie.Need-overflow-sub-blanks-len invariant-loop decreases-loop invariant-walk decreases-walk
+sub-blanks-len : tie.Need-slice_bounds-blanks_len-count invariant-loop decreases-loop invariant-walk decreases-walk
 sub-blanks-len c = omega (arith, short c.before.before)
 
 part-blanks-len-start : tie.Need-slice_bounds-blanks_len-start invariant-loop decreases-loop invariant-walk decreases-walk
@@ -360,10 +360,10 @@ walk-again-2 c =
     let b = blanks-from c.before in (
       within (line h),
       record { kept = (fits-same _ _ _ (then good) (kept-before (line h)) (fits good)).kept; slash = omega (arith, short plain, ends (line h)) },
-      go_on (line h) _ (h.loop-n.inv.3
+      go_on (line h) _ (h.loop-n.invariant.3
           ∙ blanks-here (rec-of (line h)) (here h) (at_of h) (end_of (line h))
-          h.loop-n.inv.0 h.loop-n.inv.1 (size g) (field-extent g)
-          (no_text plain) (then good) (took good) c.before.before.before.if-rec-f-eq47.true _ b c.if-t-e.false (blanks-in c.before)),
+          h.loop-n.invariant.0 h.loop-n.invariant.1 (size g) (field-extent g)
+          (no_text plain) (then good) (took good) c.if-rec-f-eq47.true _ b c.if-t-e.false (blanks-in c.before)),
     )
 
 loop-less : tie.Need-loop-n-smaller invariant-loop decreases-loop invariant-walk decreases-walk
@@ -376,22 +376,22 @@ loop-again c =
     let g = good-field good in
     let h = head g in (
       omega (arith, short plain),
-      h.loop-n.inv.1,
+      h.loop-n.invariant.1,
       fits good,
-      h.loop-n.inv.3
+      h.loop-n.invariant.3
           ∙ comma-here (rec-of (line h)) (here h) (at_of h) (end_of (line h))
-          h.loop-n.inv.0 h.loop-n.inv.1 (size g) (field-extent g)
+          h.loop-n.invariant.0 h.loop-n.invariant.1 (size g) (field-extent g)
           (no_text plain) (then good) (took good) c.if-rec-f-eq47.false,
     )
 
 returns : tie.Need-returns-then-rec-at invariant-loop decreases-loop invariant-walk decreases-walk
 returns c =
     let w = c.before.before in
-    let s = w.before.before.before.before.args.rec.now in
+    let s = w.args.rec.now in
     let p = point (wanted_of w.walk.want) w.walk.auto w.walk.slash.0 in
     record {
       answer = from_end _ _ (lines_of s) (first_of w.before) (first-is w.before) p _
-          (w.walk.invariant.2 ∙ lines_end s p w.walk.at c.before.if-rec-at.true) c.finish.ensures;
+          (w.walk.invariant.2 ∙ lines_end s p w.walk.at c.if-rec-at.true) c.finish.ensures;
       bounds = end-bounds _ _ c.finish.result p c.finish.ensures (fits-same _ _ _ p (same-before w.before) w.walk.invariant.1);
     }
 
@@ -399,30 +399,30 @@ returns-2 : tie.Need-returns-then-e-a invariant-loop decreases-loop invariant-wa
 returns-2 c =
     let l = c.before.before in
     stopped-at _ _ _ 7 (start_of l + 3) c.stop.result c.stop.ensures
-    (stop l 7 (start_of l + 3) (short-here (rec-of l) (from-of l) (start_of l + 3) (end_of l) c.before.if-e-a.true))
+    (stop l 7 (start_of l + 3) (short-here (rec-of l) (from-of l) (start_of l + 3) (end_of l) c.if-e-a.true))
     (omega (arith, some_byte l))
 
 returns-3 : tie.Need-returns-in_default invariant-loop decreases-loop invariant-walk decreases-walk
 returns-3 c =
     let d = c.before in
-    let h = d.before.before.before.before.before in
+    let h = d.before.before.before.before in
     stopped-at _ _ _ 7 (end_of (line h)) c.stop-in_default.result c.stop-in_default.ensures
     (stop (line h) 7 (end_of (line h)) (h.loop-n.invariant.3 ∙ open-here (rec-of (line h)) (here h) (at_of h) (end_of (line h))
-    h.loop-n.invariant.0 h.loop-n.invariant.1 (sym d.enum_told-1.given.1 ∙ extent-is d.before.before)))
+    h.loop-n.invariant.0 h.loop-n.invariant.1 (sym d.in_default.is ∙ extent-is d.before)))
     (omega (arith, ends (line h)))
 
 returns-4 : tie.Need-returns-in-Refused invariant-loop decreases-loop invariant-walk decreases-walk
 unfolding judged_of
 returns-4 c =
     let d = c.before in
-    let g = field d.before.before.before in
+    let g = field d.before in
     let h = head g in
     stopped-at _ _ _ _ (at_of h) c.stop-in-Refused.result c.stop-in-Refused.ensures
-    (stop (line h) _ (at_of h) (h.loop-n.inv.3
+    (stop (line h) _ (at_of h) (h.loop-n.invariant.3
     ∙ wrong-here (rec-of (line h)) (here h) (at_of h) (end_of (line h))
-    h.loop-n.inv.0 h.loop-n.inv.1 (size g) (field-extent g) _
-    (took-bad (at_of h) (bytes g) (here h) _ (sym (judged-is d.before.before.before) ∙ ap judged_of d.before.number-1.given.1))))
-    (omega (arith, ends (line h), h.loop-n.inv.0))
+    h.loop-n.invariant.0 h.loop-n.invariant.1 (size g) (field-extent g) _
+    (took-bad (at_of h) (bytes g) (here h) _ (sym (judged-is d.before) ∙ ap judged_of d.in-Refused.is))))
+    (omega (arith, ends (line h), h.loop-n.invariant.0))
 
 returns-5 : tie.Need-returns-then-t-e invariant-loop decreases-loop invariant-walk decreases-walk
 returns-5 c =
@@ -433,10 +433,10 @@ returns-5 c =
     let h = head g in
     let b = blanks-from d.before in
     stopped-at _ _ _ 7 _ c.stop-then-t-e.result c.stop-then-t-e.ensures
-    (stop (line h) 7 _ (h.loop-n.inv.3
+    (stop (line h) 7 _ (h.loop-n.invariant.3
     ∙ byte-here (rec-of (line h)) (here h) (at_of h) (end_of (line h))
-    h.loop-n.inv.0 h.loop-n.inv.1 (size g) (field-extent g)
-    (no_text plain) (then good) (took good) d.before.before.before.if-rec-f-eq47.true _ b d.if-t-e.true))
+    h.loop-n.invariant.0 h.loop-n.invariant.1 (size g) (field-extent g)
+    (no_text plain) (then good) (took good) d.if-rec-f-eq47.true _ b d.if-t-e.true))
     (omega (arith, ends (line h), d.if-t-e.true))
 
 pub walk_lines_spec : {M : Type 1} → statement M

@@ -6,10 +6,10 @@ use Rattle.read_wanted.proofs.take_first_piece.Statement.{statement}
 use Rattle.read_wanted.proofs.take_first_piece.Tie as tie
 
 returns : tie.Need-returns-then-is_one_of
-returns c = text-none _ (sym c.before.is_one_of.ensures ∙ c.if-is_one_of.true)
+returns c = text-none _ (sym c.is_one_of.ensures ∙ c.if-is_one_of.true)
 
 returns-2 : tie.Need-returns
-returns-2 c = text-some _ _ (sym c.before.before.is_one_of.ensures ∙ c.before.if-is_one_of.false) c.take_piece.ensures
+returns-2 c = text-some _ _ (sym c.is_one_of.ensures ∙ c.if-is_one_of.false) c.take_piece.ensures
 
 pub take_first_piece_spec : {M : Type 1} → statement M
 take_first_piece_spec =

@@ -6,10 +6,10 @@ use Rattle.read_wanted.proofs.take_first_type.Statement.{statement}
 use Rattle.read_wanted.proofs.take_first_type.Tie as tie
 
 returns : tie.Need-returns-then-is_empty
-returns c = first-none _ (sym c.before.is_empty.ensures ∙ c.if-is_empty.true)
+returns c = first-none _ (sym c.is_empty.ensures ∙ c.if-is_empty.true)
 
 returns-2 : tie.Need-returns
-returns-2 c = first_some _ _ _ (sym c.before.before.before.is_empty.ensures ∙ c.before.before.if-is_empty.false) c.before.type_class.ensures c.item.ensures
+returns-2 c = first_some _ _ _ (sym c.is_empty.ensures ∙ c.if-is_empty.false) c.type_class.ensures c.item.ensures
 
 pub take_first_type_spec : {M : Type 1} → statement M
 take_first_type_spec =

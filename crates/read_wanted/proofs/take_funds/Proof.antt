@@ -9,41 +9,41 @@ use Rattle.read_wanted.proofs.take_funds.Statement.{statement}
 use Rattle.read_wanted.proofs.take_funds.Tie as tie
 
 -- what each test that failed says
-no_none : (k : tie.Else-is_empty) → is_empty k.before.before.before.args.f.now ≡ false
-no_none k = sym k.before.is_empty.ensures ∙ k.if-is_empty.false
+no_none : (k : tie.Else-is_empty) → is_empty k.args.f.now ≡ false
+no_none k = sym k.is_empty.ensures ∙ k.if-is_empty.false
 
-no_digit : (k : tie.Else-is_one_of) → one_of 48 50 k.before.before.before.before.before.args.f.now ≡ false
-no_digit k = sym k.before.is_one_of.ensures ∙ k.if-is_one_of.false
+no_digit : (k : tie.Else-is_one_of) → one_of 48 50 k.args.f.now ≡ false
+no_digit k = sym k.is_one_of.ensures ∙ k.if-is_one_of.false
 
-no-z : (k : tie.Else-is_one_of-2) → one_of 90 90 k.before.before.before.before.before.before.before.args.f.now ≡ false
-no-z k = sym k.before.is_one_of-2.ensures ∙ k.if-is_one_of-2.false
+no-z : (k : tie.Else-is_one_of-2) → one_of 90 90 k.args.f.now ≡ false
+no-z k = sym k.is_one_of-2.ensures ∙ k.if-is_one_of-2.false
 
-no-s : (k : tie.Else-is_one_of-3) → one_of 83 83 k.before.before.before.before.before.before.before.before.before.args.f.now ≡ false
-no-s k = sym k.before.is_one_of-3.ensures ∙ k.if-is_one_of-3.false
+no-s : (k : tie.Else-is_one_of-3) → one_of 83 83 k.args.f.now ≡ false
+no-s k = sym k.is_one_of-3.ensures ∙ k.if-is_one_of-3.false
 
-no-v : (k : tie.Else-is_one_of-4) → one_of 86 86 k.before.before.before.before.before.before.before.before.before.before.before.args.f.now ≡ false
-no-v k = sym k.before.is_one_of-4.ensures ∙ k.if-is_one_of-4.false
+no-v : (k : tie.Else-is_one_of-4) → one_of 86 86 k.args.f.now ≡ false
+no-v k = sym k.is_one_of-4.ensures ∙ k.if-is_one_of-4.false
 
 returns : tie.Need-returns-then-is_empty
-returns c = funds-none _ _ _ c.after_funds.ensures (sym c.before.before.is_empty.ensures ∙ c.before.if-is_empty.true)
+returns c = funds-none _ _ _ c.after_funds.ensures (sym c.is_empty.ensures ∙ c.if-is_empty.true)
 
 returns-2 : tie.Need-returns-then-is_one_of
-returns-2 c = funds-digit _ _ _ c.after_funds-then-is_one_of.ensures (sym c.before.before.is_one_of.ensures ∙ c.before.if-is_one_of.true)
+returns-2 c = funds-digit _ _ _ c.after_funds-then-is_one_of.ensures (sym c.is_one_of.ensures ∙ c.if-is_one_of.true)
 
 returns-3 : tie.Need-returns-then-is_one_of-2
-returns-3 c = funds-z _ _ _ c.after_funds-then-is_one_of-2.ensures (sym c.before.before.is_one_of-2.ensures ∙ c.before.if-is_one_of-2.true)
+returns-3 c = funds-z _ _ _ c.after_funds-then-is_one_of-2.ensures (sym c.is_one_of-2.ensures ∙ c.if-is_one_of-2.true)
 
 returns-4 : tie.Need-returns-then-is_one_of-3
 returns-4 c =
     let z = c.before.before in
-    funds-s _ _ (no_none z.before.before.before.before) (no_digit z.before.before) (no-z z) (sym c.before.is_one_of-3.ensures ∙ c.if-is_one_of-3.true)
+    funds-s _ _ (no_none z.before.before.before.before) (no_digit z.before.before) (no-z z) (sym c.is_one_of-3.ensures ∙ c.if-is_one_of-3.true)
 
 returns-5 : tie.Need-returns-then-is_one_of-4
 returns-5 c =
     let s = c.before.before in
     let z = s.before.before in
     funds-v _ _ (no_none z.before.before.before.before) (no_digit z.before.before) (no-z z) (no-s s)
-    (sym c.before.is_one_of-4.ensures ∙ c.if-is_one_of-4.true)
+    (sym c.is_one_of-4.ensures ∙ c.if-is_one_of-4.true)
 
 returns-6 : tie.Need-returns-then-is_one_of-5
 returns-6 c =
@@ -51,7 +51,7 @@ returns-6 c =
     let s = v.before.before in
     let z = s.before.before in
     funds-d _ _ (no_none z.before.before.before.before) (no_digit z.before.before) (no-z z) (no-s s)
-    (no-v v) (sym c.before.is_one_of-5.ensures ∙ c.if-is_one_of-5.true)
+    (no-v v) (sym c.is_one_of-5.ensures ∙ c.if-is_one_of-5.true)
 
 returns-7 : tie.Need-returns
 returns-7 c =
@@ -59,7 +59,7 @@ returns-7 c =
     let s = v.before.before in
     let z = s.before.before in
     funds-bad _ _ (no_none z.before.before.before.before) (no_digit z.before.before) (no-z z) (no-s s)
-    (no-v v) (sym c.before.is_one_of-5.ensures ∙ c.if-is_one_of-5.false)
+    (no-v v) (sym c.is_one_of-5.ensures ∙ c.if-is_one_of-5.false)
 
 pub take_funds_spec : {M : Type 1} → statement M
 take_funds_spec =

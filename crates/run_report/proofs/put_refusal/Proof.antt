@@ -25,11 +25,11 @@ returns c =
     let refused-put = number_put.before.before.before.before in
     let start = refused-put.before.before.before.before.before in
     let why = refusal_meant start.args.why in
-    let rest : Bytes = figure why.place-1 ++ (LF ∷ []) in
+    let rest : Bytes = figure why.place ++ (LF ∷ []) in
     let most = rw (refusal-parts why) at (line-most start) in
     let w₁ = wrote-first (bytes "refused") (figure why.number ++ rest) start.args.out.now refused-put.put-o.result refused-put.put-o.new.0 (omega (arith, most, start.requires)) refused-put.put-o.ensures in
     let w₂ = wrote-part _ _ _ (figure why.number) rest _ _ _ w₁ number_put.put_digits_after-o.ensures in
-    let w₃ = wrote-part _ _ _ (figure why.place-1) (LF ∷ []) _ _ _ w₂ place-put.put_digits_after-o-2.ensures in
+    let w₃ = wrote-part _ _ _ (figure why.place) (LF ∷ []) _ _ _ w₂ place-put.put_digits_after-o-2.ensures in
     rw (refusal-parts why) (wrote-last _ _ _ (LF ∷ []) _ _ _ w₃ end-put.put-o-2.ensures, most)
 
 pub put_refusal_spec : {M : Type 1} → statement M

@@ -4,10 +4,10 @@ use Rattle.run_report.proofs.put_verdict.Statement.{statement}
 use Rattle.run_report.proofs.put_verdict.Tie as tie
 
 returns : tie.Need-returns-in-Accepted
-returns c = rw c.before.before.before.before.before.verdict-1.given.1 c.before.before.put_summary.ensures
+returns c = rw c.in-Accepted.is c.put_summary.ensures
 
 returns-2 : tie.Need-returns-in-Refused
-returns-2 c = rw c.before.before.before.before.before.verdict-in-Refused-1.given.1 c.before.before.put_refusal.ensures
+returns-2 c = rw c.in-Refused.is c.put_refusal.ensures
 
 pub put_verdict_spec : {M : Type 1} → statement M
 put_verdict_spec =

@@ -22,7 +22,7 @@ returns-2 c =
     let done = c.before.before in
     let asked = done.before.before.before.before in
     let s = start asked.before in
-    rw asked.if-item_given.false (done.open_account-2.ensures ∙ no_item (writer_meant s.args.w) s.args.number.now s.args.currency.now s.args.out.now)
+    rw asked.if1.false (done.open_account-2.ensures ∙ no_item (writer_meant s.args.w) s.args.number.now s.args.currency.now s.args.out.now)
 
 pub account_spec : {M : Type 1} → statement M
 account_spec =

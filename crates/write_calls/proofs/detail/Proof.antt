@@ -4,8 +4,8 @@ use Rattle.write_line.specs.DraftMeaning.{amount_given}
 use Rattle.write_calls.proofs.CallLaws.{detail-written}
 use Rattle.write_state.specs.WriterMeaning.{writer_meant}
 use borrow.Author.Rules.{rules}
-use Rattle.write_calls.proofs.detail-d.Statement.{statement}
-use Rattle.write_calls.proofs.detail-d.Tie as tie
+use Rattle.write_calls.proofs.detail.Statement.{statement}
+use Rattle.write_calls.proofs.detail.Tie as tie
 
 abbrev start : tie.After-detail-d → tie.Start
 start c = c.before.before.before.before.before.before.before

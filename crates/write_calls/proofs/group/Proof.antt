@@ -3,8 +3,8 @@ use mathlib.Core.Path.{◌∙◌}
 use Rattle.write_calls.proofs.CallLaws.{group-written}
 use Rattle.write_state.specs.WriterMeaning.{writer_meant}
 use borrow.Author.Rules.{rules}
-use Rattle.write_calls.proofs.group-d.Statement.{statement}
-use Rattle.write_calls.proofs.group-d.Tie as tie
+use Rattle.write_calls.proofs.group.Statement.{statement}
+use Rattle.write_calls.proofs.group.Tie as tie
 
 abbrev start : tie.After-group-d → tie.Start
 start c = c.before.before.before.before.before.before.before.before.before.before

@@ -3,8 +3,8 @@ use mathlib.Core.Path.{◌∙◌}
 use Rattle.write_calls.proofs.CallLaws.{header-written}
 use Rattle.write_state.specs.WriterMeaning.{writer_meant}
 use borrow.Author.Rules.{rules}
-use Rattle.write_calls.proofs.header-d.Statement.{statement}
-use Rattle.write_calls.proofs.header-d.Tie as tie
+use Rattle.write_calls.proofs.header.Statement.{statement}
+use Rattle.write_calls.proofs.header.Tie as tie
 
 abbrev start : tie.After-header-d → tie.Start
 start c = c.before.before.before.before.before.before.before.before

@@ -4,8 +4,8 @@ use Rattle.write_calls.specs.ItemMeaning.{item_meant}
 use Rattle.write_calls.proofs.CallLaws.{item-written}
 use Rattle.write_state.specs.WriterMeaning.{writer_meant}
 use borrow.Author.Rules.{rules}
-use Rattle.write_calls.proofs.item-d.Statement.{statement}
-use Rattle.write_calls.proofs.item-d.Tie as tie
+use Rattle.write_calls.proofs.item.Statement.{statement}
+use Rattle.write_calls.proofs.item.Tie as tie
 
 abbrev start : tie.After-item-d → tie.Start
 start c = c.before.before.before.before

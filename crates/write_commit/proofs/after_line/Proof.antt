@@ -42,11 +42,11 @@ returns c =
     let group = account.before.before in
     let sums = group.before.before in
     let l = sums.before.before.before in
-    state-is (writer_meant (given l)) (code l) (sum l) (start l).args.items (start l).args.n l.before.phase_after-phase.ensures l.adding-this.ensures
-    group.group_open.ensures account.account_open.ensures (to-file (given l) (is-sound l) l.adding-this.result (this-small l) sums.before.before.add-file.ensures)
-    (to-group (given l) (is-sound l) l.adding-this.result (this-small l) sums.before.add-group.ensures)
+    state-is (writer_meant (given l)) (code l) (sum l) (start l).args.items (start l).args.n l.phase_after-phase.ensures l.adding-this.ensures
+    group.group_open.ensures account.account_open.ensures (to-file (given l) (is-sound l) l.adding-this.result (this-small l) sums.add-file.ensures)
+    (to-group (given l) (is-sound l) l.adding-this.result (this-small l) sums.add-group.ensures)
     (to-account (given l) (is-sound l) l.adding-this.result (this-small l) sums.add-account.ensures)
-    account.before.while_open.ensures c.while_open-2.ensures
+    account.while_open.ensures c.while_open-2.ensures
 
 pub after_line_spec : {M : Type 1} → statement M
 after_line_spec =

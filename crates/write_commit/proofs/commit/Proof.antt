@@ -56,21 +56,21 @@ at-line c = c.before.before.before.before.before
 
 -- what is known there
 is-sound : (c : tie.Else-not-is_sound) → sound (given (at-sound c)).writer ≡ true
-is-sound c = sym c.before.is_sound.ensures ∙ not-false _ c.if-not-is_sound.false
+is-sound c = sym c.is_sound.ensures ∙ not-false _ c.if-not-is_sound.false-raw
 
 is-turn : (c : tie.Else-not-in_turn) → turn_of (given (at_turn c)) ≡ true
-is-turn c = sym c.before.in_turn.ensures ∙ not-false _ c.if-not-in_turn.false
+is-turn c = sym c.in_turn.ensures ∙ not-false _ c.if-not-in_turn.false-raw
 
 abbrev body : tie.After-front-body → Bytes
 body c = c.front-body.result.now
 
 abbrev sofar : tie.After-front-body → Sofar
-sofar c = record { kinds = kinds_of (at_body c).args.d.true; bytes = body c }
+sofar c = record { kinds = kinds_of (at_body c).args.d.taken; bytes = body c }
 
 is-draft : (c : tie.After-front-body) → (given (at_body c)).draft ≡ fine (sofar c)
 is-draft c =
     let s = at_body c in
-    draft-good s.args.line.now s.args.d.len s.args.d.true (body c) (sym c.before.before.before.is_next.ensures ∙ not-false _ c.before.before.if-not-is_next.false) c.front-body.ensures
+    draft-good s.args.line.now s.args.d.len s.args.d.taken (body c) (sym c.is_next.ensures ∙ not-false _ c.if-not-is_next.false-raw) c.front-body.ensures
 
 abbrev Fits : tie.After-front-body → Type 0
 Fits c = HasRoom (given (at_body c)).writer (given (at_body c)).sum (length (body c) + 1) (given (at_body c)).room
@@ -78,18 +78,18 @@ Fits c = HasRoom (given (at_body c)).writer (given (at_body c)).sum (length (bod
 room : (c : tie.Else-number-ne0) → Fits c.before.before
 room c =
     let a = given (at_room c) in
-    has_room a.writer a.sum (length (body c.before.before) + 1) a.room (sym c.if-number-ne0.false ∙ c.before.room_number-number.ensures)
+    has_room a.writer a.sum (length (body c.before.before) + 1) a.room (sym c.if-number-ne0.false ∙ c.room_number-number.ensures)
 
 returns : tie.Need-returns-then-not-is_sound
 returns c =
     let turn = c.before.before in
-    refuses (asked turn).args.w c.refused.ensures (not_sound (given (asked turn)) (sym turn.is_sound.ensures ∙ not-true _ c.before.if-not-is_sound.true))
+    refuses (asked turn).args.w c.refused.ensures (not_sound (given (asked turn)) (sym turn.is_sound.ensures ∙ not-true _ c.if-not-is_sound.true-raw))
 
 returns-2 : tie.Need-returns-then-not-in_turn
 returns-2 c =
     let turn = c.before.before in
     let known = turn.before in
-    refuses (at-sound known).args.w c.refused-then-not-in_turn.ensures (no-turn (given (at-sound known)) (is-sound known) (sym turn.in_turn.ensures ∙ not-true _ c.before.if-not-in_turn.true))
+    refuses (at-sound known).args.w c.refused-then-not-in_turn.ensures (no-turn (given (at-sound known)) (is-sound known) (sym turn.in_turn.ensures ∙ not-true _ c.if-not-in_turn.true-raw))
 
 returns-3 : tie.Need-returns-then-not-is_next
 returns-3 c =
@@ -98,7 +98,7 @@ returns-3 c =
     let s = at_turn known in
     refuses s.args.w c.refused-then-not-is_next.ensures
     (no-draft (given s) (is-sound known.before.before) (is-turn known)
-    (draft-refused s.args.line.now s.args.d.len s.args.d.true (sym next.is_next.ensures ∙ not-true _ c.before.if-not-is_next.true)))
+    (draft-refused s.args.line.now s.args.d.len s.args.d.taken (sym next.is_next.ensures ∙ not-true _ c.if-not-is_next.true-raw)))
 
 returns-4 : tie.Need-returns-then-number-ne0
 returns-4 c =
@@ -108,21 +108,21 @@ returns-4 c =
     let s = at_body cut in
     refuses s.args.w c.refused-then-number-ne0.ensures
     (held_back (given s) (is-sound turn.before.before) (is-turn turn) (sofar cut) (is-draft cut) size.room_number-number.result
-    (no_room (given s).writer (given s).sum _ _ size.room_number-number.result size.room_number-number.ensures c.before.if-number-ne0.true))
+    (no_room (given s).writer (given s).sum _ _ size.room_number-number.result size.room_number-number.ensures c.if-number-ne0.true))
 
 add-out : tie.Need-overflow_add-out
-add-out c = omega (arith, (room (at-line c)).size-1)
+add-out c = omega (arith, (room (at-line c)).size)
 
 slice-write-out : tie.Need-bounds-out-size
 slice-write-out c = omega (arith, (room (at-line c)).room)
 
-add-t18 : tie.Need-overflow-add-t18
-add-t18 c = omega (arith, (room (at-line c.before)).size-1)
+add-t18 : tie.Need-overflow_add-result
+add-t18 c = omega (arith, (room (at-line c.before)).size)
 
 after-line-requires : tie.Need-after_line-requires
 after-line-requires c κs =
     let l = at-line c.before in
-    (is-sound (turn-of l.before.before).before.before, omega (arith, (room l).sum), (room l).size-1)
+    (is-sound (turn-of l.before.before).before.before, omega (arith, (room l).sum), (room l).size)
 
 returns-5 : tie.Need-returns
 returns-5 c =
@@ -131,7 +131,7 @@ returns-5 c =
     let turn = turn-of cut in
     writes (at_room l).args.w (at_room l).args.out.now c.after_line.result (body cut)
     (goes_in (given (at_room l)) (is-sound turn.before.before) (is-turn turn) (sofar cut) (is-draft cut) (room l).is) c.after_line.ensures refl (room l).room
-    c.before.before.before.before.before.put_at.ensures
+    c.put_at.ensures
 
 pub commit_spec : {M : Type 1} → statement M
 commit_spec =

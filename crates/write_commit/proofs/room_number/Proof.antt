@@ -20,13 +20,13 @@ abbrev sum : tie.After-join → Sum
 sum c = sum_meant (start c).args.sum
 
 returns : tie.Need-returns-in-Beyond
-returns c = let a = c.before.before in sum-beyond (writer a) (sum a) (start a).args.n (start a).args.room (sym c.enum_told-1.given.1 ∙ a.join.ensures)
+returns c = let a = c.before in sum-beyond (writer a) (sum a) (start a).args.n (start a).args.room (sym c.in-Beyond.is ∙ a.join.ensures)
 
 returns-2 : tie.Need-returns-in-Within
 returns-2 c =
     let told = c.before in
-    let a = told.before.before in
-    c.size_number.ensures ∙ sum_fits (writer a) (sum a) (start a).args.n (start a).args.room _ (sym told.enum_told-in-Within-1.given.1 ∙ a.join.ensures)
+    let a = told.before in
+    c.size_number.ensures ∙ sum_fits (writer a) (sum a) (start a).args.n (start a).args.room _ (sym told.in-Within.is ∙ a.join.ensures)
 
 pub room_number_spec : {M : Type 1} → statement M
 room_number_spec =

@@ -5,10 +5,10 @@ use Rattle.write_line.proofs.add_amount.Statement.{statement}
 use Rattle.write_line.proofs.add_amount.Tie as tie
 
 returns : tie.Need-returns-in-Given
-returns c = c.add_total.ensures ∙ rw (c.before.before.before.before.amount-1.given.1, c.before.of.ensures)
+returns c = c.add_total.ensures ∙ rw (c.in-Given.is, c.of.ensures)
 
 returns-2 : tie.Need-returns-in-NoAmount
-returns-2 c = c.add_empty.ensures ∙ rw c.before.before.enum_told-1.given.1
+returns-2 c = c.add_empty.ensures ∙ rw c.in-NoAmount.is
 
 pub add_amount_spec : {M : Type 1} → statement M
 add_amount_spec =

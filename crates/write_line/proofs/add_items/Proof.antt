@@ -5,10 +5,10 @@ use Rattle.write_line.proofs.add_items.Statement.{statement}
 use Rattle.write_line.proofs.add_items.Tie as tie
 
 returns : tie.Need-returns-in-Given
-returns c = c.add_number.ensures ∙ rw c.before.before.before.count-1.given.1
+returns c = c.add_number.ensures ∙ rw c.in-Given.is
 
 returns-2 : tie.Need-returns-in-NoItems
-returns-2 c = c.add_empty.ensures ∙ rw c.before.before.enum_told-1.given.1
+returns-2 c = c.add_empty.ensures ∙ rw c.in-NoItems.is
 
 pub add_items_spec : {M : Type 1} → statement M
 add_items_spec =

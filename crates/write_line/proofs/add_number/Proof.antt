@@ -11,8 +11,8 @@ returns : tie.Need-returns
 returns c =
     let put = c.before.before.before.before.before in
     let space = put.before.before in
-    let short = decimal-short space.before.args.n (omega arith) in
-    rw (number-bytes put.put_digits-k.ensures (omega (arith, short, ap length space.number_space-space.ensures))) at c.add.ensures
+    let short = decimal-short space.args.n (omega arith) in
+    rw (number-bytes put.put-digits.ensures (omega (arith, short, ap length space.number-space.ensures))) at c.add.ensures
 
 pub add_number_spec : {M : Type 1} → statement M
 add_number_spec =

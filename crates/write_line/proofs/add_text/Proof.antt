@@ -7,12 +7,12 @@ use Rattle.write_line.proofs.add_text.Tie as tie
 
 returns : tie.Need-returns-in-Next
 returns c =
-    let taken = c.before.before.before in
-    let s = taken.before.before.before in
-    c.put_text.ensures ∙ rw (wanted-is s.args.line.now s.args.d _ taken.true-1.given.1)
+    let taken = c.before.before in
+    let s = taken.before.before in
+    c.put_text.ensures ∙ rw (wanted-is s.args.line.now s.args.d _ taken.in-Next.is)
 
 returns-2 : tie.Need-returns-in-Refused
-returns-2 c = let s = c.before.before.before in refused-text s.args.line.now s.args.d _ c.enum_told-1.given.1 s.args.t.now
+returns-2 c = let s = c.before.before in refused-text s.args.line.now s.args.d _ c.in-Refused.is s.args.t.now
 
 pub add_text_spec : {M : Type 1} → statement M
 add_text_spec =

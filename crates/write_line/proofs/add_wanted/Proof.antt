@@ -28,7 +28,7 @@ returns-3 : tie.Need-returns-then-not-is_clean
 returns-3 c =
     let s = short c.before.before in
     field-unclean s.args.line.now s.args.len s.args.want s.args.f.now s.args.mark
-    (sym c.before.is_clean.ensures ∙ not-true _ c.if-not-is_clean.true)
+    (sym c.is_clean.ensures ∙ not-true _ c.if-not-is_clean.true-raw)
 
 returns-4 : tie.Need-returns
 returns-4 c =
@@ -36,8 +36,8 @@ returns-4 c =
     let is-clean = put.before.before in
     let is-short = is-clean.before.before in
     let s = short is-short in
-    field_put s.args.line.now s.args.len s.args.want s.args.f.now s.args.mark c.take_field.result _ _ s.pre (omega arith) is-short.if-f-gt-LONGEST_NAME.false
-    (sym is-clean.before.is_clean.ensures ∙ not-false _ is-clean.if-not-is_clean.false) c.take_field.ensures put.put_at.ensures refl
+    field_put s.args.line.now s.args.len s.args.want s.args.f.now s.args.mark c.take_field.result _ _ s.requires (omega arith) is-short.if-f-gt-LONGEST_NAME.false
+    (sym is-clean.is_clean.ensures ∙ not-false _ is-clean.if-not-is_clean.false-raw) c.take_field.ensures put.put_at.ensures refl
 
 pub add_wanted_spec : {M : Type 1} → statement M
 add_wanted_spec =

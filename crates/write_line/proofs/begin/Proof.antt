@@ -7,14 +7,14 @@ use borrow.Author.Rules.{rules}
 use Rattle.write_line.proofs.begin.Statement.{statement}
 use Rattle.write_line.proofs.begin.Tie as tie
 
-size : (c : tie.After-put_at-arg-2-1) → length c.before.before.before.before.args.line.now ≡ 640
+size : (c : tie.After-put_at-arg-2-1) → length c.args.line.now ≡ 640
 size c = search rules
 
 returns : tie.Need-returns
 returns c =
     let code = c.before.before.before.before in
     let s = code.before in
-    begin-put s.args.line.now (code_meant s.args.code) s.args.want (bytes_meant code.digits_of-digits.result) _ (size c.before) code.digits_of-digits.ensures c.put_at.ensures
+    begin-put s.args.line.now (code_meant s.args.code) s.args.want (bytes_meant code.digits_of.result) _ (size c.before) code.digits_of.ensures c.put_at.ensures
 
 pub begin_spec : {M : Type 1} → statement M
 begin_spec =

@@ -17,7 +17,7 @@ abbrev good_start : tie.Else-not-is_good_text → tie.Start
 good_start c = start c.before.before
 
 is-good : (c : tie.Else-not-is_good_text) → good_text (good_start c).args.t.now ≡ true
-is-good c = sym c.before.is_good_text.ensures ∙ not-false _ c.if-not-is_good_text.false
+is-good c = sym c.is_good_text.ensures ∙ not-false _ c.if-not-is_good_text.false-raw
 
 returns : tie.Need-returns-then-len
 returns c = let s = c.before.before.before in text-no-room s.args.line.now s.args.len s.args.want s.args.t.now (omega arith)
@@ -25,19 +25,19 @@ returns c = let s = c.before.before.before in text-no-room s.args.line.now s.arg
 returns-2 : tie.Need-returns-then-not-is_good_text
 returns-2 c =
     let s = start c.before.before in
-    text-bad s.args.line.now s.args.len s.args.want s.args.t.now (sym c.before.is_good_text.ensures ∙ not-true _ c.if-not-is_good_text.true)
+    text-bad s.args.line.now s.args.len s.args.want s.args.t.now (sym c.is_good_text.ensures ∙ not-true _ c.if-not-is_good_text.true-raw)
 
 returns-3 : tie.Need-returns-then-t-eq0
 returns-3 c =
     let s = good_start c.before in
-    text-slash s.args.line.now s.args.len s.args.want s.args.t.now _ s.pre (omega arith) (is-good c.before) c.if-t-eq0.true refl
+    text-slash s.args.line.now s.args.len s.args.want s.args.t.now _ s.requires (omega arith) (is-good c.before) c.if-t-eq0.true refl
 
 returns-4 : tie.Need-returns
 returns-4 c =
     let put = c.before.before in
     let given = put.before.before in
     let s = good_start given.before in
-    text-put s.args.line.now s.args.len s.args.want s.args.t.now _ s.pre (omega arith) (is-good given.before) given.if3.false put.put_at.ensures
+    text-put s.args.line.now s.args.len s.args.want s.args.t.now _ s.requires (omega arith) (is-good given.before) given.if-t-eq0.false put.put_at.ensures
 
 pub put_text_spec : {M : Type 1} → statement M
 put_text_spec =

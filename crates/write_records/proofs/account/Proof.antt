@@ -19,7 +19,7 @@ returns c =
       currency.add-d-2.ensures,
       number.add-d.ensures,
       code.begin-d.ensures,
-      code.before.first_want.ensures,
+      code.first_want.ensures,
     )
 
 pub account_spec : {M : Type 1} → statement M

@@ -7,7 +7,7 @@ returns : tie.Need-returns
 returns c =
     let total = c.before.before in
     let code = total.before.before in
-    rw (c.add_records.ensures, total.add_total-d.ensures, code.begin-d.ensures, code.before.first_want.ensures)
+    rw (c.add_records.ensures, total.add_total-d.ensures, code.begin-d.ensures, code.first_want.ensures)
 
 pub account_end_spec : {M : Type 1} → statement M
 account_end_spec =

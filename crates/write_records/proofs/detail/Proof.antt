@@ -19,7 +19,7 @@ returns c =
       amount.add_amount-d.ensures,
       type.add-d.ensures,
       code.begin-d.ensures,
-      code.before.first_want.ensures,
+      code.first_want.ensures,
     )
 
 pub detail_spec : {M : Type 1} → statement M

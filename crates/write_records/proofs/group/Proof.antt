@@ -21,7 +21,7 @@ returns c =
       originator.add-d-2.ensures,
       receiver.add-d.ensures,
       code.begin-d.ensures,
-      code.before.first_want.ensures,
+      code.first_want.ensures,
     )
 
 pub group_spec : {M : Type 1} → statement M

@@ -23,7 +23,7 @@ returns c =
       receiver.add-d-2.ensures,
       sender.add-d.ensures,
       code.begin-d.ensures,
-      code.before.first_want.ensures,
+      code.first_want.ensures,
     )
 
 pub header_spec : {M : Type 1} → statement M

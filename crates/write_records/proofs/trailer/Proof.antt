@@ -8,7 +8,7 @@ returns c =
     let count = c.before.before in
     let total = count.before.before in
     let code = total.before.before in
-    rw (c.add_records.ensures, count.add_count-d.ensures, total.add_total-d.ensures, code.begin-d.ensures, code.before.first_want.ensures)
+    rw (c.add_records.ensures, count.add_count-d.ensures, total.add_total-d.ensures, code.begin-d.ensures, code.first_want.ensures)
 
 pub trailer_spec : {M : Type 1} → statement M
 trailer_spec =

@@ -5,7 +5,7 @@ use Rattle.write_state.proofs.expected_in.Statement.{statement}
 use Rattle.write_state.proofs.expected_in.Tie as tie
 
 returns : tie.Need-returns-in-Fresh
-returns c = rw c.enum_told-1.given.1
+returns c = rw c.in-Fresh.is
 
 pub expected_in_spec : {M : Type 1} → statement M
 expected_in_spec =

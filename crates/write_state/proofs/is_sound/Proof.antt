@@ -16,7 +16,7 @@ use Rattle.write_state.proofs.is_sound.Tie as tie
 
 -- the state, at the places past the size, past the sums of file, group and account, and past the counts of the file
 abbrev given : tie.After-struct_known-1 → rules.Writer
-given c = writer_meant c.before.before.before.before.before.args.w
+given c = writer_meant c.args.w
 
 abbrev past-size : tie.Else-size-gt-LONGEST_FILE → rules.Writer
 past-size c = given c.before
@@ -38,47 +38,47 @@ size-good : (c : tie.Else-size-gt-LONGEST_FILE) {t : Bool} → t ≡ file_sum (p
 unfolding sound
 size-good c h = goes_on _ _ _ (le-leb _ _ c.if-size-gt-LONGEST_FILE.false) h
 
-file-within : (c : tie.Else-not-sum_within) → leb (magnitudes (past-file c).file.sum-1) most ≡ true
-file-within c = sym c.before.sum_within.ensures ∙ not-false _ c.if-not-sum_within.false
+file-within : (c : tie.Else-not-sum_within) → leb (magnitudes (past-file c).file.sum) most ≡ true
+file-within c = sym c.sum_within.ensures ∙ not-false _ c.if-not-sum_within.false-raw
 
 file-good : (c : tie.Else-not-sum_within) {t : Bool} → t ≡ group_sum (past-file c) → t ≡ sound (past-file c)
 file-good c h = size-good c.before.before (goes_on _ _ _ (file-within c) h)
 
 group-good : (c : tie.Else-not-sum_within-2) {t : Bool} → t ≡ account_sum (past-group c) → t ≡ sound (past-group c)
-group-good c h = file-good c.before.before.before.before (goes_on _ _ _ (sym c.before.sum_within-2.ensures ∙ not-false _ c.if-not-sum_within-2.false) h)
+group-good c h = file-good c.before.before.before.before (goes_on _ _ _ (sym c.sum_within-2.ensures ∙ not-false _ c.if-not-sum_within-2.false-raw) h)
 
 account-good : (c : tie.Else-not-sum_within-3) {t : Bool} → t ≡ file_counts (past-account c) → t ≡ sound (past-account c)
-account-good c h = group-good c.before.before (goes_on _ _ _ (sym c.before.sum_within-3.ensures ∙ not-false _ c.if-not-sum_within-3.false) h)
+account-good c h = group-good c.before.before (goes_on _ _ _ (sym c.sum_within-3.ensures ∙ not-false _ c.if-not-sum_within-3.false-raw) h)
 
 file-counted : (c : tie.Else-not-counts_within) {t : Bool} → t ≡ group_counts (past-file-counts c) → t ≡ sound (past-file-counts c)
-file-counted c h = account-good c.before.before (goes_on _ _ _ (sym c.before.counts_within.ensures ∙ not-false _ c.if-not-counts_within.false) h)
+file-counted c h = account-good c.before.before (goes_on _ _ _ (sym c.counts_within.ensures ∙ not-false _ c.if-not-counts_within.false-raw) h)
 
 returns : tie.Need-returns-then-size-gt-LONGEST_FILE
 unfolding sound
 returns c = stops _ _ (lt-leb _ _ c.if-size-gt-LONGEST_FILE.true)
 
 returns-2 : tie.Need-returns-then-not-sum_within
-returns-2 c = size-good c.before.before (stops _ _ (sym c.before.sum_within.ensures ∙ not-true _ c.if-not-sum_within.true))
+returns-2 c = size-good c.before.before (stops _ _ (sym c.sum_within.ensures ∙ not-true _ c.if-not-sum_within.true-raw))
 
 add-m : tie.Need-overflow_add-m
-add-m c = let f = c.before.before in omega (arith, leb-true (magnitudes (past-file f).file.sum-1) most (file-within f))
+add-m c = let f = c.before.before in omega (arith, leb-true (magnitudes (past-file f).file.sum) most (file-within f))
 
 returns-3 : tie.Need-returns-then-not-sum_within-2
-returns-3 c = file-good c.before.before.before.before (stops _ _ (sym c.before.sum_within-2.ensures ∙ not-true _ c.if-not-sum_within-2.true))
+returns-3 c = file-good c.before.before.before.before (stops _ _ (sym c.sum_within-2.ensures ∙ not-true _ c.if-not-sum_within-2.true-raw))
 
 returns-4 : tie.Need-returns-then-not-sum_within-3
-returns-4 c = group-good c.before.before (stops _ _ (sym c.before.sum_within-3.ensures ∙ not-true _ c.if-not-sum_within-3.true))
+returns-4 c = group-good c.before.before (stops _ _ (sym c.sum_within-3.ensures ∙ not-true _ c.if-not-sum_within-3.true-raw))
 
 returns-5 : tie.Need-returns-then-not-counts_within
-returns-5 c = account-good c.before.before (stops _ _ (sym c.before.counts_within.ensures ∙ not-true _ c.if-not-counts_within.true))
+returns-5 c = account-good c.before.before (stops _ _ (sym c.counts_within.ensures ∙ not-true _ c.if-not-counts_within.true-raw))
 
 returns-6 : tie.Need-returns-then-not-counts_within-2
-returns-6 c = file-counted c.before.before (stops _ _ (sym c.before.counts_within-2.ensures ∙ not-true _ c.if-not-counts_within-2.true))
+returns-6 c = file-counted c.before.before (stops _ _ (sym c.counts_within-2.ensures ∙ not-true _ c.if-not-counts_within-2.true-raw))
 
 returns-7 : tie.Need-returns
 returns-7 c =
     let g = c.before in
-    file-counted g.before.before (goes_on _ _ _ (sym g.before.counts_within-2.ensures ∙ not-false _ g.if-not-counts_within-2.false) c.counts_within-3.ensures)
+    file-counted g.before.before (goes_on _ _ _ (sym g.counts_within-2.ensures ∙ not-false _ g.if-not-counts_within-2.false-raw) c.counts_within-3.ensures)
 
 pub is_sound_spec : {M : Type 1} → statement M
 is_sound_spec =

@@ -5,7 +5,7 @@ use Rattle.c_reading.proofs.cutting.bai2_group.Statement.{statement}
 use Rattle.c_reading.proofs.cutting.bai2_group.Tie as tie
 
 returns : tie.Need-returns
-returns c = c.figures_of.ensures ∙ c.before.find_group.ensures.0
+returns c = c.figures_of.ensures ∙ c.find_group.ensures.0
 
 pub bai2_group_spec : {M : Type 1} → statement M
 bai2_group_spec = tie.close (tie.spec (λ c κs. search rules) (λ c κs. search rules) returns)

@@ -10,14 +10,14 @@ use Rattle.c_reading.proofs.handing.bai2_record_at.Statement.{statement}
 use Rattle.c_reading.proofs.handing.bai2_record_at.Tie as tie
 
 returns : tie.Need-returns-in-Refused
-returns c = sym (ap record_meant c.before.before.why-1.given.1) ∙ c.before.before.before.before.record_at.ensures.answer
+returns c = sym (ap record_meant c.in-Refused.is) ∙ c.record_at.ensures.answer
 
 returns-2 : tie.Need-returns-in-Record
 returns-2 c =
     let k = c.before in
-    ap (λ (n : ℕ). record { refusal = not_refused; code = n; lines = k.before.code-1.given.0.1.0.0; len = k.before.code-1.given.0.1.1.0 }) c.number_of.ensures
-    ∙ sym (ap record_meant k.before.code-1.given.1)
-    ∙ k.before.before.before.record_at.ensures.answer
+    ap (λ (n : ℕ). record { refusal = not_refused; code = n; lines = k.in-Record.lines.0; len = k.in-Record.length }) c.number_of.ensures
+    ∙ sym (ap record_meant k.in-Record.is)
+    ∙ k.record_at.ensures.answer
 
 pub bai2_record_at_spec : {M : Type 1} → statement M
 bai2_record_at_spec =

@@ -9,13 +9,13 @@ use Rattle.read_file.proofs.record.next_state.Tie as tie
 
 returns : tie.Need-returns
 returns c =
-    let a = c.before.before.before.before.before.args in
+    let a = c.args in
     record {
-      expected = c.before.before.before.before.expected_after.ensures;
+      expected = c.expected_after.ensures;
       limit = refl;
       file = refl;
-      group = c.before.before.while_open.ensures ∙ ap (λ (t : Bool). cond t (summary_meant a.group) no_summary) c.before.before.before.group_open.ensures;
-      account = c.while_open-2.ensures ∙ ap (λ (t : Bool). cond t (summary_meant a.account) no_summary) c.before.account_open.ensures;
+      group = c.while_open.ensures ∙ ap (λ (t : Bool). cond t (summary_meant a.group) no_summary) c.group_open.ensures;
+      account = c.while_open-2.ensures ∙ ap (λ (t : Bool). cond t (summary_meant a.account) no_summary) c.account_open.ensures;
     }
 
 pub next_state_spec : {M : Type 1} → statement M

@@ -7,11 +7,11 @@ use Rattle.read_file.proofs.record.own_lines.Tie as tie
 
 returns : tie.Need-returns-then-same_code
 unfolding own_lines
-returns c = (c.none_longer.ensures.0 ∙ sym (rw (sym c.before.before.same_code.ensures ∙ c.before.if-same_code.true)), c.none_longer.ensures.1)
+returns c = (c.none_longer.ensures.0 ∙ sym (rw (sym c.same_code.ensures ∙ c.if-same_code.true)), c.none_longer.ensures.1)
 
 returns-2 : tie.Need-returns
 unfolding own_lines
-returns-2 c = (sym (rw (sym c.before.same_code.ensures ∙ c.if-same_code.false)), tt)
+returns-2 c = (sym (rw (sym c.same_code.ensures ∙ c.if-same_code.false)), tt)
 
 pub own_lines_spec : {M : Type 1} → statement M
 own_lines_spec = tie.close (tie.spec (λ c κs. search rules) (λ c κs. search rules) returns returns-2)

@@ -59,17 +59,17 @@ OwnLines s = own_lines (code-of s) (limit_k (code-of s) (state-of s).limit (kept
 own : (c : Own) → checked_of c.own_lines.result ≡ OwnLines (start-of-own c)
 own c =
     let s = start-of-own c in
-    c.own_lines.ensures.0 ∙ ap (λ (n : ℕ). own_lines (code-of s) n (lines-of s)) c.before.limit_after-limit.ensures
+    c.own_lines.ensures.0 ∙ ap (λ (n : ℕ). own_lines (code-of s) n (lines-of s)) c.limit_after-limit.ensures
 
-own-fine : (c : tie.In-Fine) → OwnLines (start-of-own c.before.before) ≡ fine tt
-own-fine c = sym (own c.before.before) ∙ ap checked_of c.enum_told-1.given.1
+own-fine : (c : tie.In-Fine) → OwnLines (start-of-own c.before) ≡ fine tt
+own-fine c = sym (own c.before) ∙ ap checked_of c.in-Fine.is
 
 returns : tie.Need-returns-in-Refused
 returns c =
-    let o = c.before.before.before in
+    let o = c.before in
     let s = start-of-own o in (
-      settle-long (before_of s) (lines-of s) (code-of s) (kept_of s) _ (sym (own o) ∙ ap checked_of c.before.why-1.given.1),
-      rw c.before.why-1.given.1 at o.own_lines.ensures.1,
+      settle-long (before_of s) (lines-of s) (code-of s) (kept_of s) _ (sym (own o) ∙ ap checked_of c.in-Refused.is),
+      rw c.in-Refused.is at o.own_lines.ensures.1,
     )
 
 -- ---- 10
@@ -77,8 +77,8 @@ returns c =
 returns-2 : tie.Need-returns-then-kept
 returns-2 c =
     let told = c.before.before in
-    let s = start-of-own told.before.before in
-    (settle-over (before_of s) (lines-of s) (code-of s) (kept_of s) (own-fine told) c.before.if-kept.true, s.pre.kept.past-1)
+    let s = start-of-own told.before in
+    (settle-over (before_of s) (lines-of s) (code-of s) (kept_of s) (own-fine told) c.if-kept.true, s.requires.kept.past)
 
 -- ---- the summaries with the record
 
@@ -89,30 +89,30 @@ abbrev start_of : Added → tie.Start
 start_of c = start-of-own c.before.before.before.before.before.before.before
 
 abbrev this-of : Added → Summary
-this-of c = c.before.before.before.adding-this.result
+this-of c = c.adding-this.result
 
 this-adds : (c : Added) → summary_meant (this-of c) ≡ adding (code-of (start_of c)) (sum_meant (kept_of (start_of c)).sum) (start_of c).args.records.0
-this-adds c = c.before.before.before.adding-this.ensures
+this-adds c = c.adding-this.ensures
 
 this-is : (c : Added) → summary_meant (this-of c) ≡ this_k (code-of (start_of c)) (length (lines-of (start_of c))) (kept_of (start_of c))
 unfolding this_k
 this-is c =
     let s = start_of c in
-    this-adds c ∙ ap (λ (n : ℕ). adding (code-of s) (sum_meant (kept_of s).sum) n) s.pre.count
+    this-adds c ∙ ap (λ (n : ℕ). adding (code-of s) (sum_meant (kept_of s).sum) n) s.requires.count
 
 small-this : (c : Added) → Small (this-of c)
 small-this c =
     let s = start_of c in
-    this-small (code-of s) (sum_meant (kept_of s).sum) s.args.records.0 (this-of c) (this-adds c) s.pre.some-line (omega (arith, s.pre.room)) (omega (arith, s.pre.sums))
+    this-small (code-of s) (sum_meant (kept_of s).sum) s.args.records.0 (this-of c) (this-adds c) s.requires.some_line (omega (arith, s.requires.room)) (omega (arith, s.requires.sums))
 
 small-file : (c : Added) → Small (state-of (start_of c)).file
-small-file c = let s = start_of c in file-small (state-of s) s.pre.held (omega (arith, s.pre.room))
+small-file c = let s = start_of c in file-small (state-of s) s.requires.held (omega (arith, s.requires.room))
 
-file-is : (c : Added) → summary_meant c.before.before.add-file.result ≡ summary_meant (state-of (start_of c)).file ⊞ summary_meant (this-of c)
-file-is c = c.before.before.add-file.ensures ∙ small-sum _ _ (small-file c) (small-this c)
+file-is : (c : Added) → summary_meant c.add-file.result ≡ summary_meant (state-of (start_of c)).file ⊞ summary_meant (this-of c)
+file-is c = c.add-file.ensures ∙ small-sum _ _ (small-file c) (small-this c)
 
-group-is : (c : Added) → summary_meant c.before.add-group.result ≡ summary_meant (state-of (start_of c)).group ⊞ summary_meant (this-of c)
-group-is c = c.before.add-group.ensures ∙ small-sum _ _ (below-small _ _ (start_of c).requires.held.group (small-file c)) (small-this c)
+group-is : (c : Added) → summary_meant c.add-group.result ≡ summary_meant (state-of (start_of c)).group ⊞ summary_meant (this-of c)
+group-is c = c.add-group.ensures ∙ small-sum _ _ (below-small _ _ (start_of c).requires.held.group (small-file c)) (small-this c)
 
 account-is : (c : Added) → summary_meant c.add-account.result ≡ summary_meant (state-of (start_of c)).account ⊞ summary_meant (this-of c)
 account-is c = c.add-account.ensures ∙ small-sum _ _ (below-small _ _ (start_of c).requires.held.account (small-file c)) (small-this c)
@@ -124,36 +124,36 @@ added c = c.before
 
 balance : (c : tie.After-balance)
     → checked_of c.balance.result
-    ≡ balanced_k (code-of (start_of (added c))) (summary_meant (added c).add-account.result) (summary_meant (added c).before.add-group.result) (summary_meant (added c).before.before.add-file.result) (kept_of (start_of (added c)))
+    ≡ balanced_k (code-of (start_of (added c))) (summary_meant (added c).add-account.result) (summary_meant (added c).add-group.result) (summary_meant (added c).add-file.result) (kept_of (start_of (added c)))
 balance c = c.balance.ensures
 
 returns-3 : tie.Need-returns-in-Refused-balance
 returns-3 c =
-    let b = c.before.before.before in
+    let b = c.before in
     let t = added b in
     let s = start_of t in
-    let refuses = sym (balance b) ∙ ap checked_of c.before.why-in-Refused-balance-1.given.1 in (
-      settle-wrong (before_of s) (lines-of s) (code-of s) (kept_of s) (own-fine t.before.before.before.before.before) t.before.before.before.before.if-kept.left _ _ _ _
+    let refuses = sym (balance b) ∙ ap checked_of c.in-Refused-balance.is in (
+      settle-wrong (before_of s) (lines-of s) (code-of s) (kept_of s) (own-fine t.before.before.before.before.before) t.if-kept.false _ _ _ _
           (this-is t) (account-is t) (group-is t) (file-is t) _ refuses,
-      balanced-most _ _ (kept_of s) s.pre.kept (code-of s) _ _ _ _ refuses,
+      balanced-most _ _ (kept_of s) s.requires.kept (code-of s) _ _ _ _ refuses,
     )
 
 -- ---- the next state
 
 returns-4 : tie.Need-returns
 returns-4 c =
-    let b = c.before.before.before in
+    let b = c.before.before in
     let t = added b in
     let s = start_of t in
     let next = c.next_state.ensures in
     let r = c.next_state.result in
-    let file : summary_meant r.file ≡ summary_meant t.before.before.add-file.result = ap summary_meant next.file in
-    let limit = next.limit ∙ t.before.before.before.before.before.before.before.before.limit_after-limit.ensures in
-    let fits = sym (balance b) ∙ ap checked_of c.before.enum_told-in-Fine-balance-1.given.1 in (
-      settle-next (before_of s) (lines-of s) (code-of s) (kept_of s) (own-fine t.before.before.before.before.before) t.before.before.before.before.if-kept.left _ _ _ (summary_meant r.file)
+    let file : summary_meant r.file ≡ summary_meant t.add-file.result = ap summary_meant next.file in
+    let limit = next.limit ∙ t.limit_after-limit.ensures in
+    let fits = sym (balance b) ∙ ap checked_of c.in-Fine-balance.is in (
+      settle-next (before_of s) (lines-of s) (code-of s) (kept_of s) (own-fine t.before.before.before.before.before) t.if-kept.false _ _ _ (summary_meant r.file)
           (this-is t) (account-is t) (group-is t) (file ∙ file-is t) (rw (sym file) at fits) _ _ _ _ next.expected limit next.group next.account,
-      held_next (this-of t) (code-of s) (sum_meant (kept_of s).sum) s.args.records.0 (this-adds t) (state-of s) r t.before.add-group.result t.add-account.result s.pre.held s.pre.some-line
-          s.pre.sums (file ∙ file-is t) (group-is t) (account-is t) (group_open (code-of s)) (account_open (code-of s)) next.group next.account,
+      held_next (this-of t) (code-of s) (sum_meant (kept_of s).sum) s.args.records.0 (this-adds t) (state-of s) r t.add-group.result t.add-account.result s.requires.held s.requires.some_line
+          s.requires.sums (file ∙ file-is t) (group-is t) (account-is t) (group_open (code-of s)) (account_open (code-of s)) next.group next.account,
       records-next (this-of t) (code-of s) (sum_meant (kept_of s).sum) s.args.records.0 (this-adds t) (state-of s).file r.file (file ∙ file-is t),
     )
 

@@ -18,36 +18,36 @@ abbrev Asked : Type 0
 Asked = tie.After-passes
 
 abbrev kept_of : Asked → Kept
-kept_of c = c.before.before.before.before.before.args.self
+kept_of c = c.args.self
 
 abbrev amount-of : Asked → Amount
-amount-of c = amount_meant c.before.before.amount_in-a.result
+amount-of c = amount_meant c.amount_in-a.result
 
 abbrev size-with : Asked → ℕ → ℕ
-size-with c n = (kept_of c).before.0 + ((kept_of c).sum-1.0 + (kept_of c).sum-1.1) + n
+size-with c n = (kept_of c).before.0 + ((kept_of c).sum.0 + (kept_of c).sum.1) + n
 
 answer-is : (c : Asked) → c.passes.result ≡ ltb most (size-with c (magnitude_of (amount-of c)))
-answer-is c = c.passes.ensures ∙ ap (λ (n : ℕ). ltb most (size-with c n)) c.before.magnitude_of.ensures
+answer-is c = c.passes.ensures ∙ ap (λ (n : ℕ). ltb most (size-with c n)) c.magnitude_of.ensures
 
 returns : tie.Need-returns-then-self
-returns c = let k = c.before.before.args.self in ap (with_amounts k) (add-over _ (amounts_of k) _ _ c.if-self.true)
+returns c = let k = c.args.self in ap (with_amounts k) (add-over _ (amounts_of k) _ _ c.if-self.true)
 
 returns-2 : tie.Need-returns-then-passes
 returns-2 c =
     let q = c.before in
-    let x = q.before.before.before.before.before.args in
-    ap (with_amounts x.self) (add-past _ (amounts_of x.self) x.at.0 (amount-of q) q.before.before.before.if-self.false (ltb-true most _ (sym (answer-is q) ∙ c.if-passes.true)))
-    ∙ ap (λ (a : Amount). added_to x.self x.at.0 a) q.before.before.amount_in-a.ensures
+    let x = q.args in
+    ap (with_amounts x.self) (add-past _ (amounts_of x.self) x.at.0 (amount-of q) q.if-self.false (ltb-true most _ (sym (answer-is q) ∙ c.if-passes.true)))
+    ∙ ap (λ (a : Amount). added_to x.self x.at.0 a) q.amount_in-a.ensures
 
 returns-3 : tie.Need-returns
 returns-3 c =
     let d = c.before.before.before in
     let q = d.before in
-    let x = q.before.before.before.before.before.args in
+    let x = q.args in
     let fits : size-with q (magnitude_of (amount-of q)) ≤ most = ltb-false most _ (sym (answer-is q) ∙ d.if-passes.false) in
     ap (with_amounts x.self)
-    (add-more _ (amounts_of x.self) x.at.0 (amount-of q) q.before.before.before.if-self.false fits c.add-more.result c.before.adds.result c.before.adds.ensures c.add-more.ensures)
-    ∙ ap (λ (a : Amount). added_to x.self x.at.0 a) q.before.before.amount_in-a.ensures
+    (add-more _ (amounts_of x.self) x.at.0 (amount-of q) q.if-self.false fits c.add-more.result c.adds.result c.adds.ensures c.add-more.ensures)
+    ∙ ap (λ (a : Amount). added_to x.self x.at.0 a) q.amount_in-a.ensures
 
 pub add_amount_spec : {M : Type 1} → statement M
 add_amount_spec =

@@ -8,27 +8,27 @@ use Rattle.read_kept.proofs.Kept.keep.Tie as tie
 
 returns : tie.Need-returns-in-Nothing
 unfolding keep_read keep_with
-returns c = rw (sym c.before.before.kept_for.ensures ∙ ap keep_meant c.enum_told-1.given.1)
+returns c = rw (sym c.kept_for.ensures ∙ ap keep_meant c.in-Nothing.is)
 
 returns-2 : tie.Need-returns-in-Amount
 unfolding keep_read keep_with
-returns-2 c = rw (sym c.before.before.before.kept_for.ensures ∙ ap keep_meant c.before.enum_told-in-Amount-1.given.1, c.add_amount.ensures)
+returns-2 c = rw (sym c.kept_for.ensures ∙ ap keep_meant c.in-Amount.is, c.add_amount.ensures)
 
 returns-3 : tie.Need-returns-in-Total
 unfolding keep_read keep_with
-returns-3 c = rw (sym c.before.before.before.kept_for.ensures ∙ ap keep_meant c.before.enum_told-in-Total-1.given.1, c.keep_total.ensures)
+returns-3 c = rw (sym c.kept_for.ensures ∙ ap keep_meant c.in-Total.is, c.keep_total.ensures)
 
 returns-4 : tie.Need-returns-in-Count
 unfolding keep_read keep_with
-returns-4 c = rw (sym c.before.before.before.kept_for.ensures ∙ ap keep_meant c.before.enum_told-in-Count-1.given.1, c.keep_count.ensures)
+returns-4 c = rw (sym c.kept_for.ensures ∙ ap keep_meant c.in-Count.is, c.keep_count.ensures)
 
 returns-5 : tie.Need-returns-in-Records
 unfolding keep_read keep_with
-returns-5 c = rw (sym c.before.before.before.kept_for.ensures ∙ ap keep_meant c.before.enum_told-in-Records-1.given.1, c.keep_records.ensures)
+returns-5 c = rw (sym c.kept_for.ensures ∙ ap keep_meant c.in-Records.is, c.keep_records.ensures)
 
 returns-6 : tie.Need-returns-in-Length
 unfolding keep_read keep_with
-returns-6 c = rw (sym c.before.before.before.kept_for.ensures ∙ ap keep_meant c.before.enum_told-in-Length-1.given.1, c.keep_length.ensures)
+returns-6 c = rw (sym c.kept_for.ensures ∙ ap keep_meant c.in-Length.is, c.keep_length.ensures)
 
 pub keep_spec : {M : Type 1} → statement M
 keep_spec =

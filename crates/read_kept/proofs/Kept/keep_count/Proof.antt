@@ -11,7 +11,7 @@ returns c = rw c.if-self.true
 
 returns-2 : tie.Need-returns
 unfolding keep_read keep_with
-returns-2 c = rw (c.before.if-self.false, sym c.value-n.ensures.0)
+returns-2 c = rw (c.if-self.false, sym c.value-n.ensures.0)
 
 pub keep_count_spec : {M : Type 1} → statement M
 keep_count_spec =

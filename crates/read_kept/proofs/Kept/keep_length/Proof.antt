@@ -11,7 +11,7 @@ returns c = rw c.if-self.true
 
 returns-2 : tie.Need-returns
 unfolding keep_read keep_with
-returns-2 c = rw (c.before.before.if-self.false, sym c.before.value.ensures.0, sym c.is_empty.ensures)
+returns-2 c = rw (c.if-self.false, sym c.value.ensures.0, sym c.is_empty.ensures)
 
 pub keep_length_spec : {M : Type 1} → statement M
 keep_length_spec =

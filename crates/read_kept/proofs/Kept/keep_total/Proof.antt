@@ -10,7 +10,7 @@ returns c = rw c.if-self.true
 
 returns-2 : tie.Need-returns
 unfolding keep_read keep_with
-returns-2 c = rw (c.before.before.before.if-self.false, c.before.magnitude_of-magnitude.ensures, c.is_minus.ensures, c.before.before.amount_in-a.ensures)
+returns-2 c = rw (c.if-self.false, c.magnitude_of-magnitude.ensures, c.is_minus.ensures, c.amount_in-a.ensures)
 
 pub keep_total_spec : {M : Type 1} → statement M
 keep_total_spec =

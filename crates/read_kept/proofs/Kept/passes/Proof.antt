@@ -7,23 +7,23 @@ use Rattle.read_kept.proofs.Kept.passes.Tie as tie
 
 returns : tie.Need-returns-then-before-gt-MOST
 returns c =
-    let x = c.before.before.before.before.args in
-    pass x.self.before.0 x.self.sum-1.0 x.self.sum-1.1 x.n.0 (omega arith)
+    let x = c.args in
+    pass x.self.before.0 x.self.sum.0 x.self.sum.1 x.n.0 (omega arith)
 
 returns-2 : tie.Need-returns-then-room-sum
 returns-2 c =
-    let x = c.before.before.before.before.before.before.before.args in
-    pass x.self.before.0 x.self.sum-1.0 x.self.sum-1.1 x.n.0 (omega arith)
+    let x = c.args in
+    pass x.self.before.0 x.self.sum.0 x.self.sum.1 x.n.0 (omega arith)
 
 returns-3 : tie.Need-returns-then-room-sum-2
 returns-3 c =
-    let x = c.before.before.before.before.before.before.before.before.before.before.args in
-    pass x.self.before.0 x.self.sum-1.0 x.self.sum-1.1 x.n.0 (omega arith)
+    let x = c.args in
+    pass x.self.before.0 x.self.sum.0 x.self.sum.1 x.n.0 (omega arith)
 
 returns-4 : tie.Need-returns
 returns-4 c =
-    let x = c.before.before.before.before.before.before.before.before.before.before.before.before.before.args in
-    pass-left x.self.before.0 x.self.sum-1.0 x.self.sum-1.1 x.n.0 (omega arith)
+    let x = c.args in
+    pass-left x.self.before.0 x.self.sum.0 x.self.sum.1 x.n.0 (omega arith)
 
 pub passes_spec : {M : Type 1} → statement M
 passes_spec =

@@ -15,23 +15,23 @@ decreases-loop s high at first₀ i₀ first i = 64 - i
 
 loop-holds : tie.Need-loop-i-init invariant-loop decreases-loop
 loop-holds c =
-    let a = c.before.args in
+    let a = c.args in
     (omega arith, nearest-none a.s.now a.start.0 a.high)
 
 loop-again : tie.Need-loop-i-preserved invariant-loop decreases-loop
 loop-again c =
-    let a = c.before.before.before.before.before.before.args in let i : ℕ = c.before.before.before.before.loop-i.i in
-    let e : c.smaller-first.result ≡ min _ c.before.before.before.before.loop-i.first = c.smaller-first.ensures ∙ ap (λ (n : ℕ). min n c.before.before.before.before.loop-i.first) c.before.place_of.ensures in
-    (omega arith, subst (λ (n : ℕ). Nearest a.s.now a.start.0 a.high (i + 1) n) (sym e) (nearest-step a.s.now a.start.0 a.high i c.before.before.before.before.loop-i.first (omega arith) c.before.before.before.before.loop-i.invariant.1))
+    let a = c.args in let i : ℕ = c.loop-i.i in
+    let e : c.smaller-first.result ≡ min _ c.loop-i.first = c.smaller-first.ensures ∙ ap (λ (n : ℕ). min n c.loop-i.first) c.place_of.ensures in
+    (omega arith, subst (λ (n : ℕ). Nearest a.s.now a.start.0 a.high (i + 1) n) (sym e) (nearest-step a.s.now a.start.0 a.high i c.loop-i.first (omega arith) c.loop-i.invariant.1))
 
 cast-result : tie.Need-overflow_cast-result invariant-loop decreases-loop
-cast-result c = omega (arith, c.before.loop-i.invariant.1.low)
+cast-result c = omega (arith, c.loop-i.invariant.1.low)
 
 returns : tie.Need-returns invariant-loop decreases-loop
 returns c =
-    let a = c.before.before.before.args in
-    let e : c.before.loop-i.i ≡ 64 = omega arith in
-    block-is a.s.now a.start.0 a.high c.before.loop-i.first (omega arith) (rw e at c.before.loop-i.invariant.1)
+    let a = c.args in
+    let e : c.loop-i.i ≡ 64 = omega arith in
+    block-is a.s.now a.start.0 a.high c.loop-i.first (omega arith) (rw e at c.loop-i.invariant.1)
 
 pub block_spec : {M : Type 1} → statement M
 block_spec =

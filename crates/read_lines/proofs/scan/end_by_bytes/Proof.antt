@@ -20,26 +20,26 @@ loop-holds c = (omega arith, refl)
 
 returns : tie.Need-returns-then-s-i-lt32 invariant-loop decreases-loop
 returns c =
-    let a = c.before.before.before.before.args in let i : ℕ = c.before.before.before.loop-i.i in
+    let a = c.args in let i : ℕ = c.loop-i.i in
     let h = run-stop (stops_at a.high) a.s.now i (omega arith) (byte_low a.high (get_or a.s.now i 0) c.if-s-i-lt32.true) in
     (omega arith, omega arith)
 
 returns-2 : tie.Need-returns-then-high-s invariant-loop decreases-loop
 returns-2 c =
-    let a = c.before.before.before.before.before.before.args in let i : ℕ = c.before.before.before.before.before.loop-i.i in
+    let a = c.args in let i : ℕ = c.loop-i.i in
     let h = run-stop (stops_at a.high) a.s.now i (omega arith) (byte_high a.high (get_or a.s.now i 0) (omega arith) c.if-high-s.true) in
     (omega arith, omega arith)
 
 loop-again : tie.Need-loop-i-preserved invariant-loop decreases-loop
 loop-again c =
-    let a = c.before.before.before.before.before.before.args in let i : ℕ = c.before.before.before.before.before.loop-i.i in
+    let a = c.args in let i : ℕ = c.loop-i.i in
     let h = run_step (stops_at a.high) a.s.now i (omega arith) (byte-good a.high (get_or a.s.now i 0) (omega arith) (omega arith)) in
     (omega arith, omega arith)
 
 returns-3 : tie.Need-returns invariant-loop decreases-loop
 returns-3 c =
-    let a = c.before.before.args in
-    let h = run_none (stops_at a.high) a.s.now c.before.loop-i.i (omega arith) in
+    let a = c.args in
+    let h = run_none (stops_at a.high) a.s.now c.loop-i.i (omega arith) in
     (omega arith, omega arith)
 
 pub end_by_bytes_spec : {M : Type 1} → statement M

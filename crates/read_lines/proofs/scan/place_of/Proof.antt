@@ -9,11 +9,11 @@ use Rattle.read_lines.proofs.scan.place_of.Tie as tie
 
 returns : tie.Need-returns-then-b-lt32
 returns c =
-    let a = c.before.args in
-    ⊎_elim (λ w. sym (rw (byte_low a.high a.b (omega arith)))) (λ w. sym (rw (byte_high a.high a.b (omega arith) (omega (arith, ltb-true))))) c.if-b-lt32.branch-raw
+    let a = c.args in
+    ⊎_elim (λ w. sym (rw (byte_low a.high a.b (omega arith)))) (λ w. sym (rw (byte_high a.high a.b (omega arith) (omega (arith, ltb-true))))) c.then-b-lt32.branch-raw
 
 returns-2 : tie.Need-returns
-returns-2 c = let a = c.before.before.args in sym (rw (byte-good a.high a.b (omega arith) (omega (arith, ltb-false))))
+returns-2 c = let a = c.args in sym (rw (byte-good a.high a.b (omega arith) (omega (arith, ltb-false))))
 
 pub place_of_spec : {M : Type 1} → statement M
 place_of_spec = tie.close (tie.spec returns returns-2)

@@ -23,17 +23,17 @@ returns c = (omega arith, omega arith)
 
 returns-2 : tie.Need-returns-then-n-lt64 invariant-loop decreases-loop
 returns-2 c =
-    let b = c.before.block-n.ensures in let e = b.found c.if-n-lt64.true in
+    let b = c.block-n.ensures in let e = b.found c.if-n-lt64.true in
     (omega arith, omega arith)
 
 loop-again : tie.Need-loop-i-preserved invariant-loop decreases-loop
 loop-again c =
-    let m = c.before.block-n.ensures.missed (omega arith) in
+    let m = c.block-n.ensures.missed (omega arith) in
     (omega arith, omega arith)
 
 returns-3 : tie.Need-returns invariant-loop decreases-loop
 returns-3 c =
-    let a = c.before.before.before.args in let h = run_none (stops_at a.high) a.s.now c.before.loop-i.i (omega arith) in
+    let a = c.args in let h = run_none (stops_at a.high) a.s.now c.loop-i.i (omega arith) in
     (omega arith, omega arith)
 
 pub plain_end_spec : {M : Type 1} → statement M
@@ -47,7 +47,7 @@ plain_end_spec =
     (λ c κs. search rules)
     returns
     (λ c κs. search rules)
-    (λ c. omega (arith, c.before.block-n.ensures.low))
+    (λ c. omega (arith, c.before.block.ensures.low))
     returns-2
     (λ c. search rules)
     (λ c. search rules)

@@ -8,14 +8,14 @@ use Rattle.read_wanted.proofs.want.is_text.Tie as tie
 
 returns : tie.Need-returns-in-Text
 unfolding wanted_of fields_of
-returns c = rw c.enum_told-1.given.1
+returns c = rw c.in-Text.is
 
 returns-2 : tie.Need-returns-in-FurtherText
 unfolding wanted_of fields_of
-returns-2 c = rw c.enum_told-in-FurtherText-1.given.1
+returns-2 c = rw c.in-FurtherText.is
 
 returns-3 : tie.Need-returns-in_default
-returns-3 c = no_text _ c.in-Text.keys3
+returns-3 c = no_text _ c.in_default-own.keys3
 
 pub is_text_spec : {M : Type 1} → statement M
 is_text_spec = tie.close (tie.spec (λ c. search rules) (λ c. search rules) returns returns-2 returns-3)

@@ -8,18 +8,18 @@ use Rattle.read_wanted.proofs.want.may_lack.Tie as tie
 
 returns : tie.Need-returns-in-End
 unfolding wanted_of fields_of
-returns c = rw c.enum_told-1.given.1
+returns c = rw c.in-End.is
 
 returns-2 : tie.Need-returns-in-FurtherType
 unfolding wanted_of fields_of
-returns-2 c = rw c.enum_told-in-FurtherType-1.given.1
+returns-2 c = rw c.in-FurtherType.is
 
 returns-3 : tie.Need-returns-in-FurtherText
 unfolding wanted_of fields_of
-returns-3 c = rw c.enum_told-in-FurtherText-1.given.1
+returns-3 c = rw c.in-FurtherText.is
 
 returns-4 : tie.Need-returns-in_default
-returns-4 c = must-come _ c.in-End.keys4
+returns-4 c = must-come _ c.in_default-own.keys4
 
 pub may_lack_spec : {M : Type 1} → statement M
 may_lack_spec =

@@ -5,7 +5,7 @@ use Rattle.read_wanted.proofs.want.next_pair.Statement.{statement}
 use Rattle.read_wanted.proofs.want.next_pair.Tie as tie
 
 returns : tie.Need-returns-then-left-eq0
-returns c = pairs_end _ _ _ c.before.if-left-eq0.true c.after_funds.ensures
+returns c = pairs_end _ _ _ c.if-left-eq0.true c.after_funds.ensures
 
 returns-2 : tie.Need-returns
 returns-2 c = pairs-more _ _ c.if-left-eq0.false

@@ -5,7 +5,7 @@ use Rattle.read_wanted.proofs.want.next_split.Statement.{statement}
 use Rattle.read_wanted.proofs.want.next_split.Tie as tie
 
 returns : tie.Need-returns-then-left-eq0
-returns c = splits-end _ _ _ c.before.if-left-eq0.true c.after_funds.ensures
+returns c = splits-end _ _ _ c.if-left-eq0.true c.after_funds.ensures
 
 returns-2 : tie.Need-returns
 returns-2 c = splits-more _ _ c.if-left-eq0.false

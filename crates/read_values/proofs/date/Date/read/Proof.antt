@@ -11,11 +11,11 @@ use Rattle.read_values.proofs.date.Date.read.Statement.{statement}
 use Rattle.read_values.proofs.date.Date.read.Tie as tie
 
 -- six digits, where the first test let it pass
-six : (k : tie.Else-not-is_digits) → digits 6 6 k.before.before.before.args.f.now ≡ true
-six k = sym k.before.is_digits.ensures ∙ not-false _ k.if-not-is_digits.false
+six : (k : tie.Else-not-is_digits) → digits 6 6 k.args.f.now ≡ true
+six k = sym k.is_digits.ensures ∙ not-false _ k.if-not-is_digits.false-raw
 
 returns : tie.Need-returns-then-not-is_digits
-returns c = date-not _ (sym c.before.is_digits.ensures ∙ not-true _ c.if-not-is_digits.true)
+returns c = date-not _ (sym c.is_digits.ensures ∙ not-true _ c.if-not-is_digits.true-raw)
 
 part-value-end : tie.Need-slice_bounds-value-end
 part-value-end c = omega (arith, digits-length 6 _ (six c))
@@ -45,7 +45,7 @@ returns-4 c =
     let d = c.before.before.before in
     let m = d.before.before in
     let y = m.before.before in
-    day-low _ _ _ _ (six y.before.before) y.value-year.ensures.0 m.value-month.ensures.0 d.value-day.ensures.0 c.before.before.if-month-lt1.false c.before.if-month-gt-MONTHS.false c.if-day-lt1.true
+    day-low _ _ _ _ (six y.before.before) y.value-year.ensures.0 m.value-month.ensures.0 d.value-day.ensures.0 c.if-month-lt1.false c.if-month-gt-MONTHS.false c.if-day-lt1.true
 
 returns-5 : tie.Need-returns-then-days_in-day
 returns-5 c =
@@ -54,7 +54,7 @@ returns-5 c =
     let m = d.before.before in
     let y = m.before.before in
     day-high _ _ _ _ (six y.before.before) y.value-year.ensures.0 m.value-month.ensures.0 d.value-day.ensures.0
-    e.before.before.if-month-lt1.false e.before.if-month-gt-MONTHS.false _ c.before.days_in.ensures c.if-days_in-day.true
+    e.if-month-lt1.false e.if-month-gt-MONTHS.false _ c.days_in.ensures c.if-days_in-day.true
 
 returns-6 : tie.Need-returns
 returns-6 c =
@@ -63,7 +63,7 @@ returns-6 c =
     let m = d.before.before in
     let y = m.before.before in
     day-good _ _ _ _ (six y.before.before) y.value-year.ensures.0 m.value-month.ensures.0 d.value-day.ensures.0
-    e.before.before.if-month-lt1.false e.before.if-month-gt-MONTHS.false _ c.before.days_in.ensures e.if-day-lt1.false c.if-days_in-day.false
+    e.if-month-lt1.false e.if-month-gt-MONTHS.false _ c.days_in.ensures e.if-day-lt1.false c.if-days_in-day.false
 
 pub read_spec : {M : Type 1} → statement M
 read_spec =
