@@ -15,6 +15,7 @@ CAMEL = re.compile(r"(?<![A-Za-z0-9_'\\])[a-z][a-z0-9]*(?:[A-Z][a-z0-9]*)+(?![A-
 PARTS = re.compile(r"[A-Z]+(?![a-z])|[A-Z][a-z0-9]*|[a-z][a-z0-9]*")
 # Names that would fall together with a turned one where they stand: what they are called now, in the files whose path has one of the words.
 APART = [
+    ("itemGiven", "given_item", ["write_calls/", "c_writing/"]),
     ("numbers_after", "numbers_after_lem", ["c_writer/proofs/WriterStateLaws.antt"]),
     ("same_kind", "same_kind_lem", ["read_kinds/proofs/KindLaws.antt", "find_field/proofs/DetailFields.antt", "part_items/proofs/ItemsRead.antt"]),
     ("is_name", "name_is", ["join_split/proofs/split/Proof.antt"]),

@@ -19,7 +19,7 @@ use Rattle.write_line.specs.declared.MaybeItems.{MaybeItems}
 use Rattle.write_state.specs.WriterMeaning.{writer_meant, written_meant}
 use Rattle.write_state.specs.declared.Writer.{Writer}
 use Rattle.write_state.specs.declared.Written.{Written}
-use Rattle.write_calls.specs.ItemMeaning.{item_meant, item_given}
+use Rattle.write_calls.specs.ItemMeaning.{item_meant, given_item}
 use Rattle.c_writer.specs.WriterFigures.{state_of, numbers_after, answer_of, replied, reply_to, or_none, amount_asked, items_asked, item_of, item_asked}
 use Rattle.c_writer.specs.declared.Bai2Writer.{Bai2Writer}
 use Rattle.c_writer.specs.declared.Bai2Written.{Bai2Written}
@@ -44,10 +44,10 @@ module _ (type : Bytes) (g h count : ℕ) (amount : ℤ) (a : MaybeAmount) (n : 
   item-is = rw (e, f)
 
   -- an item, or none
-  pub item-or-none : (given : ℕ) → item_given (not (eqb given 0)) type a n ≡ item_asked given (item_of type g amount h count)
+  pub item-or-none : (given : ℕ) → given_item (not (eqb given 0)) type a n ≡ item_asked given (item_of type g amount h count)
   unfolding or_none
   item-or-none given = by-test (known (eqb given 0))
     where
-      by-test : Known (eqb given 0) → item_given (not (eqb given 0)) type a n ≡ cond (eqb given 0) none (some (item_of type g amount h count))
+      by-test : Known (eqb given 0) → given_item (not (eqb given 0)) type a n ≡ cond (eqb given 0) none (some (item_of type g amount h count))
       by-test (holds z) = rw z
       by-test (fails z) = rw z (ap (λ (i : Item). some i) item-is)

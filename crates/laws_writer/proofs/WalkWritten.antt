@@ -63,6 +63,7 @@ pub walk-slash : {ks used left : List Kind} {f : Bytes} {fs : List Bytes} (p : �
     → walk_cells (walk_at ks acc q) (cells_from p (with_commas (f ∷ fs) ++ (slash ∷ [])))
     ≡ fine (walk_at left (acc ++ zipped p used (f ∷ fs)) (end_of p (f ∷ fs)))
 unfolding with_commas zipped end_of
+walk-slash {ks = []} {used = used} {left = left} {f = f} {fs = fs} p acc q t = elim t [ ]
 walk-slash {ks = k ∷ ks} {left = left} {f = f} {fs = []} p acc q (one {new = new} c s t j e done) = take-slash k ks new left p f acc q c t j e
 walk-slash {ks = k ∷ ks} {f = f} {fs = g ∷ fs} p acc q (one {new = new} {next = next} {used = used} c s t j e r) =
     rw (append_assoc f (comma ∷ with_commas (g ∷ fs)) (slash ∷ []))
@@ -76,6 +77,7 @@ pub walk-comma : {ks used left : List Kind} {f : Bytes} {fs : List Bytes} (tail 
     → walk_cells (walk_at (ks ++ tail) acc q) (cells_from p (with_commas (f ∷ fs) ++ (comma ∷ rest)))
     ≡ walk_cells (walk_at (left ++ tail) (acc ++ zipped p used (f ∷ fs)) q) (cells_from (suc (end_of p (f ∷ fs))) rest)
 unfolding with_commas zipped end_of
+walk-comma {ks = []} {used = used} {left = left} {f = f} {fs = fs} tail rest p acc q t = elim t [ ]
 walk-comma {ks = k ∷ ks} {left = left} {f = f} {fs = []} tail rest p acc q (one {new = new} c s t j e done) =
     take-comma k (ks ++ tail) new (left ++ tail) p f acc q c t j (sym (append_assoc new ks tail) ∙ ap (λ (l : List Kind). l ++ tail) e) rest
 walk-comma {ks = k ∷ ks} {f = f} {fs = g ∷ fs} tail rest p acc q (one {new = new} {next = next} {used = used} c s t j e r) =

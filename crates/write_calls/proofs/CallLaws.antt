@@ -26,7 +26,7 @@ use Rattle.write_line.proofs.FieldChains.{no_text, line_sofar, chain-is, fields_
 use Rattle.write_line.specs.declared.MaybeAmount.{MaybeAmount}
 use Rattle.write_line.specs.declared.MaybeItems.{MaybeItems}
 use Rattle.write_commit.proofs.LinesCommitted.{Drafts, good-line, bad-field, bad-text, slash_line, slash-drafts, none-wanted, answered, answers, zero_space}
-use Rattle.write_calls.specs.ItemMeaning.{item_meant, item_given}
+use Rattle.write_calls.specs.ItemMeaning.{item_meant, given_item}
 
 -- ---- each call: its drafted line committed is what the rules write
 
@@ -122,5 +122,5 @@ unfolding write given
 no_item w n c out = refl
 
 pub with_item : (w : Writer) (n c y out : Bytes) (a : MaybeAmount) (k : MaybeItems) (g : Bool) {r : Written} → g ≡ true
-    → r ≡ write w (write_account n c (some (item_meant y a k))) out → r ≡ write w (write_account n c (item_given g y a k)) out
+    → r ≡ write w (write_account n c (some (item_meant y a k))) out → r ≡ write w (write_account n c (given_item g y a k)) out
 with_item w n c y out a k g e h = rw e h

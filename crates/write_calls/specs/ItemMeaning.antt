@@ -11,6 +11,6 @@ use Rattle.write_line.specs.declared.MaybeItems.{MaybeItems}
 abbrev pub item_meant : Bytes → MaybeAmount → MaybeItems → Item
 item_meant y a n = record { type = y; amount = amount_given a; item_count = items_given n }
 
-abbrev pub item_given : Bool → Bytes → MaybeAmount → MaybeItems → Option Item
-item_given true y a n = some (item_meant y a n)
-item_given false y a n = none
+abbrev pub given_item : Bool → Bytes → MaybeAmount → MaybeItems → Option Item
+given_item true y a n = some (item_meant y a n)
+given_item false y a n = none

@@ -7,7 +7,7 @@ ghost use Rattle.std.specs.Prelude.{◌≡◌, true};
 ghost use Rattle.write_line.specs.DraftMeaning.{amount_given};
 ghost use Rattle.rules.specs.Writer as rules;
 ghost use Rattle.write_state.specs.WriterMeaning.{writer_meant, written_meant};
-ghost use Rattle.write_calls.specs.ItemMeaning.{item_meant, item_given};
+ghost use Rattle.write_calls.specs.ItemMeaning.{item_meant, given_item};
 
 use base_codes::Code;
 use base_quantities::Units;
@@ -25,7 +25,7 @@ fn open_account(
     out: &mut [u8],
 ) -> Written
     ensures { written_meant result out.new ≡ rules.write (writer_meant w)
-        (rules.write_account number.now currency.now (item_given true type_code.now amount count))
+        (rules.write_account number.now currency.now (given_item true type_code.now amount count))
         out.old }
 {
     let mut space = [0u8; LINE_SPACE];
@@ -89,7 +89,7 @@ pub fn account(
     out: &mut [u8],
 ) -> Written
     ensures { written_meant result out.new ≡ rules.write (writer_meant w)
-        (rules.write_account number.now currency.now (item_given item_given type_code.now amount count))
+        (rules.write_account number.now currency.now (given_item item_given type_code.now amount count))
         out.old }
 {
     if item_given {

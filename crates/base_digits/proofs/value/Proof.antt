@@ -62,8 +62,8 @@ returns c = (value-long _ c.if-s-gt-MOST_DIGITS.true, zero-le)
 -- eight zeros were passed; or none, of a long number and of a short one
 loop-holds : tie.Need-loop-i-init invariant-loop decreases-loop
 loop-holds c =
-    ⊎_elim (λ w. (rw w.5 (passed 8 _ (omega (arith, w.0.true)) (sym w.3.ensures ∙ w.4.true)), w.1.false))
-    (⊎_elim (λ w. (rw w.5 (start _), w.1.false)) (λ w. (rw w.1 (start _), omega (arith, w.0.false))))
+    ⊎_elim (λ w. (rw w.i-is (passed 8 _ (omega (arith, w.if-s-ge-LONG_NUMBER.true)) (sym w.all_between.ensures ∙ w.if-all_between.true)), w.if-s-gt-MOST_DIGITS.false))
+    (⊎_elim (λ w. (rw w.i-is (start _), w.if-s-gt-MOST_DIGITS.false)) (λ w. (rw w.i-is (start _), omega (arith, w.if-s-ge-LONG_NUMBER.false))))
     c.if-s-ge-LONG_NUMBER.branch-raw
 
 returns-2 : tie.Need-returns-then-d-gt9 invariant-loop decreases-loop

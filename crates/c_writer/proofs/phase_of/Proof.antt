@@ -28,7 +28,7 @@ returns-6 : tie.Need-returns-in_default
 unfolding phase_of
 returns-6 c =
     let n = c.args.n in
-    let none = c.in_default-own.rest in
+    let none = c.in_default.in_default-own.rest in
     rw (ne_eqb n 0 none.0.0.0.0.1, ne_eqb n 1 none.0.0.0.1, ne_eqb n 2 none.0.0.1, ne_eqb n 3 none.0.1, ne_eqb n 4 none.1)
 
 pub phase_of_spec : {M : Type 1} → statement M

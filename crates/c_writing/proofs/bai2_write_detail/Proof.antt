@@ -17,9 +17,9 @@ returns c =
     let w = c.state_of-w in
     let r = c.detail-r in
     let a = c.amount_asked-a in
-    replies s.args.writer w.result r.result c.answered.result (rules.write_detail s.args.type_code.now (amount_asked s.args.amount_given s.args.amount) s.args.bank_reference.now s.args.customer_reference.now s.args.text.now) s.args.out.now r.new.1.1.1.1.1.1.0 w.ensures
+    replies s.args.writer w.result r.result c.answered.result (rules.write_detail s.args.type_code.now (amount_asked s.args.amount_given s.args.amount) s.args.bank_reference.now s.args.customer_reference.now s.args.text.now) s.args.out.now r.new.out w.ensures
     (written_as (writer_meant w.result) s.args.out.now (rules.write_detail s.args.type_code.now (amount_given a.result) s.args.bank_reference.now s.args.customer_reference.now s.args.text.now)
-    (rules.write_detail s.args.type_code.now (amount_asked s.args.amount_given s.args.amount) s.args.bank_reference.now s.args.customer_reference.now s.args.text.now) (written_meant r.result r.new.1.1.1.1.1.1.0) r.ensures
+    (rules.write_detail s.args.type_code.now (amount_asked s.args.amount_given s.args.amount) s.args.bank_reference.now s.args.customer_reference.now s.args.text.now) (written_meant r.result r.new.out) r.ensures
     (ap (λ (x : Option Signed). rules.write_detail s.args.type_code.now x s.args.bank_reference.now s.args.customer_reference.now s.args.text.now) (amount-is s.args.amount_given s.args.amount a.result s.ranges.amount a.ensures)))
     c.answered.ensures
 

@@ -10,7 +10,7 @@ returns c =
     let s = c.before.before.before.before.before.before.before in
     let w = c.state_of-w in
     let r = c.end_account-r in
-    replies s.args.writer w.result r.result c.answered.result rules.end_account s.args.out.now r.new.1.0 w.ensures r.ensures c.answered.ensures
+    replies s.args.writer w.result r.result c.answered.result rules.end_account s.args.out.now r.new.out w.ensures r.ensures c.answered.ensures
 
 pub bai2_write_end_account_spec : {M : Type 1} → statement M
 bai2_write_end_account_spec =

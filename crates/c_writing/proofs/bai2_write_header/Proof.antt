@@ -10,7 +10,7 @@ returns c =
     let s = c.before.before.before.before.before.before.before.before.before.before.before.before in
     let w = c.state_of-w in
     let r = c.header-r in
-    replies s.args.writer w.result r.result c.answered.result (rules.write_header s.args.sender.now s.args.receiver.now s.args.date.now s.args.time.now s.args.file_number.now) s.args.out.now r.new.1.1.1.1.1.1.0 w.ensures r.ensures c.answered.ensures
+    replies s.args.writer w.result r.result c.answered.result (rules.write_header s.args.sender.now s.args.receiver.now s.args.date.now s.args.time.now s.args.file_number.now) s.args.out.now r.new.out w.ensures r.ensures c.answered.ensures
 
 pub bai2_write_header_spec : {M : Type 1} → statement M
 bai2_write_header_spec =

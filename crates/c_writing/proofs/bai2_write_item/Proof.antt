@@ -16,9 +16,9 @@ returns c =
     let r = c.item-r in
     let n = c.items_asked-n in
     let a = c.amount_asked-a in
-    replies s.args.writer w.result r.result c.answered.result (rules.write_item (item_of s.args.type_code.now s.args.amount_given s.args.amount s.args.count_given s.args.count)) s.args.out.now r.new.1.1.1.1.0 w.ensures
+    replies s.args.writer w.result r.result c.answered.result (rules.write_item (item_of s.args.type_code.now s.args.amount_given s.args.amount s.args.count_given s.args.count)) s.args.out.now r.new.out w.ensures
     (written_as (writer_meant w.result) s.args.out.now (rules.write_item (item_meant s.args.type_code.now a.result n.result))
-    (rules.write_item (item_of s.args.type_code.now s.args.amount_given s.args.amount s.args.count_given s.args.count)) (written_meant r.result r.new.1.1.1.1.0) r.ensures
+    (rules.write_item (item_of s.args.type_code.now s.args.amount_given s.args.amount s.args.count_given s.args.count)) (written_meant r.result r.new.out) r.ensures
     (ap (λ (i : rules.Item). rules.write_item i) (item-is s.args.type_code.now s.args.amount_given s.args.count_given s.args.count s.args.amount a.result n.result (amount-is s.args.amount_given s.args.amount a.result s.ranges.amount a.ensures) n.ensures)))
     c.answered.ensures
 

@@ -23,13 +23,13 @@ sought : (c : Found) → Seeks (rec-of c) c.args.n (types.Type c.in-Type.found)
 sought c = subst (Seeks (rec-of c) _) c.in-Type.is c.seek_type.ensures
 
 take-next-requires : tie.Need-take_next-amount-requires
-take-next-requires c κs = (sought c).1.still
+take-next-requires c κs = (sought c.before).1.still
 
 take-next-requires-2 : tie.Need-take_next-count-requires
 take-next-requires-2 c κs = c.take_next-amount.ensures.stands.still
 
 bytes-of-requires : tie.Need-bytes_of-requires
-bytes-of-requires c κs = (sought c.before.before).1.inside
+bytes-of-requires c κs = (sought c.before.before.before.before).1.inside
 
 bytes-of-requires-2 : tie.Need-bytes_of-requires-in-Type
 bytes-of-requires-2 c κs = c.take_next-amount.ensures.stands.inside
@@ -44,7 +44,7 @@ returns-2 : tie.Need-returns-in-Type
 returns-2 c =
     let b = c.before.before.before in
     let count = b.before.before.before in
-    let f = count.before.before in
+    let f = count.before.before.before.before in
     ap (λ (i : AccountItem). fine i)
     (item-is (rec-of f) _ f.in-Type.found count.take_next-amount.result count.take_next-count.result count.take_next-amount.ensures count.take_next-count.ensures _ _ _
     (b.value.ensures.0 ∙ ap value_of b.bytes_of.ensures)

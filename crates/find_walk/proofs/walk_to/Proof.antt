@@ -134,7 +134,7 @@ put-next-requires c κs =
     let f = c.before.before in
     let a = asked f in
     let o = onward (rec-of a) _ _ _ (all a) _ (walk_of a) _ _ _ (going a) _ (steps a) _ _ _ f.in-Field.is in
-    (o.0, (going a).within, omega (arith, o.0, short a, (entry a).good))
+    (o.0, (going a).within, omega (arith, o.0, short a, (entry a).well_formed))
 
 add-n : tie.Need-overflow_add-n invariant-loop decreases-loop
 add-n c = let a = asked (field c.before.before) in omega (arith, (going a).few, short a)

@@ -27,7 +27,7 @@ abbrev Joined : Type 0
 Joined = tie.After-join
 
 abbrev begun : Joined → tie.Start
-begun c = c.before.before.before.before.before.before.before
+begun c = c.before.before.before.before.before.before.before.before
 
 abbrev first_of : Joined → GoodFile
 first_of c = (begun c).args.first

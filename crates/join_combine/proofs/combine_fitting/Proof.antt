@@ -63,10 +63,10 @@ abbrev Measured : Type 0
 Measured = tie.After-fresh_trailer-last
 
 abbrev counted_of : Measured → tie.After-records_left-records
-counted_of c = c.before.before.before
+counted_of c = c.before.before.before.before.before
 
 abbrev begun : Measured → At
-begun c = (counted_of c).before.before.before.before.before.before.before.before.before
+begun c = (counted_of c).before.before.before.before.before.before.before.before.before.before.before
 
 abbrev records-of : Measured → ℕ
 records-of c = c.add.result.0
@@ -121,23 +121,23 @@ abbrev counting : Counting → At
 counting c = c.before.before.before.before.before
 
 sub-records-left : tie.Need-slice_bounds-records_left-count
-sub-records-left c = omega (arith, (inside (counting c)).a-last)
+sub-records-left c = omega (arith, (inside (counting c.before.before)).a-last)
 
 part-records-left-start : tie.Need-slice_bounds-records_left-start
-part-records-left-start c = omega (arith, (inside (counting c)).a-last)
+part-records-left-start c = omega (arith, (inside (counting c.before.before)).a-last)
 
 part-records-left-end-2 : tie.Need-slice_bounds-records_left-end-2
-part-records-left-end-2 c = let i = inside (counting c.before) in omega (arith, i.header, i.b-last)
+part-records-left-end-2 c = let i = inside (counting c.before.before.before) in omega (arith, i.header, i.b-last)
 
 sub-records-left-3 : tie.Need-slice_bounds-records_left-count-3
-sub-records-left-3 c = omega (arith, (inside (counting c.before.before)).b-last)
+sub-records-left-3 c = omega (arith, (inside (counting c.before.before.before.before)).b-last)
 
 part-records-left-start-3 : tie.Need-slice_bounds-records_left-start-3
-part-records-left-start-3 c = omega (arith, (inside (counting c.before.before)).b-last)
+part-records-left-start-3 c = omega (arith, (inside (counting c.before.before.before.before)).b-last)
 
 records-left-requires : tie.Need-records_left-records-requires
 records-left-requires c κs =
-    let s = counting c.before.before.before in
+    let s = counting c.before.before.before.before.before in
     let i = inside s in (
       s.requires.0.records,
       s.requires.1.records,
@@ -147,7 +147,7 @@ records-left-requires c κs =
     )
 
 both-requires : tie.Need-both-requires
-both-requires c κs = let s = counting c.before.before.before.before in (s.requires.0.groups, s.requires.1.groups)
+both-requires c κs = let s = counting c.before.before.before.before.before.before.before.before in (s.requires.0.groups, s.requires.1.groups)
 
 -- ---- 18, 15
 
@@ -205,17 +205,17 @@ part-put-three-end-2 c = omega (arith, (inside (fit_of c.before)).b-last)
 
 put-three-requires : tie.Need-put_three-requires
 put-three-requires c κs =
-    let f = c.before.before.before.before.before in
+    let f = c.before.before.before.before in
     subst (λ (bs : Bytes). length bs ≤ length (out_of (fit_of f))) (sym (lent (measured-of f))) (room f)
 
 returns-3 : tie.Need-returns
 unfolding combined_fitting
 returns-3 c =
     let put = c.put_three in
-    let f = c.before.before.before.before.before.before.before.before in
+    let f = c.before.before.before.before.before.before.before in
     let s = fit_of f in
-    written (combined_result (a-of s) (b-of s)) (out_of s) 0 (short-enough f) (room f) put.result put.new.1.1.1.0
-    (subst (λ (bs : Bytes). Put bs (out_of s) put.result put.new.1.1.1.0) (lent (measured-of f)) put.ensures)
+    written (combined_result (a-of s) (b-of s)) (out_of s) 0 (short-enough f) (room f) put.result put.new.out
+    (subst (λ (bs : Bytes). Put bs (out_of s) put.result put.new.out) (lent (measured-of f)) put.ensures)
 
 pub combine_fitting_spec : {M : Type 1} → statement M
 combine_fitting_spec =

@@ -12,7 +12,7 @@ returns c =
     let y = s.args.y.now in
     let z = s.args.z.now in
     let put₁ = c.put-o in
-    let w₁ = wrote-first x (y ++ z) s.args.out.now put₁.result put₁.new.0 s.requires put₁.ensures in
+    let w₁ = wrote-first x (y ++ z) s.args.out.now put₁.result put₁.new.out s.requires put₁.ensures in
     let w₂ = wrote-part _ _ _ y z _ _ _ w₁ c.put-o-2.ensures in
     wrote-last _ _ _ z _ _ _ w₂ c.put-o-3.ensures
 

@@ -90,13 +90,13 @@ abbrev Took : Type 0
 Took = tie.After-add-records invariant-loop decreases-loop
 
 abbrev asked_of : Took → Asked
-asked_of c = c.before.before.before.before.before.before.before.before.before.before
+asked_of c = c.before.before.before.before.before.before.before.before.before.before.before.before
 
 abbrev put_of : Took → tie.After-put-o invariant-loop decreases-loop
-put_of c = c.before.before.before.before.before.before
+put_of c = c.before.before.before.before.before.before.before.before
 
 abbrev read_of : Took → tie.After-read_trailer-trailer invariant-loop decreases-loop
-read_of c = c.before.before
+read_of c = c.before.before.before.before
 
 loop-holds : tie.Need-loop-last-init invariant-loop decreases-loop
 loop-holds c =

@@ -52,8 +52,7 @@ told c v e = sym c.read.ensures ∙ ap (λ (x : Verdict). verdict_meant x) e
 
 split-accepted-requires : tie.Need-split_accepted-requires
 split-accepted-requires c κs =
-    let told_of = c.enum_told-1 in
-    (summary_meant told_of.given.0.0, told c.before.before _ told_of.given.1)
+    (summary_meant c.in-Accepted.field-0, told c.before.before _ c.in-Accepted.is)
 
 returns-2 : tie.Need-returns-in-Refused
 returns-2 c =

@@ -35,7 +35,7 @@ returns-2 c =
     let e = c.before.before.before.before in
     let a = e.args in
     let write = c.write_split in
-    written (split_result a.name.now a.file.now) a.out.now 0 (fits e).0 (fits e).1 write.result write.new.1.1.1.0 write.ensures
+    written (split_result a.name.now a.file.now) a.out.now 0 (fits e).0 (fits e).1 write.result write.new.out write.ensures
 
 pub split_accepted_spec : {M : Type 1} → statement M
 split_accepted_spec =

@@ -36,7 +36,7 @@ header_of c = c.args.header
 known : (c : Took) → Opened (file-of c) (header_of c)
 known c = let p = c.requires in opened (file-of c) p.0.0 (header_of c) p.0.1 p.1
 
-took : (c : Took) → let t = c.take_groups-tally in let xs = drop (header_of c) (file-of c) in Takes (matching (name_of c) xs) (length xs) (out_of c) t.result t.new.1.1.1.0
+took : (c : Took) → let t = c.take_groups-tally in let xs = drop (header_of c) (file-of c) in Takes (matching (name_of c) xs) (length xs) (out_of c) t.result t.new.out
 took c =
     let xs = drop (header_of c) (file-of c) in
     takes (name_of c) xs (known c).ahead (omega (arith, length-drop (header_of c) (file-of c), (known c).not-too-long)) _ _ _ c.take_groups-tally.ensures
@@ -49,7 +49,7 @@ part-count-lines-end c = (known c).inside
 
 returns : tie.Need-returns
 returns c =
-    let m = c.before.before.before.before.before in
+    let m = c.before.before.before.before.before.before.before.before in
     let t = m.take_groups-tally in
     let taken = took m in
     let name = name_of m in

@@ -70,13 +70,13 @@ out_of c = (begun c).args.out.now
 abbrev holds : Took → Bytes
 holds c =
     let put = (header-put c).put-o in
-    put_mid put.result (length put.last.0 - put.result) put.last.0 (rest_of c).take_rest-rest.new.1.1.1.0
+    put_mid put.result (length put.new.out - put.result) put.new.out (rest_of c).take_rest-rest.new.out
 
 wrote : (c : Took) → Wrote (split_result (name_of c) (file-of c)) (out_of c) ((header-put c).put-o.result + (rest_of c).take_rest-rest.result.bytes) (split_last (name_of c) (file-of c)) (holds c)
 wrote c =
     let put = (header-put c).put-o in
     let rest = (rest_of c).take_rest-rest in
-    after-groups (name_of c) (file-of c) (out_of c) (begun c).args.header (begun c).requires.0 (begun c).requires.1 put.result put.last.0 put.ensures rest.result.bytes _ rest.ensures.put
+    after-groups (name_of c) (file-of c) (out_of c) (begun c).args.header (begun c).requires.0 (begun c).requires.1 put.result put.new.out put.ensures rest.result.bytes _ rest.ensures.put
 
 small : (c : Took) → length (out_of c) < 18446744073709551616
 small c = omega arith
@@ -99,7 +99,7 @@ abbrev Put99 : Type 0
 Put99 = tie.After-put-o-2
 
 abbrev took_of : Put99 → Took
-took_of c = c.before.before.before.before
+took_of c = c.before.before.before
 
 add-o-2 : tie.Need-overflow_add-o-2
 add-o-2 c =

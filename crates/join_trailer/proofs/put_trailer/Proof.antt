@@ -21,7 +21,7 @@ abbrev groups-put : tie.After-put_digits_after-o-2 → tie.After-put_digits_afte
 groups-put c = c.before.before.before.before
 
 abbrev records-put : tie.After-put-o-2 → tie.After-put_digits_after-o-2
-records-put c = c.before.before.before.before.before
+records-put c = c.before.before.before.before.before.before
 
 returns : tie.Need-returns
 unfolding last_line
@@ -37,7 +37,7 @@ returns c =
     let records : Bytes = comma ∷ decimal a.records.0 in
     let groups : Bytes = comma ∷ decimal a.groups.0 in
     let total = total_bytes (sum_meant a.total) in
-    let w₁ = wrote-first (57 ∷ 57 ∷ comma ∷ []) (total ++ (groups ++ (records ++ last))) a.out.now code_call.put-o.result code_call.put-o.last.0 s.requires code_call.put-o.ensures in
+    let w₁ = wrote-first (57 ∷ 57 ∷ comma ∷ []) (total ++ (groups ++ (records ++ last))) a.out.now code_call.put-o.result code_call.put-o.new.out s.requires code_call.put-o.ensures in
     let w₂ = wrote-part _ _ _ total (groups ++ (records ++ last)) _ _ _ w₁ total-call.put_total-o.ensures in
     let w₃ = wrote-part _ _ _ groups (records ++ last) _ _ _ w₂ groups-call.put_digits_after-o.ensures in
     let w₄ = wrote-part _ _ _ records last _ _ _ w₃ records-call.put_digits_after-o-2.ensures in
@@ -47,7 +47,6 @@ pub put_trailer_spec : {M : Type 1} → statement M
 put_trailer_spec =
     tie.close
     (tie.spec
-    (λ c. search rules)
     (λ c κs. search rules)
     (λ c. search rules)
     (λ c. search rules)
@@ -63,7 +62,6 @@ put_trailer_spec =
     (λ c. search rules)
     (λ c. search rules)
     (λ c κs. search rules)
-    (λ c. search rules)
     (λ c. search rules)
     (λ c. search rules)
     (λ c. search rules)

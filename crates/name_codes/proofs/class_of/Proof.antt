@@ -31,7 +31,7 @@ non-monetary c = rw c.in-110.is refl
 
 unlisted : tie.Need-returns-in_default
 unlisted c =
-    let others = c.in_default-own.rest in
+    let others = c.in_default.in_default-own.rest in
     sym (no-letter c.args.letter others.0.0.0.0.0.1 others.0.0.0.0.1 others.0.0.0.1 others.0.0.1 others.0.1 others.1)
 
 pub class_of_spec : {M : Type 1} → statement M

@@ -73,7 +73,7 @@ returns c =
     record { answer = no-piece (from-of (sought-of t)) (found_in t) (sym (tested t) ∙ c.if-is_one_of.true); inside = zero-le }
 
 add-in-file : tie.Need-overflow_add-in_file
-add-in-file c = let s = sought-of c.before in omega (arith, fits s, (begun s).requires.0, (begun s).requires.1, (begun s).good)
+add-in-file c = let s = sought-of c.before in omega (arith, fits s, (begun s).requires.0, (begun s).requires.1, (begun s).well_formed)
 
 returns-2 : tie.Need-returns
 returns-2 c =
@@ -85,8 +85,8 @@ returns-2 c =
       inside = omega (arith, fits s, (begun s).requires.0, (begun s).requires.1);
     }
 
-pub text_in-spec : {M : Type 1} → statement M
-text_in-spec =
+pub text_in_spec : {M : Type 1} → statement M
+text_in_spec =
     tie.close
     (tie.spec
     sub-rec

@@ -75,7 +75,7 @@ returns-2 c =
     let t = h.before.before.before.before in
     let k = walked t in
     let fits = room t true (flip _ _ h.if-not-has_room.false-raw) in
-    gives (start_of k) (all k) (before k) (count t) (count-is t) h.walk_to-then-n-gt-HELD.new.1.1.1.1.1.0 fits
+    gives (start_of k) (all k) (before k) (count t) (count-is t) h.walk_to-then-n-gt-HELD.new.out fits
     (h.walk_to-then-n-gt-HELD.ensures.out ∙ all-put (start_of k) (all k) (before k) (count t) (count-is t) (before k) (leb-true (3 * count t) (length (before k)) fits))
 
 returns-3 : tie.Need-returns-in-Refused
@@ -92,18 +92,18 @@ returns-4 c =
 returns-5 : tie.Need-returns-else-n-gt-HELD
 returns-5 c =
     let p = c.before.before in
-    let t = p.before.before.before.before.before.before in
+    let t = p.before.before.before.before.before in
     let k = walked t in
-    let held = k.walk_to.last.1.1.1.1.1.0 in
-    let few = p.if2.false in
+    let held = k.walk_to.new.out in
+    let few = p.if-n-gt-HELD.false in
     let filled = k.walk_to.ensures.out ∙ all-put (start_of k) (all k) (before k) (count t) (count-is t) _ (omega (arith, few)) in
     let whole : 3 * count t - 0 ≡ 3 * count t = omega arith in
     let lent = ap (λ (n : ℕ). take n held) whole ∙ ap (λ (ns : List ℕ). take (3 * count t) ns) filled in
-    let fits = room t true (flip _ _ p.if1.false) in
-    gives (start_of k) (all k) (before k) (count t) (count-is t) p.put_numbers.new.0 fits
-    (copied (numbers_passed 0 (start_of k) (all k)) _ (before k) p.put_numbers.new.0 (3 * count t) p.put_numbers.result
+    let fits = room t true (flip _ _ p.if-not-has_room.false-raw) in
+    gives (start_of k) (all k) (before k) (count t) (count-is t) p.put_numbers.new.out fits
+    (copied (numbers_passed 0 (start_of k) (all k)) _ (before k) p.put_numbers.new.out (3 * count t) p.put_numbers.result
     (numbers-size (start_of k) (all k) (before k) (count t) (count-is t))
-    (subst (λ (src : List ℕ). Put src (before k) p.put_numbers.result p.put_numbers.new.0) lent p.put_numbers.ensures) fits)
+    (subst (λ (src : List ℕ). Put src (before k) p.put_numbers.result p.put_numbers.new.out) lent p.put_numbers.ensures) fits)
 
 pub fields_of_spec : {M : Type 1} → statement M
 fields_of_spec =

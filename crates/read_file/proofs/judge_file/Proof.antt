@@ -120,10 +120,10 @@ passed : (c : Next) → Passed (turn (step_of c)).loop-why.st (drop (at_of (turn
 passed c = told (step_of c) _ c.in-Next.is
 
 add_at : tie.Need-overflow_add-at invariant-loop decreases-loop
-add_at c = let t = turn (step_of c) in let l = length-drop (at_of t) (file-of t) in omega (arith, (passed c).ranges)
+add_at c = let t = turn (step_of c) in let l = length-drop (at_of t) (file-of t) in omega (arith, (passed c).fits)
 
 loop-less : tie.Need-loop-why-smaller invariant-loop decreases-loop
-loop-less c = let t = turn (step_of c) in let l = length-drop (at_of t) (file-of t) in omega (arith, (passed c).ranges, (passed c).some_byte)
+loop-less c = let t = turn (step_of c) in let l = length-drop (at_of t) (file-of t) in omega (arith, (passed c).fits, (passed c).some_byte)
 
 loop-again : tie.Need-loop-why-preserved invariant-loop decreases-loop
 loop-again c =
@@ -132,9 +132,9 @@ loop-again c =
     let z = passed c in (
       omega (arith, z.fits),
       z.held,
-      omega (arith, z.records, z.fits, t.loop.invariant.2),
-      t.loop.invariant.3 ∙ run-go (at_of t) _ (state-of t) (file-of t) (omega (arith, z.fits, z.some_byte)) z.extent _ z.steps,
-      t.loop.invariant.4 ∙ last-go (at_of t) _ (state-of t) (file-of t) (omega (arith, z.fits, z.some_byte)) z.extent _,
+      omega (arith, z.records, z.fits, t.loop-why.invariant.2),
+      t.loop-why.invariant.3 ∙ run-go (at_of t) _ (state-of t) (file-of t) (omega (arith, z.fits, z.some_byte)) z.extent _ z.steps,
+      t.loop-why.invariant.4 ∙ last-go (at_of t) _ (state-of t) (file-of t) (omega (arith, z.fits, z.some_byte)) z.extent _,
     )
 
 pub judge_file_spec : {M : Type 1} → statement M

@@ -9,7 +9,7 @@ use Rattle.read_file.proofs.read.Tie as tie
 returns : tie.Need-returns-in-Accepted
 returns c =
     let j = c.before.before in
-    sym (subst (λ (v : Judged). JudgedIs v j.args.file.now) c.good2.given.1 j.judge_file.ensures).accepts
+    sym (subst (λ (v : Judged). JudgedIs v j.args.file.now) c.in-Accepted.is j.judge_file.ensures).accepts
 
 returns-2 : tie.Need-returns-in-Refused
 returns-2 c =

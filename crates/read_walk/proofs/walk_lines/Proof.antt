@@ -75,7 +75,7 @@ next_of c = end_of c + c.end_len.result
 abbrev from-of : Line → WalkK
 from-of c =
     let w = c.walk in
-    point (wanted_of w.want) w.auto w.slash.0
+    point (wanted_of w.want) w.kept w.slash.0
 
 -- the walk where the record starts
 abbrev Made : Type 0
@@ -92,7 +92,7 @@ same-before : (c : Made) → c.none-kept.result.before.0 ≡ c.args.before.0
 same-before c = ap (λ (k : Kept). k.before.0) c.none-kept.ensures
 
 abbrev before_of : Line → ℕ
-before_of c = c.walk.auto.before.0
+before_of c = c.walk.kept.before.0
 
 kept-before : (c : Line) → before_of c ≡ c.none-kept.result.before.0
 kept-before c = c.walk.invariant.1.kept.before
@@ -152,7 +152,7 @@ abbrev at_of : Head → ℕ
 at_of c = c.loop-n.a
 
 abbrev here : Head → WalkK
-here c = point (wanted_of c.loop-n.want) c.loop-n.auto c.loop-n.slash.0
+here c = point (wanted_of c.loop-n.want) c.loop-n.kept c.loop-n.slash.0
 
 abbrev left : Head → Bytes
 left c = slice (at_of c) (end_of (line c)) (rec-of (line c))
@@ -206,13 +206,13 @@ Noted = tie.Joined-is_kept invariant-loop decreases-loop invariant-walk decrease
 abbrev noted-field : Noted → Field
 noted-field c = c.before.before
 
-kept-is : (c : Noted) → c.if-is_kept.auto ≡ keep_read (purpose (next_kind (here (head (noted-field c))).wanted)) (here (head (noted-field c))).kept (at_of (head (noted-field c))) (bytes (noted-field c))
+kept-is : (c : Noted) → c.if-is_kept.kept ≡ keep_read (purpose (next_kind (here (head (noted-field c))).wanted)) (here (head (noted-field c))).kept (at_of (head (noted-field c))) (bytes (noted-field c))
 kept-is c =
     let g = noted-field c in
     let h = head g in
     ⊎_elim
-    (λ t. t.3 ∙ t.2.ensures ∙ ap (λ (bs : Bytes). keep_read (purpose (next_kind (here h).wanted)) (here h).kept (at_of h) bs) (lent g))
-    (λ t. t.1 ∙ kept-for-nothing (purpose (next_kind (here h).wanted)) (here h).kept (at_of h) (bytes g) (sym c.is_kept.ensures ∙ t.0.false))
+    (λ t. t.kept-is ∙ t.keep-kept.ensures ∙ ap (λ (bs : Bytes). keep_read (purpose (next_kind (here h).wanted)) (here h).kept (at_of h) bs) (lent g))
+    (λ t. t.kept-is ∙ kept-for-nothing (purpose (next_kind (here h).wanted)) (here h).kept (at_of h) (bytes g) (sym c.is_kept.ensures ∙ t.if-is_kept.false))
     c.if-is_kept.branch-raw
 
 -- ---- the field is judged
@@ -332,7 +332,7 @@ walk-again c =
     )
 
 add-a-2 : tie.Need-overflow_add-a-in-loop-n invariant-loop decreases-loop invariant-walk decreases-walk
-add-a-2 c = let l = line (head (good-field c.before)) in omega (arith, short c, ends l, (entry l).good)
+add-a-2 c = let l = line (head (good-field c.before)) in omega (arith, short c, ends l, (entry l).well_formed)
 
 shared-slice-read-if5 : tie.Need-bounds-rec-f invariant-loop decreases-loop invariant-walk decreases-walk
 shared-slice-read-if5 c = omega (arith, short c.before, ends (line (head (good-field c.before.before))))
@@ -346,7 +346,7 @@ part-blanks-len-start c = omega (arith, short c.before.before)
 add-t : tie.Need-overflow_add-t invariant-loop decreases-loop invariant-walk decreases-walk
 add-t c =
     let l = line (head (blank-field c)) in
-    omega (arith, blanks-in c, ends l, (entry l).good)
+    omega (arith, blanks-in c, ends l, (entry l).well_formed)
 
 walk-less-2 : tie.Need-walk-smaller invariant-loop decreases-loop invariant-walk decreases-walk
 walk-less-2 c = let l = line (head (good-field c.before.before.before.before.before.before)) in omega (arith, after l, within l)
@@ -388,7 +388,7 @@ returns : tie.Need-returns-then-rec-at invariant-loop decreases-loop invariant-w
 returns c =
     let w = c.before.before in
     let s = w.args.rec.now in
-    let p = point (wanted_of w.walk.want) w.walk.auto w.walk.slash.0 in
+    let p = point (wanted_of w.walk.want) w.walk.kept w.walk.slash.0 in
     record {
       answer = from_end _ _ (lines_of s) (first_of w.before) (first-is w.before) p _
           (w.walk.invariant.2 ∙ lines_end s p w.walk.at c.if-rec-at.true) c.finish.ensures;

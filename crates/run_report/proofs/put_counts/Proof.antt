@@ -18,7 +18,7 @@ returns c =
     let s = summary_meant start.args.summary in
     let w₁ =
     wrote-first (figure s.groups) (figure s.accounts ++ (figure s.details ++ figure s.records)) start.args.out.now
-    groups-put.put_digits_after-o.result groups-put.put_digits_after-o.new.0 start.requires groups-put.put_digits_after-o.ensures in
+    groups-put.put_digits_after-o.result groups-put.put_digits_after-o.new.out start.requires groups-put.put_digits_after-o.ensures in
     let w₂ = wrote-part _ _ _ (figure s.accounts) (figure s.details ++ figure s.records) _ _ _ w₁ accounts-put.put_digits_after-o-2.ensures in
     let w₃ = wrote-part _ _ _ (figure s.details) (figure s.records) _ _ _ w₂ details-put.put_digits_after-o-3.ensures in
     wrote-last _ _ _ (figure s.records) _ _ _ w₃ records-put.put_digits_after-o-4.ensures

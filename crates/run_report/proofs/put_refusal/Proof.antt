@@ -27,7 +27,7 @@ returns c =
     let why = refusal_meant start.args.why in
     let rest : Bytes = figure why.place ++ (LF ∷ []) in
     let most = rw (refusal-parts why) at (line-most start) in
-    let w₁ = wrote-first (bytes "refused") (figure why.number ++ rest) start.args.out.now refused-put.put-o.result refused-put.put-o.new.0 (omega (arith, most, start.requires)) refused-put.put-o.ensures in
+    let w₁ = wrote-first (bytes "refused") (figure why.number ++ rest) start.args.out.now refused-put.put-o.result refused-put.put-o.new.out (omega (arith, most, start.requires)) refused-put.put-o.ensures in
     let w₂ = wrote-part _ _ _ (figure why.number) rest _ _ _ w₁ number_put.put_digits_after-o.ensures in
     let w₃ = wrote-part _ _ _ (figure why.place) (LF ∷ []) _ _ _ w₂ place-put.put_digits_after-o-2.ensures in
     rw (refusal-parts why) (wrote-last _ _ _ (LF ∷ []) _ _ _ w₃ end-put.put-o-2.ensures, most)
@@ -36,7 +36,6 @@ pub put_refusal_spec : {M : Type 1} → statement M
 put_refusal_spec =
     tie.close
     (tie.spec
-    (λ c. search rules)
     (λ c κs. search rules)
     (λ c. search rules)
     (λ c. search rules)
@@ -47,7 +46,6 @@ put_refusal_spec =
     (λ c. search rules)
     (λ c. search rules)
     (λ c κs. search rules)
-    (λ c. search rules)
     (λ c. search rules)
     (λ c. search rules)
     (λ c. search rules)

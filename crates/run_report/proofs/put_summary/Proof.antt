@@ -26,7 +26,7 @@ put-counts-requires c κs =
     let s = summary_meant start.args.summary in
     let rest : Bytes = counts s ++ (LF ∷ []) in
     let most = rw (summary-parts s) at (line-most start) in
-    let w₁ = wrote-first (bytes "ok ") (total_bytes s.sum ++ rest) start.args.out.now ok-put.put-o.result ok-put.put-o.new.0 (omega (arith, most, start.requires)) ok-put.put-o.ensures in
+    let w₁ = wrote-first (bytes "ok ") (total_bytes s.sum ++ rest) start.args.out.now ok-put.put-o.result ok-put.put-o.new.out (omega (arith, most, start.requires)) ok-put.put-o.ensures in
     let w₂ = wrote-part _ _ _ (total_bytes s.sum) rest _ _ _ w₁ total-put.put_total-o.ensures in
     has_room _ _ _ (counts s) (LF ∷ []) _ w₂
 
@@ -40,7 +40,7 @@ returns c =
     let s = summary_meant start.args.summary in
     let rest : Bytes = counts s ++ (LF ∷ []) in
     let most = rw (summary-parts s) at (line-most start) in
-    let w₁ = wrote-first (bytes "ok ") (total_bytes s.sum ++ rest) start.args.out.now ok-put.put-o.result ok-put.put-o.new.0 (omega (arith, most, start.requires)) ok-put.put-o.ensures in
+    let w₁ = wrote-first (bytes "ok ") (total_bytes s.sum ++ rest) start.args.out.now ok-put.put-o.result ok-put.put-o.new.out (omega (arith, most, start.requires)) ok-put.put-o.ensures in
     let w₂ = wrote-part _ _ _ (total_bytes s.sum) rest _ _ _ w₁ total-put.put_total-o.ensures in
     let w₃ = wrote-part _ _ _ (counts s) (LF ∷ []) _ _ _ w₂ counts-put.put_counts-o.ensures in
     rw (summary-parts s) (wrote-last _ _ _ (LF ∷ []) _ _ _ w₃ end-put.put-o-2.ensures, most)
@@ -49,7 +49,6 @@ pub put_summary_spec : {M : Type 1} → statement M
 put_summary_spec =
     tie.close
     (tie.spec
-    (λ c. search rules)
     (λ c κs. search rules)
     (λ c. search rules)
     (λ c. search rules)
@@ -60,7 +59,6 @@ put_summary_spec =
     (λ c. search rules)
     (λ c. search rules)
     put-counts-requires
-    (λ c. search rules)
     (λ c. search rules)
     (λ c. search rules)
     (λ c. search rules)

@@ -41,7 +41,7 @@ returns c =
     let account = c.before in
     let group = account.before.before in
     let sums = group.before.before in
-    let l = sums.before.before.before in
+    let l = sums.before.before.before.before.before.before in
     state-is (writer_meant (given l)) (code l) (sum l) (start l).args.items (start l).args.n l.phase_after-phase.ensures l.adding-this.ensures
     group.group_open.ensures account.account_open.ensures (to-file (given l) (is-sound l) l.adding-this.result (this-small l) sums.add-file.ensures)
     (to-group (given l) (is-sound l) l.adding-this.result (this-small l) sums.add-group.ensures)

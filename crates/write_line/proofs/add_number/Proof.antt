@@ -9,10 +9,8 @@ use Rattle.write_line.proofs.add_number.Tie as tie
 
 returns : tie.Need-returns
 returns c =
-    let put = c.before.before.before.before.before in
-    let space = put.before.before in
-    let short = decimal-short space.args.n (omega arith) in
-    rw (number-bytes put.put-digits.ensures (omega (arith, short, ap length space.number-space.ensures))) at c.add.ensures
+    let short = decimal-short c.args.n (omega arith) in
+    rw (number-bytes c.put_digits-k.ensures (omega (arith, short, ap length c.number_space-space.ensures))) at c.add.ensures
 
 pub add_number_spec : {M : Type 1} → statement M
 add_number_spec =

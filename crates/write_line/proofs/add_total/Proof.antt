@@ -10,10 +10,8 @@ use Rattle.write_line.proofs.add_total.Tie as tie
 
 returns : tie.Need-returns
 returns c =
-    let put = c.before.before.before.before.before in
-    let space = put.before.before in
-    let short = total-short (sum_meant space.args.total) (omega arith) (omega arith) in
-    rw (number-bytes put.put-total.ensures (omega (arith, short, ap length space.number-space.ensures))) at c.add.ensures
+    let short = total-short (sum_meant c.args.total) (omega arith) (omega arith) in
+    rw (number-bytes c.put_total-k.ensures (omega (arith, short, ap length c.number_space-space.ensures))) at c.add.ensures
 
 pub add_total_spec : {M : Type 1} → statement M
 add_total_spec =

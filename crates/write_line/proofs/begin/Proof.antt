@@ -12,9 +12,8 @@ size c = search rules
 
 returns : tie.Need-returns
 returns c =
-    let code = c.before.before.before.before in
-    let s = code.before in
-    begin-put s.args.line.now (code_meant s.args.code) s.args.want (bytes_meant code.digits_of.result) _ (size c.before) code.digits_of.ensures c.put_at.ensures
+    let digits = c.digits_of-digits in
+    begin-put c.args.line.now (code_meant c.args.code) c.args.want (bytes_meant digits.result) _ (size c.before) digits.ensures c.put_at.ensures
 
 pub begin_spec : {M : Type 1} → statement M
 begin_spec =

@@ -22,13 +22,13 @@ abbrev past-size : tie.Else-size-gt-LONGEST_FILE → rules.Writer
 past-size c = given c.before
 
 abbrev past-file : tie.Else-not-sum_within → rules.Writer
-past-file c = past-size c.before.before
+past-file c = past-size c.before.before.before
 
 abbrev past-group : tie.Else-not-sum_within-2 → rules.Writer
-past-group c = past-file c.before.before.before.before
+past-group c = past-file c.before.before.before.before.before
 
 abbrev past-account : tie.Else-not-sum_within-3 → rules.Writer
-past-account c = past-group c.before.before
+past-account c = past-group c.before.before.before
 
 abbrev past-file-counts : tie.Else-not-counts_within → rules.Writer
 past-file-counts c = past-account c.before.before
@@ -42,13 +42,13 @@ file-within : (c : tie.Else-not-sum_within) → leb (magnitudes (past-file c).fi
 file-within c = sym c.sum_within.ensures ∙ not-false _ c.if-not-sum_within.false-raw
 
 file-good : (c : tie.Else-not-sum_within) {t : Bool} → t ≡ group_sum (past-file c) → t ≡ sound (past-file c)
-file-good c h = size-good c.before.before (goes_on _ _ _ (file-within c) h)
+file-good c h = size-good c.before.before.before (goes_on _ _ _ (file-within c) h)
 
 group-good : (c : tie.Else-not-sum_within-2) {t : Bool} → t ≡ account_sum (past-group c) → t ≡ sound (past-group c)
-group-good c h = file-good c.before.before.before.before (goes_on _ _ _ (sym c.sum_within-2.ensures ∙ not-false _ c.if-not-sum_within-2.false-raw) h)
+group-good c h = file-good c.before.before.before.before.before (goes_on _ _ _ (sym c.sum_within-2.ensures ∙ not-false _ c.if-not-sum_within-2.false-raw) h)
 
 account-good : (c : tie.Else-not-sum_within-3) {t : Bool} → t ≡ file_counts (past-account c) → t ≡ sound (past-account c)
-account-good c h = group-good c.before.before (goes_on _ _ _ (sym c.sum_within-3.ensures ∙ not-false _ c.if-not-sum_within-3.false-raw) h)
+account-good c h = group-good c.before.before.before (goes_on _ _ _ (sym c.sum_within-3.ensures ∙ not-false _ c.if-not-sum_within-3.false-raw) h)
 
 file-counted : (c : tie.Else-not-counts_within) {t : Bool} → t ≡ group_counts (past-file-counts c) → t ≡ sound (past-file-counts c)
 file-counted c h = account-good c.before.before (goes_on _ _ _ (sym c.counts_within.ensures ∙ not-false _ c.if-not-counts_within.false-raw) h)
@@ -58,16 +58,16 @@ unfolding sound
 returns c = stops _ _ (lt-leb _ _ c.if-size-gt-LONGEST_FILE.true)
 
 returns-2 : tie.Need-returns-then-not-sum_within
-returns-2 c = size-good c.before.before (stops _ _ (sym c.sum_within.ensures ∙ not-true _ c.if-not-sum_within.true-raw))
+returns-2 c = size-good c.before.before.before (stops _ _ (sym c.sum_within.ensures ∙ not-true _ c.if-not-sum_within.true-raw))
 
 add-m : tie.Need-overflow_add-m
 add-m c = let f = c.before.before in omega (arith, leb-true (magnitudes (past-file f).file.sum) most (file-within f))
 
 returns-3 : tie.Need-returns-then-not-sum_within-2
-returns-3 c = file-good c.before.before.before.before (stops _ _ (sym c.sum_within-2.ensures ∙ not-true _ c.if-not-sum_within-2.true-raw))
+returns-3 c = file-good c.before.before.before.before.before (stops _ _ (sym c.sum_within-2.ensures ∙ not-true _ c.if-not-sum_within-2.true-raw))
 
 returns-4 : tie.Need-returns-then-not-sum_within-3
-returns-4 c = group-good c.before.before (stops _ _ (sym c.sum_within-3.ensures ∙ not-true _ c.if-not-sum_within-3.true-raw))
+returns-4 c = group-good c.before.before.before (stops _ _ (sym c.sum_within-3.ensures ∙ not-true _ c.if-not-sum_within-3.true-raw))
 
 returns-5 : tie.Need-returns-then-not-counts_within
 returns-5 c = account-good c.before.before (stops _ _ (sym c.counts_within.ensures ∙ not-true _ c.if-not-counts_within.true-raw))

@@ -9,12 +9,12 @@ use Rattle.c_reading.proofs.handing.bai2_fields_at.Tie as tie
 returns : tie.Need-returns-in-Refused
 returns c =
     let f = c.before.before.before.before in
-    sym (ap (λ (x : Fields). fields_meant x f.fields_at.new.1.1.0) c.in-Refused.is) ∙ f.fields_at.ensures
+    sym (ap (λ (x : Fields). fields_meant x f.fields_at.new.out) c.in-Refused.is) ∙ f.fields_at.ensures
 
 returns-2 : tie.Need-returns-in-Given
 returns-2 c =
     let f = c.before.before.before in
-    sym (ap (λ (x : Fields). fields_meant x f.fields_at.new.1.1.0) c.in-Given.is) ∙ f.fields_at.ensures
+    sym (ap (λ (x : Fields). fields_meant x f.fields_at.new.out) c.in-Given.is) ∙ f.fields_at.ensures
 
 pub bai2_fields_at_spec : {M : Type 1} → statement M
 bai2_fields_at_spec =

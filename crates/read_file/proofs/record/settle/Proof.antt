@@ -86,7 +86,7 @@ abbrev Added : Type 0
 Added = tie.After-add-account
 
 abbrev start_of : Added → tie.Start
-start_of c = start-of-own c.before.before.before.before.before.before.before
+start_of c = start-of-own c.before.before.before.before.before.before.before.before.before.before
 
 abbrev this-of : Added → Summary
 this-of c = c.adding-this.result
@@ -103,7 +103,7 @@ this-is c =
 small-this : (c : Added) → Small (this-of c)
 small-this c =
     let s = start_of c in
-    this-small (code-of s) (sum_meant (kept_of s).sum) s.args.records.0 (this-of c) (this-adds c) s.requires.some_line (omega (arith, s.requires.room)) (omega (arith, s.requires.sums))
+    this-small (code-of s) (sum_meant (kept_of s).sum) s.args.records.0 (this-of c) (this-adds c) s.requires.some-line (omega (arith, s.requires.room)) (omega (arith, s.requires.sums))
 
 small-file : (c : Added) → Small (state-of (start_of c)).file
 small-file c = let s = start_of c in file-small (state-of s) s.requires.held (omega (arith, s.requires.room))
@@ -133,7 +133,7 @@ returns-3 c =
     let t = added b in
     let s = start_of t in
     let refuses = sym (balance b) ∙ ap checked_of c.in-Refused-balance.is in (
-      settle-wrong (before_of s) (lines-of s) (code-of s) (kept_of s) (own-fine t.before.before.before.before.before) t.if-kept.false _ _ _ _
+      settle-wrong (before_of s) (lines-of s) (code-of s) (kept_of s) (own-fine t.before.before.before.before.before.before.before.before.before) t.if-kept.false _ _ _ _
           (this-is t) (account-is t) (group-is t) (file-is t) _ refuses,
       balanced-most _ _ (kept_of s) s.requires.kept (code-of s) _ _ _ _ refuses,
     )
@@ -150,9 +150,9 @@ returns-4 c =
     let file : summary_meant r.file ≡ summary_meant t.add-file.result = ap summary_meant next.file in
     let limit = next.limit ∙ t.limit_after-limit.ensures in
     let fits = sym (balance b) ∙ ap checked_of c.in-Fine-balance.is in (
-      settle-next (before_of s) (lines-of s) (code-of s) (kept_of s) (own-fine t.before.before.before.before.before) t.if-kept.false _ _ _ (summary_meant r.file)
+      settle-next (before_of s) (lines-of s) (code-of s) (kept_of s) (own-fine t.before.before.before.before.before.before.before.before.before) t.if-kept.false _ _ _ (summary_meant r.file)
           (this-is t) (account-is t) (group-is t) (file ∙ file-is t) (rw (sym file) at fits) _ _ _ _ next.expected limit next.group next.account,
-      held_next (this-of t) (code-of s) (sum_meant (kept_of s).sum) s.args.records.0 (this-adds t) (state-of s) r t.add-group.result t.add-account.result s.requires.held s.requires.some_line
+      held_next (this-of t) (code-of s) (sum_meant (kept_of s).sum) s.args.records.0 (this-adds t) (state-of s) r t.add-group.result t.add-account.result s.requires.held s.requires.some-line
           s.requires.sums (file ∙ file-is t) (group-is t) (account-is t) (group_open (code-of s)) (account_open (code-of s)) next.group next.account,
       records-next (this-of t) (code-of s) (sum_meant (kept_of s).sum) s.args.records.0 (this-adds t) (state-of s).file r.file (file ∙ file-is t),
     )

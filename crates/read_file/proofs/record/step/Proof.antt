@@ -89,7 +89,7 @@ lines_are : (c : Good) → lines_of (bytes_of c) ≡ record_of (start_of c)
 lines_are c = ap lines_of (bytes-are c) ∙ first_part (rest_of (start_of c)) (size_of c) (whole c).extent (some_byte c)
 
 length-is : (c : Good) → length (bytes_of c) ≡ size_of c
-length-is c = length-take (size_of c - 0) (rest_of (start_of c)) ∙ omega (arith, (whole c).ranges)
+length-is c = length-take (size_of c - 0) (rest_of (start_of c)) ∙ omega (arith, (whole c).fits)
 
 -- ---- 6
 
@@ -103,7 +103,7 @@ returns-3 c =
     record {
       stops =
           right s
-          ∙ step-order (before_of s) (record_of s) (whole g).well-formed (code-of g) (order g)
+          ∙ step-order (before_of s) (record_of s) (whole g).good (code-of g) (order g)
           (sym c.allows.ensures ∙ not-true c.allows.result c.if-not-allows.true-raw);
       some_byte = some_byte g;
       within = omega arith;

@@ -47,7 +47,7 @@ plain_end_spec =
     (λ c κs. search rules)
     returns
     (λ c κs. search rules)
-    (λ c. omega (arith, c.before.block.ensures.low))
+    (λ c. omega (arith, c.block-n.ensures.low))
     returns-2
     (λ c. search rules)
     (λ c. search rules)

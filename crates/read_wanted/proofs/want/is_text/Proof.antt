@@ -15,7 +15,7 @@ unfolding wanted_of fields_of
 returns-2 c = rw c.in-FurtherText.is
 
 returns-3 : tie.Need-returns-in_default
-returns-3 c = no_text _ c.in_default-own.keys3
+returns-3 c = no_text _ c.in_default.in_default-own.keys3
 
 pub is_text_spec : {M : Type 1} → statement M
 is_text_spec = tie.close (tie.spec (λ c. search rules) (λ c. search rules) returns returns-2 returns-3)

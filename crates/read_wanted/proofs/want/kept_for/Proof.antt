@@ -39,7 +39,7 @@ unfolding wanted_of fields_of purpose
 returns-8 c = rw c.in-Length.is
 
 returns-9 : tie.Need-returns-in_default
-returns-9 c = not-kept _ c.in_default-own.keys9
+returns-9 c = not-kept _ c.in_default.in_default-own.keys9
 
 pub kept_for_spec : {M : Type 1} → statement M
 kept_for_spec =

@@ -19,7 +19,7 @@ unfolding wanted_of fields_of
 returns-3 c = rw c.in-FurtherText.is
 
 returns-4 : tie.Need-returns-in_default
-returns-4 c = must-come _ c.in_default-own.keys4
+returns-4 c = must-come _ c.in_default.in_default-own.keys4
 
 pub may_lack_spec : {M : Type 1} → statement M
 may_lack_spec =
