@@ -248,7 +248,7 @@ took c =
 fits : (c : Good) → Fits (length (rec-of (line (head (good-field c))))) (before_of (line (head (good-field c)))) (then c)
 fits c =
     let h = head (good-field c) in
-    taken-fits (length (rec-of (line h))) _ (at_of h) (bytes (good-field c)) (here h) (then c) (took c) (omega (arith, h.loop.invariant.0, h.loop.invariant.1)) h.loop.invariant.2
+    taken-fits (length (rec-of (line h))) _ (at_of h) (bytes (good-field c)) (here h) (then c) (took c) (omega (arith, h.loop-n.invariant.0, h.loop-n.invariant.1)) h.loop-n.invariant.2
 
 -- ---- the field is no text
 
