@@ -22,7 +22,7 @@ put-counts-requires : tie.Need-put_counts-o-requires
 put-counts-requires c κs =
     let total-put = c.before.before.before in
     let ok-put = total-put.before.before.before.before in
-    let start = ok-put.before.before.before.before.before in
+    let start = ok-put.before.before.before.before.before.before in
     let s = summary_meant start.args.summary in
     let rest : Bytes = counts s ++ (LF ∷ []) in
     let most = rw (summary-parts s) at (line-most start) in
@@ -36,7 +36,7 @@ returns c =
     let counts-put = end-put.before.before.before.before.before in
     let total-put = counts-put.before.before.before.before in
     let ok-put = total-put.before.before.before.before in
-    let start = ok-put.before.before.before.before.before in
+    let start = ok-put.before.before.before.before.before.before.before in
     let s = summary_meant start.args.summary in
     let rest : Bytes = counts s ++ (LF ∷ []) in
     let most = rw (summary-parts s) at (line-most start) in
