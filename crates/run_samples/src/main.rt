@@ -3,38 +3,41 @@
 #![tactic(auto)]
 
 use base_limits::MOST_INPUT;
-use libc::STDOUT_FILENO;
 use run_report::LONGEST_REPORT;
+use std::io::Read;
+use std::rt::{Files, Runtime};
+use std::{env, fs, io};
 
-fn main() {
-    let count = os::arg_count();
-    let mut i: usize = 1;
-    while i < count {
-        judge_file(i);
-        i += 1;
+fn main(rt: HostRuntime) -> io::Result<()> {
+    for path in env::args(&rt)?.skip(1) {
+        judge_file(&rt, path.as_str())?;
+    }
+    Ok(())
+}
+
+// Writes the name of a file and its line; where it can't be read, why, to the standard error.
+fn judge_file(rt: &impl Runtime, path: &str) -> io::Result<()> {
+    match load(rt, path) {
+        Ok(input) => {
+            print!(rt; "{path}: ")?;
+            write_line(rt, input.as_slice())
+        }
+        Err(error) => eprintln!(rt; "{path}: {error}"),
     }
 }
 
-// Writes the name and the line of the file that the argument of this number names.
-fn judge_file(i: usize) {
-    let mut path = io::buffer();
-    let length = os::arg(i, &mut path);
-    let fd = os::open_read(&path[..length]);
-    if fd < 0 {
-        os::fail(&path[..length]);
-        return;
-    }
-    io::write_all(STDOUT_FILENO, &path[..length]);
-    io::write_all(STDOUT_FILENO, b": ");
-    write_line(fd);
-    libc::close(fd);
+// A file's bytes, up to one more than are judged.
+fn load<R: Files + Alloc>(rt: &R, path: &str) -> io::Result<Vec<u8, R::A>> {
+    let mut input = Vec::new(rt.alloc());
+    fs::open(rt, path)?
+        .take(MOST_INPUT as u64 + 1)
+        .read_to_end(&mut input)?;
+    Ok(input)
 }
 
-// Writes the line for what can be read from fd.
-fn write_line(fd: i32) {
-    let mut input = [0u8; MOST_INPUT + 1];
+// Writes the line for these bytes.
+fn write_line(rt: &impl Print, input: &[u8]) -> io::Result<()> {
     let mut line = [0u8; LONGEST_REPORT];
-    let size = io::read_full(fd, &mut input);
-    let length = run_report::report(&input[..size], &mut line);
-    io::write_all(STDOUT_FILENO, &line[0..length]);
+    let length = run_report::report(input, &mut line);
+    rt.write_all(&line[0..length])
 }

@@ -3,13 +3,16 @@
 #![tactic(auto)]
 
 use base_limits::MOST_INPUT;
-use libc::{STDIN_FILENO, STDOUT_FILENO};
 use run_report::LONGEST_REPORT;
+use std::io;
+use std::io::Read;
 
-fn main() {
-    let mut input = [0u8; MOST_INPUT + 1];
+fn main(rt: HostRuntime) -> io::Result<()> {
+    let mut input = Vec::new(rt.alloc());
     let mut line = [0u8; LONGEST_REPORT];
-    let size = io::read_full(STDIN_FILENO, &mut input);
-    let length = run_report::report(&input[..size], &mut line);
-    io::write_all(STDOUT_FILENO, &line[0..length]);
+    rt.reader()
+        .take(MOST_INPUT as u64 + 1)
+        .read_to_end(&mut input)?;
+    let length = run_report::report(input.as_slice(), &mut line);
+    rt.write_all(&line[0..length])
 }
