@@ -2,230 +2,209 @@
 
 #![tactic(auto)]
 
-ghost use Rattle.io.specs.Counts.{IsPrefixLen};
+ghost use Rattle.std.specs.Prelude.{◌≤◌, IfOk, vec_len};
 
 use base_amounts::Amount;
 use base_refusals::Refusal;
 use find_item::ItemCount;
-use libc::STDOUT_FILENO;
+use std::rt::{Files, Runtime};
+use std::{fs, io};
 
-fn main() {
-    splits();
-    combinations();
-    groups();
-    accounts();
-    details();
-    items();
+// The most bytes that are read of a file, and the room for a result.
+const ROOM: usize = 4096;
+
+fn main(rt: HostRuntime) -> io::Result<()> {
+    splits(&rt)?;
+    combinations(&rt)?;
+    groups(&rt)?;
+    accounts(&rt)?;
+    details(&rt)?;
+    items(&rt)
 }
 
 // K2, K3, and splits that are refused.
-fn splits() {
-    let mut out = io::buffer();
+fn splits(rt: &impl Runtime) -> io::Result<()> {
+    let mut out = vec![in rt.alloc(); 0u8; ROOM]?;
     let mut exact = [0u8; 275];
     let mut short = [0u8; 274];
-    split(b"031001234", b"k01.bai", &mut out);
-    split(b"31001234", b"k01.bai", &mut out);
-    split(b"0087654", b"two.bai", &mut out);
-    split(b"87654", b"two.bai", &mut out);
-    split(b"0087654", b"two.bai", &mut exact);
-    split(b"0087654", b"two.bai", &mut short);
-    split(b"", b"two.bai", &mut out);
-    split(b"0087654,", b"k05.bai", &mut out);
-    split(b"031001234", b"k05.bai", &mut out);
+    split(rt, b"031001234", "k01.bai", &mut out)?;
+    split(rt, b"31001234", "k01.bai", &mut out)?;
+    split(rt, b"0087654", "two.bai", &mut out)?;
+    split(rt, b"87654", "two.bai", &mut out)?;
+    split(rt, b"0087654", "two.bai", &mut exact)?;
+    split(rt, b"0087654", "two.bai", &mut short)?;
+    split(rt, b"", "two.bai", &mut out)?;
+    split(rt, b"0087654,", "k05.bai", &mut out)?;
+    split(rt, b"031001234", "k05.bai", &mut out)
 }
 
 // One call of split.
-fn split(name: &[u8], path: &[u8], out: &mut [u8]) {
-    let mut file = io::buffer();
-    let n = load(path, &mut file);
-    let r = join_split::split(name, &file[..n], out);
-    say(b"split ");
-    say(name);
-    say(b" ");
-    say(path);
-    answer(r.refusal);
-    given(r.length, out);
+fn split(rt: &impl Runtime, name: &[u8], path: &str, out: &mut [u8]) -> io::Result<()> {
+    let file = load(rt, path)?;
+    let r = join_split::split(name, file.as_slice(), out);
+    print!(rt; "split ")?;
+    say(rt, name)?;
+    print!(rt; " {path}")?;
+    answer(rt, r.refusal)?;
+    given(rt, r.length, out)
 }
 
 // K4, and combinations that are refused.
-fn combinations() {
-    let mut out = io::buffer();
+fn combinations(rt: &impl Runtime) -> io::Result<()> {
+    let mut out = vec![in rt.alloc(); 0u8; ROOM]?;
     let mut exact = [0u8; 550];
     let mut short = [0u8; 549];
-    combine(b"k01.bai", b"k01.bai", &mut out);
-    combine(b"two.bai", b"k01.bai", &mut exact);
-    combine(b"two.bai", b"k01.bai", &mut short);
-    combine(b"k05.bai", b"k05.bai", &mut out);
-    combine(b"k01.bai", b"k05.bai", &mut out);
-    combine(b"largest.bai", b"k01.bai", &mut out);
-    combine(b"l48.bai", b"k01.bai", &mut out);
-    combine(b"l48.bai", b"two.bai", &mut out);
+    combine(rt, "k01.bai", "k01.bai", &mut out)?;
+    combine(rt, "two.bai", "k01.bai", &mut exact)?;
+    combine(rt, "two.bai", "k01.bai", &mut short)?;
+    combine(rt, "k05.bai", "k05.bai", &mut out)?;
+    combine(rt, "k01.bai", "k05.bai", &mut out)?;
+    combine(rt, "largest.bai", "k01.bai", &mut out)?;
+    combine(rt, "l48.bai", "k01.bai", &mut out)?;
+    combine(rt, "l48.bai", "two.bai", &mut out)
 }
 
 // One call of combine.
-fn combine(a: &[u8], b: &[u8], out: &mut [u8]) {
-    let mut first = io::buffer();
-    let mut second = io::buffer();
-    let m = load(a, &mut first);
-    let n = load(b, &mut second);
-    let r = join_combine::combine(&first[..m], &second[..n], out);
-    say(b"combine ");
-    say(a);
-    say(b" ");
-    say(b);
-    answer(r.refusal);
-    figure(r.file);
-    given(r.length, out);
+fn combine(rt: &impl Runtime, a: &str, b: &str, out: &mut [u8]) -> io::Result<()> {
+    let first = load(rt, a)?;
+    let second = load(rt, b)?;
+    let r = join_combine::combine(first.as_slice(), second.as_slice(), out);
+    print!(rt; "combine {a} {b}")?;
+    answer(rt, r.refusal)?;
+    figure(rt, r.file)?;
+    given(rt, r.length, out)
 }
 
 // The length and the bytes that a call wrote.
-fn given(length: usize, out: &[u8]) {
-    figure(length as u64);
-    say(b"\n");
+fn given(rt: &impl Print, length: usize, out: &[u8]) -> io::Result<()> {
+    figure(rt, length as u64)?;
+    println!(rt)?;
     if length <= out.len() {
-        say(&out[0..length]);
+        say(rt, &out[0..length])?;
     }
+    Ok(())
 }
 
 // Groups of a file, and one past the last.
-fn groups() {
-    group(b"two.bai", 0);
-    group(b"two.bai", 2);
-    group(b"two.bai", 3);
-    group(b"k05.bai", 0);
+fn groups(rt: &impl Runtime) -> io::Result<()> {
+    group(rt, "two.bai", 0)?;
+    group(rt, "two.bai", 2)?;
+    group(rt, "two.bai", 3)?;
+    group(rt, "k05.bai", 0)
 }
 
 // One call for a group.
-fn group(path: &[u8], n: u64) {
-    let mut file = io::buffer();
-    let k = load(path, &mut file);
-    let why = part_groups::group_refusal(&file[..k], n);
-    say(b"group ");
-    say(path);
-    figure(n);
-    answer(why);
-    say(b"\n");
-    say(part_groups::group(&file[..k], n));
+fn group(rt: &impl Runtime, path: &str, n: u64) -> io::Result<()> {
+    let file = load(rt, path)?;
+    print!(rt; "group {path}")?;
+    figure(rt, n)?;
+    answer(rt, part_groups::group_refusal(file.as_slice(), n))?;
+    println!(rt)?;
+    say(rt, part_groups::group(file.as_slice(), n))
 }
 
 // Accounts of groups, and one past the last.
-fn accounts() {
-    account(b"two.bai", 0, 1);
-    account(b"two.bai", 1, 0);
-    account(b"two.bai", 1, 1);
-    account(b"two.bai", 3, 0);
+fn accounts(rt: &impl Runtime) -> io::Result<()> {
+    account(rt, "two.bai", 0, 1)?;
+    account(rt, "two.bai", 1, 0)?;
+    account(rt, "two.bai", 1, 1)?;
+    account(rt, "two.bai", 3, 0)
 }
 
 // One call for an account.
-fn account(path: &[u8], g: u64, n: u64) {
-    let mut file = io::buffer();
-    let k = load(path, &mut file);
-    let why = part_groups::account_refusal(&file[..k], g, n);
-    say(b"account ");
-    say(path);
-    figure(g);
-    figure(n);
-    answer(why);
-    say(b"\n");
-    say(part_groups::account(&file[..k], g, n));
+fn account(rt: &impl Runtime, path: &str, g: u64, n: u64) -> io::Result<()> {
+    let file = load(rt, path)?;
+    print!(rt; "account {path}")?;
+    figure(rt, g)?;
+    figure(rt, n)?;
+    answer(rt, part_groups::account_refusal(file.as_slice(), g, n))?;
+    println!(rt)?;
+    say(rt, part_groups::account(file.as_slice(), g, n))
 }
 
 // Details with an amount and a text, with neither, over two lines, and one past the last.
-fn details() {
-    detail(b"two.bai", 0, 0, 0);
-    detail(b"two.bai", 0, 0, 1);
-    detail(b"two.bai", 1, 0, 0);
-    detail(b"two.bai", 0, 1, 0);
-    detail(b"k05.bai", 0, 0, 0);
+fn details(rt: &impl Runtime) -> io::Result<()> {
+    detail(rt, "two.bai", 0, 0, 0)?;
+    detail(rt, "two.bai", 0, 0, 1)?;
+    detail(rt, "two.bai", 1, 0, 0)?;
+    detail(rt, "two.bai", 0, 1, 0)?;
+    detail(rt, "k05.bai", 0, 0, 0)
 }
 
 // One call for a detail: its type, how its amount was given and its magnitude, and its text.
-fn detail(path: &[u8], g: u64, a: u64, n: u64) {
-    let mut file = io::buffer();
-    let k = load(path, &mut file);
-    let d = part_details::detail(&file[..k], g, a, n);
-    say(b"detail ");
-    say(path);
-    figure(g);
-    figure(a);
-    figure(n);
-    answer(d.refusal);
-    let amount = d.amount;
-    figure(d.type_code);
-    say_amount(amount);
-    say(b" \"");
-    say(part_details::detail_text(&file[..k], g, a, n));
-    say(b"\"\n");
+fn detail(rt: &impl Runtime, path: &str, g: u64, a: u64, n: u64) -> io::Result<()> {
+    let file = load(rt, path)?;
+    let d = part_details::detail(file.as_slice(), g, a, n);
+    print!(rt; "detail {path}")?;
+    figure(rt, g)?;
+    figure(rt, a)?;
+    figure(rt, n)?;
+    answer(rt, d.refusal)?;
+    figure(rt, d.type_code)?;
+    say_amount(rt, d.amount)?;
+    print!(rt; " \"")?;
+    say(rt, part_details::detail_text(file.as_slice(), g, a, n))?;
+    println!(rt; "\"")
 }
 
 // Items of a status with a minus, of a summary with a count over two lines, of the sole empty item, and one past the last.
-fn items() {
-    item(b"two.bai", 0, 0, 0);
-    item(b"two.bai", 0, 1, 0);
-    item(b"two.bai", 0, 1, 1);
-    item(b"two.bai", 0, 1, 2);
-    item(b"two.bai", 1, 0, 0);
-    item(b"k05.bai", 0, 0, 0);
+fn items(rt: &impl Runtime) -> io::Result<()> {
+    item(rt, "two.bai", 0, 0, 0)?;
+    item(rt, "two.bai", 0, 1, 0)?;
+    item(rt, "two.bai", 0, 1, 1)?;
+    item(rt, "two.bai", 0, 1, 2)?;
+    item(rt, "two.bai", 1, 0, 0)?;
+    item(rt, "k05.bai", 0, 0, 0)
 }
 
 // One call for an item: its type, how its amount was given and its magnitude, and its item count or none.
-fn item(path: &[u8], g: u64, a: u64, n: u64) {
-    let mut file = io::buffer();
-    let k = load(path, &mut file);
-    let i = part_items::item(&file[..k], g, a, n);
-    say(b"item ");
-    say(path);
-    figure(g);
-    figure(a);
-    figure(n);
-    answer(i.refusal);
-    let amount = i.amount;
-    let count = i.count;
-    figure(i.type_code);
-    say_amount(amount);
-    match count {
+fn item(rt: &impl Runtime, path: &str, g: u64, a: u64, n: u64) -> io::Result<()> {
+    let file = load(rt, path)?;
+    let i = part_items::item(file.as_slice(), g, a, n);
+    print!(rt; "item {path}")?;
+    figure(rt, g)?;
+    figure(rt, a)?;
+    figure(rt, n)?;
+    answer(rt, i.refusal)?;
+    figure(rt, i.type_code)?;
+    say_amount(rt, i.amount)?;
+    match i.count {
         ItemCount::NoCount => {}
-        ItemCount::Given(given) => figure(given.0),
+        ItemCount::Given(given) => figure(rt, given.0)?,
     }
-    say(b"\n");
+    println!(rt)
 }
 
 // How an amount was given, by number, and its magnitude.
-fn say_amount(amount: Amount) {
+fn say_amount(rt: &impl Print, amount: Amount) -> io::Result<()> {
     let magnitude = base_amounts::magnitude_of(amount);
-    figure(base_amounts::form_of(amount));
-    figure(magnitude.0);
+    figure(rt, base_amounts::form_of(amount))?;
+    figure(rt, magnitude.0)
 }
 
-// The file's bytes at the front of buf: how many.
-fn load(path: &[u8], buf: &mut [u8]) -> usize
-    ensures { IsPrefixLen result buf.new }
+// The file's bytes, of those that are read.
+fn load<R: Files + Alloc>(rt: &R, path: &str) -> io::Result<Vec<u8, R::A>>
+    ensures { IfOk result (λ bytes. vec_len bytes ≤ ROOM) }
 {
-    let fd = os::open_read(path);
-    if fd < 0 {
-        os::fail(path);
-        return 0;
-    }
-    let n = io::read_full(fd, buf);
-    libc::close(fd);
-    n
+    let mut bytes = fs::read(rt, path)?;
+    bytes.truncate(ROOM);
+    Ok(bytes)
 }
 
 // A colon, and a refusal's number and place.
-fn answer(why: Refusal) {
+fn answer(rt: &impl Print, why: Refusal) -> io::Result<()> {
     let place = why.place;
-    say(b":");
-    figure(why.number);
-    figure(place.0 as u64);
+    print!(rt; ":")?;
+    figure(rt, why.number)?;
+    figure(rt, place.0 as u64)
 }
 
 // A blank and a number.
-fn figure(n: u64) {
-    say(b" ");
-    io::print_decimal(STDOUT_FILENO, n);
+fn figure(rt: &impl Print, n: u64) -> io::Result<()> {
+    print!(rt; " {n}")
 }
 
 // Bytes to the standard output.
-fn say(bytes: &[u8]) {
-    io::write_all(STDOUT_FILENO, bytes);
+fn say(rt: &impl Print, bytes: &[u8]) -> io::Result<()> {
+    rt.write_all(bytes)
 }
