@@ -1,144 +1,177 @@
 // Two files: K1, and one with every call of the writer.
 use crate::amounts::{minus, plus};
 use crate::printing::after;
+use std::io;
 use write_line::{Items, MaybeAmount, MaybeItems};
 use write_state::Writer;
 
 // K1 of document 01; the writer leaves the 16's funds empty.
-pub fn k1(out: &mut [u8; 4096]) -> Writer {
+pub fn k1(rt: &impl Print, out: &mut [u8]) -> io::Result<Writer> {
     let w = Writer::new();
-    let w = after(write_calls::header(
-        w,
-        b"122099999",
-        b"123456789",
-        b"040621",
-        b"0200",
-        b"1",
-        out,
-    ));
-    let w = after(write_calls::group(
-        w,
-        b"031001234",
-        b"122099999",
-        b"1",
-        b"040620",
-        b"2359",
-        b"",
-        b"2",
-        out,
-    ));
-    let w = status_account(w, b"0975312468", b"USD", b"010", minus(500), out);
-    let w = after(write_calls::detail(
-        w,
-        b"165",
-        plus(1500),
-        b"DD1620",
-        b"",
-        b"DEALER PAYMENTS",
-        out,
-    ));
-    end_all(w, out)
+    let w = after(
+        rt,
+        write_calls::header(w, b"122099999", b"123456789", b"040621", b"0200", b"1", out),
+    )?;
+    let w = after(
+        rt,
+        write_calls::group(
+            w,
+            b"031001234",
+            b"122099999",
+            b"1",
+            b"040620",
+            b"2359",
+            b"",
+            b"2",
+            out,
+        ),
+    )?;
+    let w = status_account(rt, w, b"0975312468", b"USD", b"010", minus(500), out)?;
+    let w = after(
+        rt,
+        write_calls::detail(
+            w,
+            b"165",
+            plus(1500),
+            b"DD1620",
+            b"",
+            b"DEALER PAYMENTS",
+            out,
+        ),
+    )?;
+    end_all(rt, w, out)
 }
 
 // An account with one item, a status.
 fn status_account(
+    rt: &impl Print,
     w: Writer,
     number: &[u8],
     currency: &[u8],
     type_code: &[u8],
     amount: MaybeAmount,
-    out: &mut [u8; 4096],
-) -> Writer {
-    after(write_calls::account(
-        w,
-        number,
-        currency,
-        true,
-        type_code,
-        amount,
-        MaybeItems::NoItems,
-        out,
-    ))
+    out: &mut [u8],
+) -> io::Result<Writer> {
+    after(
+        rt,
+        write_calls::account(
+            w,
+            number,
+            currency,
+            true,
+            type_code,
+            amount,
+            MaybeItems::NoItems,
+            out,
+        ),
+    )
 }
 
 // The ends of account, group and file.
-fn end_all(w: Writer, out: &mut [u8; 4096]) -> Writer {
-    let w = after(write_ends::end_account(w, out));
-    let w = after(write_ends::end_group(w, out));
-    after(write_ends::end_file(w, out))
+fn end_all(rt: &impl Print, w: Writer, out: &mut [u8]) -> io::Result<Writer> {
+    let w = after(rt, write_ends::end_account(w, out))?;
+    let w = after(rt, write_ends::end_group(w, out))?;
+    after(rt, write_ends::end_file(w, out))
 }
 
 // A file of two groups with every call.
-pub fn every_call(out: &mut [u8; 4096]) -> Writer {
+pub fn every_call(rt: &impl Print, out: &mut [u8]) -> io::Result<Writer> {
     let w = Writer::new();
-    let w = after(write_calls::header(
-        w,
-        b"BANK A",
-        b"0087654",
-        b"240229",
-        b"2400",
-        b"000000001",
-        out,
-    ));
-    let w = two_accounts(w, out);
-    let w = after(write_calls::group(
-        w,
-        b"031001234",
-        b"BANK A",
-        b"4",
-        b"240229",
-        b"9999",
-        b"",
-        b"3",
-        out,
-    ));
-    let w = status_account(w, b"1", b"USD", b"905", minus(1_000_000), out);
-    end_all(w, out)
+    let w = after(
+        rt,
+        write_calls::header(
+            w,
+            b"BANK A",
+            b"0087654",
+            b"240229",
+            b"2400",
+            b"000000001",
+            out,
+        ),
+    )?;
+    let w = two_accounts(rt, w, out)?;
+    let w = after(
+        rt,
+        write_calls::group(
+            w,
+            b"031001234",
+            b"BANK A",
+            b"4",
+            b"240229",
+            b"9999",
+            b"",
+            b"3",
+            out,
+        ),
+    )?;
+    let w = status_account(rt, w, b"1", b"USD", b"905", minus(1_000_000), out)?;
+    end_all(rt, w, out)
 }
 
 // A group for no receiver, with an account without items and one with items.
-fn two_accounts(w: Writer, out: &mut [u8; 4096]) -> Writer {
-    let w = after(write_calls::group(w, b"", b"BANK A", b"1", b"240228", b"", b"USD", b"", out));
-    let w = without_items(w, out);
-    let w = with_items(w, out);
-    after(write_ends::end_group(w, out))
+fn two_accounts(rt: &impl Print, w: Writer, out: &mut [u8]) -> io::Result<Writer> {
+    let w = after(
+        rt,
+        write_calls::group(w, b"", b"BANK A", b"1", b"240228", b"", b"USD", b"", out),
+    )?;
+    let w = without_items(rt, w, out)?;
+    let w = with_items(rt, w, out)?;
+    after(rt, write_ends::end_group(w, out))
 }
 
 // An account without an item, and a detail without an amount.
-fn without_items(w: Writer, out: &mut [u8; 4096]) -> Writer {
-    let w = after(write_calls::account(
-        w,
-        b"0012345",
-        b"",
-        false,
-        b"",
-        MaybeAmount::NoAmount,
-        MaybeItems::NoItems,
-        out,
-    ));
-    let w = after(write_calls::detail(
-        w,
-        b"890",
-        MaybeAmount::NoAmount,
-        b"",
-        b"",
-        b"PLEASE CALL 9/5, ROOM 7",
-        out,
-    ));
-    after(write_ends::end_account(w, out))
+fn without_items(rt: &impl Print, w: Writer, out: &mut [u8]) -> io::Result<Writer> {
+    let w = after(
+        rt,
+        write_calls::account(
+            w,
+            b"0012345",
+            b"",
+            false,
+            b"",
+            MaybeAmount::NoAmount,
+            MaybeItems::NoItems,
+            out,
+        ),
+    )?;
+    let w = after(
+        rt,
+        write_calls::detail(
+            w,
+            b"890",
+            MaybeAmount::NoAmount,
+            b"",
+            b"",
+            b"PLEASE CALL 9/5, ROOM 7",
+            out,
+        ),
+    )?;
+    after(rt, write_ends::end_account(w, out))
 }
 
 // An account with three items, a credit and a debit.
-fn with_items(w: Writer, out: &mut [u8; 4096]) -> Writer {
-    let w = status_account(w, b"0099887766", b"CAD", b"010", minus(250_075), out);
-    let w = after(write_calls::item(w, b"100", plus(300_000), MaybeItems::Given(Items(2)), out));
-    let w = after(write_calls::item(w, b"400", plus(50_000), MaybeItems::NoItems, out));
-    credit_and_debit(w, out)
+fn with_items(rt: &impl Print, w: Writer, out: &mut [u8]) -> io::Result<Writer> {
+    let w = status_account(rt, w, b"0099887766", b"CAD", b"010", minus(250_075), out)?;
+    let w = after(
+        rt,
+        write_calls::item(w, b"100", plus(300_000), MaybeItems::Given(Items(2)), out),
+    )?;
+    let w = after(
+        rt,
+        write_calls::item(w, b"400", plus(50_000), MaybeItems::NoItems, out),
+    )?;
+    credit_and_debit(rt, w, out)
 }
 
 // A credit without text, a debit, and the account's end.
-fn credit_and_debit(w: Writer, out: &mut [u8; 4096]) -> Writer {
-    let w = after(write_calls::detail(w, b"165", plus(300_000), b"DD1620", b"REF 7", b"", out));
-    let w = after(write_calls::detail(w, b"475", plus(50_000), b"", b"", b"CHECK 000123", out));
-    after(write_ends::end_account(w, out))
+fn credit_and_debit(rt: &impl Print, w: Writer, out: &mut [u8]) -> io::Result<Writer> {
+    let w = after(
+        rt,
+        write_calls::detail(w, b"165", plus(300_000), b"DD1620", b"REF 7", b"", out),
+    )?;
+    let w = after(
+        rt,
+        write_calls::detail(w, b"475", plus(50_000), b"", b"", b"CHECK 000123", out),
+    )?;
+    after(rt, write_ends::end_account(w, out))
 }

@@ -7,13 +7,18 @@ mod files;
 mod printing;
 mod refusals;
 
-fn main() {
-    let mut out = io::buffer();
-    let k1 = files::k1(&mut out);
-    printing::print_file(k1, &out);
-    let all = files::every_call(&mut out);
-    printing::print_file(all, &out);
-    refusals::out_of_turn(&mut out);
-    refusals::bad_fields(&mut out);
-    refusals::too_much(&mut out);
+use std::io;
+
+// The room for a file.
+const ROOM: usize = 4096;
+
+fn main(rt: HostRuntime) -> io::Result<()> {
+    let mut out = vec![in rt.alloc(); 0u8; ROOM]?;
+    let k1 = files::k1(&rt, &mut out)?;
+    printing::print_file(&rt, k1, &out)?;
+    let all = files::every_call(&rt, &mut out)?;
+    printing::print_file(&rt, all, &out)?;
+    refusals::out_of_turn(&rt, &mut out)?;
+    refusals::bad_fields(&rt, &mut out)?;
+    refusals::too_much(&rt, &mut out)
 }
