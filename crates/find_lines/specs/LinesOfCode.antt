@@ -30,7 +30,7 @@ NoEnd s a n = (k : ℕ) → k < n → LF < get_or s (a + k) 0
 abbrev pub may_begin : ℕ → ℕ → ℕ → ℕ → Bool
 may_begin x y a b = eqb a LF && (eqb x b || eqb y b)
 
--- from a on, r is the first byte after which a line begins so, of those before e; or e: what `ahead_len` is then, `end-found` and `end_None` say (proofs/LineSearch.antt)
+-- from a on, r is the first byte after which a line begins so, of those before e; or e: what `ahead_len` is then, `end-found` and `end_none` say (proofs/LineSearch.antt)
 pub record EndIs (x y s : Bytes) (a e r : ℕ) : Type 0 where
   pub passed : a + ahead_len x y (drop a s) ≡ r + ahead_len x y (drop r s)
   pub found : r < e → line_ends x y (get_or s r 0) (drop (suc r) s) ≡ true

@@ -40,7 +40,7 @@ numbers_passed k start (yields f t) =
     cond (eqb k (kind_number f.kind)) [] (kind_number f.kind ∷ (start + f.place) ∷ handed_length f ∷ numbers_passed k start t)
 
 -- numbers at the front of a slice, three after three, as long as three find room; where all do, that is the slice of `fields_answer` (rules/specs/HandedOut.antt), joined by
--- `put_all_lem` (part_fields/proofs/NumberLaws.antt)
+-- `put_all` (part_fields/proofs/NumberLaws.antt)
 unfoldable pub put_threes : List ℕ → List ℕ → List ℕ
 put_threes (k ∷ p ∷ l ∷ ns) (a ∷ b ∷ c ∷ out) = k ∷ p ∷ l ∷ put_threes ns out
 put_threes (k ∷ p ∷ l ∷ ns) (a ∷ b ∷ []) = a ∷ b ∷ []

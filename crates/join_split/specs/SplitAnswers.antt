@@ -28,7 +28,7 @@ Accepts file = (s : Summary) × (judge file ≡ fine s)
 abbrev pub Opens : Bytes → ℕ → Type 0
 Opens file h = Accepts file × (h ≡ 0 + record_size (first_record (lines_of (drop 0 file))))
 
--- what split writes after the header: the groups for the name, and a fresh 99; parts of `split_result`, joined by `result_Parts` (proofs/SplitLaws.antt)
+-- what split writes after the header: the groups for the name, and a fresh 99; parts of `split_result`, joined by `result_parts` (proofs/SplitLaws.antt)
 unfoldable pub split_groups : Bytes → Bytes → Bytes
 split_groups name file = record_bytes (concat (groups_for name (groups_in file)))
 

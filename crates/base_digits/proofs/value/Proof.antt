@@ -56,58 +56,36 @@ invariant-loop s v₀ i₀ v i = Reading s i v × length s ≤ 18
 abbrev decreases-loop : tie.decreases-loop-i
 decreases-loop s v₀ i₀ v i = length s - i
 
-returns : tie.Need-returns-then-s-gt-MOST_DIGITS invariant-loop decreases-loop
-returns c = (value-long _ c.if-s-gt-MOST_DIGITS.true, zero-le)
-
--- eight zeros were passed; or none, of a long number and of a short one
-loop-holds : tie.Need-loop-i-init invariant-loop decreases-loop
-loop-holds c =
-    ⊎_elim (λ w. (rw w.i-is (passed 8 _ (omega (arith, w.if-s-ge-LONG_NUMBER.true)) (sym w.all_between.ensures ∙ w.if-all_between.true)), w.if-s-gt-MOST_DIGITS.false))
-    (⊎_elim (λ w. (rw w.i-is (start _), w.if-s-gt-MOST_DIGITS.false)) (λ w. (rw w.i-is (start _), omega (arith, w.if-s-ge-LONG_NUMBER.false))))
-    c.if-s-ge-LONG_NUMBER.branch-raw
-
-returns-2 : tie.Need-returns-then-d-gt9 invariant-loop decreases-loop
-returns-2 c =
-    let t = c.before.before.before in
-    let d = c.wrapping_sub_u8-d in
-    (value-bad _ _ _ t.loop-i.invariant.0 t.loop-i-test.true (no_digit _ _ d.ensures d.type_inv c.if-d-gt9.true), zero-le)
-
-mul-v : tie.Need-overflow_mul-v invariant-loop decreases-loop
-mul-v c = omega (arith, bounded 17 _ _ _ c.loop-i.invariant.0 (omega arith))
-
-add-v : tie.Need-overflow_add-v invariant-loop decreases-loop
-add-v c = omega (arith, bounded 17 _ _ _ c.loop-i.invariant.0 (omega arith))
-
-loop-again : tie.Need-loop-i-preserved invariant-loop decreases-loop
-loop-again c =
-    let t = c.before.before.before.before.before in
-    let b-is = digit _ _ c.wrapping_sub_u8-d.ensures c.if-d-gt9.false in
-    (turn _ _ _ _ t.loop-i.invariant.0 t.loop-i-test.true (omega arith) (omega arith) (omega arith), t.loop-i.invariant.1)
-
-returns-3 : tie.Need-returns invariant-loop decreases-loop
-returns-3 c =
-    let r = c.loop-i.invariant.0 in
-    (value_read _ _ _ r c.loop-i-test.false (omega arith), omega (arith, bounded 18 _ _ _ r (omega arith)))
-
 pub value_spec : {M : Type 1} → statement M
 value_spec =
     tie.close
     (tie.spec
     invariant-loop
     decreases-loop
-    returns
+    (λ c. (value-long _ c.if-s-gt-MOST_DIGITS.true, zero-le))
     (λ c. search rules)
     (λ c. search rules)
     (λ c. search rules)
     (λ c κs. search rules)
-    loop-holds
+    (λ c.
+    ⊎_elim (λ w. (rw w.i-is (passed 8 _ (omega (arith, w.if-s-ge-LONG_NUMBER.true)) (sym w.all_between.ensures ∙ w.if-all_between.true)), w.if-s-gt-MOST_DIGITS.false))
+    (⊎_elim (λ w. (rw w.i-is (start _), w.if-s-gt-MOST_DIGITS.false)) (λ w. (rw w.i-is (start _), omega (arith, w.if-s-ge-LONG_NUMBER.false))))
+    c.if-s-ge-LONG_NUMBER.branch-raw)
     (λ c. search rules)
     (λ c κs. search rules)
-    returns-2
-    mul-v
+    (λ c.
+    let t = c.before.before.before in
+    let d = c.wrapping_sub_u8-d in
+    (value-bad _ _ _ t.loop-i.invariant.0 t.loop-i-test.true (no_digit _ _ d.ensures d.type_inv (omega arith)), zero-le))
+    (λ c. omega (arith, bounded 17 _ _ _ c.loop-i.invariant.0 (omega arith)))
     (λ c κs. search rules)
-    add-v
+    (λ c. omega (arith, bounded 17 _ _ _ c.loop-i.invariant.0 (omega arith)))
     (λ c. search rules)
     (λ c. search rules)
-    loop-again
-    returns-3)
+    (λ c.
+    let t = c.before.before.before.before.before in
+    let b-is = digit _ _ c.wrapping_sub_u8-d.ensures (omega arith) in
+    (turn _ _ _ _ t.loop-i.invariant.0 t.loop-i-test.true (omega arith) (omega arith) (omega arith), t.loop-i.invariant.1))
+    (λ c.
+    let r = c.loop-i.invariant.0 in
+    (value_read _ _ _ r c.loop-i-test.false (omega arith), omega (arith, bounded 18 _ _ _ r (omega arith)))))

@@ -15,36 +15,24 @@ invariant-loop a b i₀ i = (i ≤ length a) × (length a ≡ length b) × (same
 abbrev decreases-loop : tie.decreases-loop-i
 decreases-loop a b i₀ i = length a - i
 
-returns : tie.Need-returns-then-a-b invariant-loop decreases-loop
-returns c = sym (other-lengths c.args.a.now c.args.b.now c.if-a-b.true)
-
-returns-2 : tie.Need-returns-then-a-i invariant-loop decreases-loop
-returns-2 c =
-    let l = c.loop-i in
-    sym (l.invariant.2 ∙ same-no c.args.a.now c.args.b.now l.i (omega arith) (omega arith) c.if-a-i.true)
-
-loop-again : tie.Need-loop-i-preserved invariant-loop decreases-loop
-loop-again c =
-    let l = c.loop-i in
-    (omega arith, omega arith, l.invariant.2 ∙ same-go c.args.a.now c.args.b.now l.i (omega arith) (omega arith) c.if-a-i.false)
-
-returns-3 : tie.Need-returns invariant-loop decreases-loop
-returns-3 c =
-    let l = c.loop-i in
-    sym (l.invariant.2 ∙ same_end c.args.a.now c.args.b.now l.i (omega arith) (omega arith))
-
 pub same_bytes_spec : {M : Type 1} → statement M
 same_bytes_spec =
     tie.close
     (tie.spec
     invariant-loop
     decreases-loop
-    returns
+    (λ c. sym (other-lengths c.args.a.now c.args.b.now (omega arith)))
     (λ c. search rules)
     (λ c. search rules)
     (λ c. search rules)
-    returns-2
+    (λ c.
+    let l = c.loop-i in
+    sym (l.invariant.2 ∙ same-no c.args.a.now c.args.b.now l.i (omega arith) (omega arith) (omega arith)))
     (λ c. search rules)
     (λ c. search rules)
-    loop-again
-    returns-3)
+    (λ c.
+    let l = c.loop-i in
+    (omega arith, omega arith, l.invariant.2 ∙ same-go c.args.a.now c.args.b.now l.i (omega arith) (omega arith) (omega arith)))
+    (λ c.
+    let l = c.loop-i in
+    sym (l.invariant.2 ∙ same_end c.args.a.now c.args.b.now l.i (omega arith) (omega arith))))

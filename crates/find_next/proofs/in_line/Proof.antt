@@ -30,7 +30,7 @@ abbrev walk_of : Asked → Cursor
 walk_of c = (entry c).args.walk
 
 past : (c : Asked) → (walk_of c).end.0 < (walk_of c).at.0
-past c = c.if-here-over.false
+past c = omega arith
 
 own_is : (c : Asked) (b : Bool) → not c.is_own.result ≡ b → own_line (entry c).args.least (walk_of c).line.0 (drop (walk_of c).line.0 (rec-of c)) ≡ not b
 own_is c b e = sym c.is_own.ensures ∙ flip _ _ e
@@ -83,28 +83,6 @@ inside c =
       next-within (rec-of (asked (line_of c))) (start_of (line_of c)) (end_of (line_of c)) (next_of c) (end_is (line_of c)) (next-sum c),
     )
 
-returns-2 : tie.Need-returns-then-not-is_own
-returns-2 c =
-    let a = c.before.before in
-    end-enters (rec-of a) _ (walk_of a) (past a) _ (own_is a true c.if-not-is_own.true-raw) c.at_end.ensures
-
-add-t14 : tie.Need-overflow_add-at
-add-t14 c = omega (arith, some_byte c.before)
-
-returns-3 : tie.Need-returns-then-end-at
-returns-3 c =
-    let l = c.before.before.before.before in
-    short-enters (rec-of (asked l)) _ (walk_of (asked l)) (past (asked l)) (own l) (end_of l) _ (end_is l) refl c.if-end-at.true
-
-add-t16 : tie.Need-overflow_add-line
-add-t16 c = omega (arith, inside c)
-
-returns-4 : tie.Need-returns
-returns-4 c =
-    let l = line_of c in
-    line-enters (rec-of (asked l)) _ (walk_of (asked l)) (past (asked l)) (own l) (end_of l) (next_of c) (end_is l) (next-at c)
-    c.if-end-at.false (omega arith) (inside c)
-
 pub in_line_spec : {M : Type 1} → statement M
 in_line_spec =
     tie.close
@@ -112,10 +90,17 @@ in_line_spec =
     (λ c. search rules)
     (λ c κs. search rules)
     (λ c κs. search rules)
-    returns-2
+    (λ c.
+    let a = c.before.before in
+    end-enters (rec-of a) _ (walk_of a) (past a) _ (own_is a true c.if-not-is_own.true-raw) c.at_end.ensures)
     (λ c κs. search rules)
-    add-t14
-    returns-3
+    (λ c. omega (arith, some_byte c.before))
+    (λ c.
+    let l = c.before.before.before.before in
+    short-enters (rec-of (asked l)) _ (walk_of (asked l)) (past (asked l)) (own l) (end_of l) _ (end_is l) refl (omega arith))
     (λ c κs. search rules)
-    add-t16
-    returns-4)
+    (λ c. omega (arith, inside c))
+    (λ c.
+    let l = line_of c in
+    line-enters (rec-of (asked l)) _ (walk_of (asked l)) (past (asked l)) (own l) (end_of l) (next_of c) (end_is l) (next-at c)
+    (omega arith) (omega arith) (inside c)))

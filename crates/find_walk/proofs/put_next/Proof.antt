@@ -11,13 +11,24 @@ use borrow.Author.Rules.{rules}
 use Rattle.find_walk.proofs.put_next.Statement.{statement}
 use Rattle.find_walk.proofs.put_next.Tie as tie
 
-returns : tie.Need-returns-then-out-at-lt3
-returns c =
+pub put_next_spec : {M : Type 1} → statement M
+put_next_spec =
+    tie.close
+    (tie.spec
+    (λ c. search rules)
+    (λ c.
     let s = c.before.before.before in
-    record { put = λ h. absurd (omega (arith, h, c.if-out-at-lt3.true, s.requires.1)); full = λ h. (refl, refl) }
-
-returns-2 : tie.Need-returns
-returns-2 c =
+    record { put = λ h. absurd (omega (arith, h, s.requires.1)); full = λ h. (refl, refl) })
+    (λ c. search rules)
+    (λ c. search rules)
+    (λ c. search rules)
+    (λ c. search rules)
+    (λ c κs. search rules)
+    (λ c. search rules)
+    (λ c κs. search rules)
+    (λ c. search rules)
+    (λ c. search rules)
+    (λ c.
     let put = c.before.before in
     let shown = put.before.before.before in
     let room = shown.before.before in
@@ -28,22 +39,5 @@ returns-2 c =
     let size = shown.handed_length-shown.ensures ∙ ap (λ (bs : Bytes). cond (eqb 21 a.kind && just slash bs) 0 (length bs)) lent in
     record {
       put = λ h. (put.put_field.ensures ∙ ap (λ (l : ℕ). take a.at a.out.now ++ (a.kind ∷ (a.start.0 + a.place.0) ∷ l ∷ drop (a.at + 3) a.out.now)) size, refl);
-      full = λ h. absurd (omega (arith, h, room.if-out-at-lt3.false, s.requires.1));
-    }
-
-pub put_next_spec : {M : Type 1} → statement M
-put_next_spec =
-    tie.close
-    (tie.spec
-    (λ c. search rules)
-    returns
-    (λ c. search rules)
-    (λ c. search rules)
-    (λ c. search rules)
-    (λ c. search rules)
-    (λ c κs. search rules)
-    (λ c. search rules)
-    (λ c κs. search rules)
-    (λ c. search rules)
-    (λ c. search rules)
-    returns-2)
+      full = λ h. absurd (omega (arith, h, s.requires.1));
+    }))

@@ -90,69 +90,6 @@ Put = tie.After-put_next-at invariant-loop decreases-loop
 abbrev field : Put → Field
 field c = c.before.before.before
 
-loop-holds : tie.Need-loop-why-init invariant-loop decreases-loop
-loop-holds c =
-    let rec = c.part-rec.result.now in
-    let least = c.args.least in
-    going_start rec _ least _ c.before_record-walk.result _ (c.before_record-walk.ensures.1 rec least).1
-
-refused-there-requires : tie.Need-refused_there-requires invariant-loop decreases-loop
-refused-there-requires c κs =
-    let a = c.before in
-    let near = stop-within (rec-of a) _ _ _ (all a) _ (walk_of a) _ _ _ (going a) _ (steps a) _ c.in-Refused.is in
-    omega (arith, near.0, near.1, short a, (entry a).well_formed)
-
-same_length : tie.Need-shape_of-out-in-Refused invariant-loop decreases-loop
-same_length c = (going c.before.before).long
-
-returns : tie.Need-returns-in-Refused invariant-loop decreases-loop
-returns c =
-    let a = c.before.before in
-    promised a _
-    (stop-ends (rec-of a) _ _ _ (all a) _ (walk_of a) _ _ _ (going a) _ (steps a) (code_meant (entry a).args.code) (all-is a) _ _ c.in-Refused.is c.refused_there.ensures)
-
-same-length-2 : tie.Need-shape_of-out-in-Over invariant-loop decreases-loop
-same-length-2 c = (going c.before).long
-
-returns-2 : tie.Need-returns-in-Over invariant-loop decreases-loop
-returns-2 c =
-    let a = c.before in
-    promised a _ (over-ends (rec-of a) _ _ _ (all a) _ (walk_of a) _ _ _ (going a) _ (steps a) (code_meant (entry a).args.code) (all-is a) c.in-Over.is)
-
-same-length-3 : tie.Need-shape_of-out-then-kind-sought invariant-loop decreases-loop
-same-length-3 c = (going (asked c.before)).long
-
-returns-3 : tie.Need-returns-then-kind-sought invariant-loop decreases-loop
-returns-3 c =
-    let f = c.before in
-    let a = asked f in
-    promised a _
-    (met-ends (rec-of a) _ _ _ (all a) _ (walk_of a) _ _ _ (going a) _ (steps a) (code_meant (entry a).args.code) (all-is a) _ _ _ f.in-Field.is _ f.kind_number-kind.ensures c.if-kind-sought.true)
-
-put-next-requires : tie.Need-put_next-at-requires invariant-loop decreases-loop
-put-next-requires c κs =
-    let f = c.before.before in
-    let a = asked f in
-    let o = onward (rec-of a) _ _ _ (all a) _ (walk_of a) _ _ _ (going a) _ (steps a) _ _ _ f.in-Field.is in
-    (o.0, (going a).within, omega (arith, o.0, short a, (entry a).well_formed))
-
-add-n : tie.Need-overflow_add-n invariant-loop decreases-loop
-add-n c = let a = asked (field c.before.before) in omega (arith, (going a).few, short a)
-
-loop-less : tie.Need-loop-why-smaller invariant-loop decreases-loop
-loop-less c =
-    let f = field c.before.before in
-    let a = asked f in
-    (onward (rec-of a) _ _ _ (all a) _ (walk_of a) _ _ _ (going a) _ (steps a) _ _ _ f.in-Field.is).2
-
-loop-again : tie.Need-loop-why-preserved invariant-loop decreases-loop
-loop-again c =
-    let p = c.before.before in
-    let f = field p in
-    let a = asked f in
-    going_next (rec-of a) _ _ _ (all a) _ (walk_of a) _ _ _ (going a) _ (steps a) (code_meant (entry a).args.code) (all-is a) _ _ _ f.in-Field.is _ f.kind_number-kind.ensures
-    _ _ p.if-kind-sought.false p.put_next-at.ensures
-
 pub walk_to_spec : {M : Type 1} → statement M
 walk_to_spec =
     tie.close
@@ -162,20 +99,47 @@ walk_to_spec =
     (λ c κs. search rules)
     (λ c κs. search rules)
     (λ c κs. search rules)
-    loop-holds
+    (λ c.
+    let rec = c.part-rec.result.now in
+    let least = c.args.least in
+    going_start rec _ least _ c.before_record-walk.result _ (c.before_record-walk.ensures.1 rec least).1)
     (λ c κs. search rules)
     (λ c. search rules)
-    refused-there-requires
-    same_length
-    returns
+    (λ c κs.
+    let a = c.before in
+    let near = stop-within (rec-of a) _ _ _ (all a) _ (walk_of a) _ _ _ (going a) _ (steps a) _ c.in-Refused.is in
+    omega (arith, near.0, near.1, short a, (entry a).well_formed))
+    (λ c. (going c.before.before).long)
+    (λ c.
+    let a = c.before.before in
+    promised a _
+    (stop-ends (rec-of a) _ _ _ (all a) _ (walk_of a) _ _ _ (going a) _ (steps a) (code_meant (entry a).args.code) (all-is a) _ _ c.in-Refused.is c.refused_there.ensures))
     (λ c. search rules)
-    same-length-2
-    returns-2
+    (λ c. (going c.before).long)
+    (λ c.
+    let a = c.before in
+    promised a _ (over-ends (rec-of a) _ _ _ (all a) _ (walk_of a) _ _ _ (going a) _ (steps a) (code_meant (entry a).args.code) (all-is a) c.in-Over.is))
     (λ c. search rules)
     (λ c κs. search rules)
-    same-length-3
-    returns-3
-    put-next-requires
-    add-n
-    loop-less
-    loop-again)
+    (λ c. (going (asked c.before)).long)
+    (λ c.
+    let f = c.before in
+    let a = asked f in
+    promised a _
+    (met-ends (rec-of a) _ _ _ (all a) _ (walk_of a) _ _ _ (going a) _ (steps a) (code_meant (entry a).args.code) (all-is a) _ _ _ f.in-Field.is _ f.kind_number-kind.ensures (omega arith)))
+    (λ c κs.
+    let f = c.before.before in
+    let a = asked f in
+    let o = onward (rec-of a) _ _ _ (all a) _ (walk_of a) _ _ _ (going a) _ (steps a) _ _ _ f.in-Field.is in
+    (o.0, (going a).within, omega (arith, o.0, short a, (entry a).well_formed)))
+    (λ c. let a = asked (field c.before.before) in omega (arith, (going a).few, short a))
+    (λ c.
+    let f = field c.before.before in
+    let a = asked f in
+    (onward (rec-of a) _ _ _ (all a) _ (walk_of a) _ _ _ (going a) _ (steps a) _ _ _ f.in-Field.is).2)
+    (λ c.
+    let p = c.before.before in
+    let f = field p in
+    let a = asked f in
+    going_next (rec-of a) _ _ _ (all a) _ (walk_of a) _ _ _ (going a) _ (steps a) (code_meant (entry a).args.code) (all-is a) _ _ _ f.in-Field.is _ f.kind_number-kind.ensures
+    _ _ (omega arith) p.put_next-at.ensures))

@@ -120,59 +120,7 @@ Counting = tie.After-t-1
 abbrev counting : Counting → At
 counting c = c.before.before.before.before.before
 
-sub-records-left : tie.Need-slice_bounds-records_left-count
-sub-records-left c = omega (arith, (inside (counting c.before.before)).a-last)
-
-part-records-left-start : tie.Need-slice_bounds-records_left-start
-part-records-left-start c = omega (arith, (inside (counting c.before.before)).a-last)
-
-part-records-left-end-2 : tie.Need-slice_bounds-records_left-end-2
-part-records-left-end-2 c = let i = inside (counting c.before.before.before) in omega (arith, i.header, i.b-last)
-
-sub-records-left-3 : tie.Need-slice_bounds-records_left-count-3
-sub-records-left-3 c = omega (arith, (inside (counting c.before.before.before.before)).b-last)
-
-part-records-left-start-3 : tie.Need-slice_bounds-records_left-start-3
-part-records-left-start-3 c = omega (arith, (inside (counting c.before.before.before.before)).b-last)
-
-records-left-requires : tie.Need-records_left-records-requires
-records-left-requires c κs =
-    let s = counting c.before.before.before.before.before in
-    let i = inside s in (
-      s.requires.0.records,
-      s.requires.1.records,
-      part-most longest_file (length (a-of s) - x-of s) (x-of s) (a-of s) i.a-short,
-      part-most longest_file (h-of s - 0) 0 (b-of s) i.b-short,
-      part-most longest_file (length (b-of s) - y_of s) (y_of s) (b-of s) i.b-short,
-    )
-
-both-requires : tie.Need-both-requires
-both-requires c κs = let s = counting c.before.before.before.before.before.before.before.before in (s.requires.0.groups, s.requires.1.groups)
-
 -- ---- 18, 15
-
-sub-length : tie.Need-overflow_sub-length
-sub-length c = omega (arith, (inside (begun c)).header)
-
-add-length : tie.Need-overflow_add-length
-add-length c = let i = inside (begun c) in omega (arith, i.a-last, i.b-last, i.a-short, i.b-short)
-
-add-length-2 : tie.Need-overflow_add-length-2
-add-length-2 c = let i = inside (begun c) in omega (arith, i.a-last, i.b-last, i.a-short, i.b-short, c.fresh_trailer-last.ensures.1)
-
-returns : tie.Need-returns-then-length-gt-LONGEST_FILE
-unfolding combined_fitting
-returns c =
-    let m = c.before.before in
-    let s = begun m in
-    c.refused_by.ensures (out_of s) ∙ too_long (combined_result (a-of s) (b-of s)) (out_of s) 0 (omega (arith, size m))
-
-returns-2 : tie.Need-returns-then-out-length
-unfolding combined_fitting
-returns-2 c =
-    let m = c.before.before.before in
-    let s = begun m in
-    c.refused_by-then-out-length.ensures (out_of s) ∙ no_room (combined_result (a-of s) (b-of s)) (out_of s) 0 (omega (arith, size m)) (omega (arith, size m))
 
 -- ---- it fits
 
@@ -186,70 +134,65 @@ abbrev fit_of : Fits → At
 fit_of c = begun (measured-of c)
 
 short-enough : (c : Fits) → let s = fit_of c in length (combined_result (a-of s) (b-of s)) ≤ longest_file
-short-enough c = omega (arith, size (measured-of c), c.if-length-gt-LONGEST_FILE.false)
+short-enough c = omega (arith, size (measured-of c))
 
 room : (c : Fits) → let s = fit_of c in length (combined_result (a-of s) (b-of s)) ≤ length (out_of s)
-room c = omega (arith, size (measured-of c), c.if-out-length.false)
-
-part-put-three-end : tie.Need-slice_bounds-put_three-end
-part-put-three-end c = omega (arith, (inside (fit_of c)).a-last)
-
-sub-put-three-2 : tie.Need-slice_bounds-put_three-count-2
-sub-put-three-2 c = omega (arith, (inside (fit_of c.before)).header)
-
-part-put-three-start-2 : tie.Need-slice_bounds-put_three-start-2
-part-put-three-start-2 c = omega (arith, (inside (fit_of c.before)).header)
-
-part-put-three-end-2 : tie.Need-slice_bounds-put_three-end-2
-part-put-three-end-2 c = omega (arith, (inside (fit_of c.before)).b-last)
-
-put-three-requires : tie.Need-put_three-requires
-put-three-requires c κs =
-    let f = c.before.before.before.before in
-    subst (λ (bs : Bytes). length bs ≤ length (out_of (fit_of f))) (sym (lent (measured-of f))) (room f)
-
-returns-3 : tie.Need-returns
-unfolding combined_fitting
-returns-3 c =
-    let put = c.put_three in
-    let f = c.before.before.before.before.before.before.before in
-    let s = fit_of f in
-    written (combined_result (a-of s) (b-of s)) (out_of s) 0 (short-enough f) (room f) put.result put.new.out
-    (subst (λ (bs : Bytes). Put bs (out_of s) put.result put.new.out) (lent (measured-of f)) put.ensures)
+room c = omega (arith, size (measured-of c))
 
 pub combine_fitting_spec : {M : Type 1} → statement M
 combine_fitting_spec =
     tie.close
     (tie.spec
-    sub-records-left
-    part-records-left-start
+    (λ c. omega (arith, (inside (counting c.before.before)).a-last))
+    (λ c. omega (arith, (inside (counting c.before.before)).a-last))
     (λ c. search rules)
     (λ c. search rules)
     (λ c. search rules)
-    part-records-left-end-2
-    sub-records-left-3
-    part-records-left-start-3
+    (λ c. let i = inside (counting c.before.before.before) in omega (arith, i.header, i.b-last))
+    (λ c. omega (arith, (inside (counting c.before.before.before.before)).b-last))
+    (λ c. omega (arith, (inside (counting c.before.before.before.before)).b-last))
     (λ c. search rules)
-    records-left-requires
-    both-requires
+    (λ c κs.
+    let s = counting c.before.before.before.before.before in
+    let i = inside s in (
+      s.requires.0.records,
+      s.requires.1.records,
+      part-most longest_file (length (a-of s) - x-of s) (x-of s) (a-of s) i.a-short,
+      part-most longest_file (h-of s - 0) 0 (b-of s) i.b-short,
+      part-most longest_file (length (b-of s) - y_of s) (y_of s) (b-of s) i.b-short,
+    ))
+    (λ c κs. let s = counting c.before.before.before.before.before.before.before.before in (s.requires.0.groups, s.requires.1.groups))
     (λ c κs. search rules)
     (λ c κs. search rules)
-    sub-length
-    add-length
-    add-length-2
+    (λ c. omega (arith, (inside (begun c)).header))
+    (λ c. let i = inside (begun c) in omega (arith, i.a-last, i.b-last, i.a-short, i.b-short))
+    (λ c. let i = inside (begun c) in omega (arith, i.a-last, i.b-last, i.a-short, i.b-short, c.fresh_trailer-last.ensures.1))
     (λ c κs. search rules)
-    returns
+    (λ c. unfold combined_fitting in
+    let m = c.before.before in
+    let s = begun m in
+    c.refused_by.ensures (out_of s) ∙ too_long (combined_result (a-of s) (b-of s)) (out_of s) 0 (omega (arith, size m)))
     (λ c κs. search rules)
-    returns-2
+    (λ c. unfold combined_fitting in
+    let m = c.before.before.before in
+    let s = begun m in
+    c.refused_by-then-out-length.ensures (out_of s) ∙ no_room (combined_result (a-of s) (b-of s)) (out_of s) 0 (omega (arith, size m)) (omega (arith, size m)))
     (λ c. search rules)
     (λ c. search rules)
-    part-put-three-end
-    sub-put-three-2
-    part-put-three-start-2
-    part-put-three-end-2
+    (λ c. omega (arith, (inside (fit_of c)).a-last))
+    (λ c. omega (arith, (inside (fit_of c.before)).header))
+    (λ c. omega (arith, (inside (fit_of c.before)).header))
+    (λ c. omega (arith, (inside (fit_of c.before)).b-last))
     (λ c. search rules)
     (λ c. search rules)
     (λ c. search rules)
-    put-three-requires
+    (λ c κs.
+    let f = c.before.before.before.before in
+    subst (λ (bs : Bytes). length bs ≤ length (out_of (fit_of f))) (sym (lent (measured-of f))) (room f))
     (λ c. search rules)
-    returns-3)
+    (λ c. unfold combined_fitting in
+    let put = c.put_three in
+    let f = c.before.before.before.before.before.before.before in
+    let s = fit_of f in
+    written (combined_result (a-of s) (b-of s)) (out_of s) 0 (short-enough f) (room f) put.result put.new.out
+    (subst (λ (bs : Bytes). Put bs (out_of s) put.result put.new.out) (lent (measured-of f)) put.ensures)))

@@ -25,9 +25,6 @@ invariant-loop s opening closing n at₀ left₀ at left =
 abbrev decreases-loop : tie.decreases-loop-opening
 decreases-loop s opening closing n at₀ left₀ at left = length s - at
 
-loop-holds : tie.Need-loop-opening-init invariant-loop decreases-loop
-loop-holds c = (omega (arith, c.record_end-at.ensures.1), started _ _ _ _ _ c.record_end-at.ensures.0)
-
 -- ---- in a turn, once the part's end is known
 
 abbrev Turn : Type 0
@@ -66,46 +63,7 @@ places c =
     spans (opening_of c) (closing-of c) (s-of c) (at_of c) (first-end c) (end_of c) (begun c)
     (head c).loop-opening.invariant.0 c.record_end-after.ensures c.next_line_of-e.ensures
 
-sub-length : tie.Need-overflow_sub-length invariant-loop decreases-loop
-sub-length c = omega (arith, places c.before)
-
--- it is the one sought
-returns : tie.Need-returns-then-left-eq0 invariant-loop decreases-loop
-returns c =
-    let t = c.before in
-    record {
-      found = λ e.
-          hit (opening_of t) (closing-of t) e.others e.apart (s-of t) (at_of t) (first-end t) (end_of t) (begun t)
-          t.record_end-after.ensures.0 t.next_line_of-e.ensures.0 _ _ c.if-left-eq0.true ((head t).loop-opening.invariant.1 e);
-      inside = omega (arith, places t);
-    }
-
--- the search goes on after it
-loop-less : tie.Need-loop-opening-smaller invariant-loop decreases-loop
-loop-less c = omega (arith, places c.before)
-
-loop-again : tie.Need-loop-opening-preserved invariant-loop decreases-loop
-loop-again c =
-    let t = c.before in (
-      (places t).1,
-      λ e.
-          go (opening_of t) (closing-of t) e.others e.apart (s-of t) (at_of t) (first-end t) (end_of t) (begun t)
-          t.record_end-after.ensures.0 t.next_line_of-e.ensures.0 _ _ (omega arith) ((head t).loop-opening.invariant.1 e),
-    )
-
 -- ---- no part is left
-
-returns-2 : tie.Need-returns invariant-loop decreases-loop
-returns-2 c =
-    let l = c.before.before.before in
-    let a = l.args in
-    record {
-      found = λ e.
-          c.no_part.ensures
-          ∙ missed (code_meant a.opening) (code_meant a.closing) e.others e.apart a.s.now _ _ _
-          (sym c.begins.ensures ∙ c.loop-opening-test.false) (l.loop-opening.invariant.1 e);
-      inside = subst (Inside a.s.now) (sym c.no_part.ensures) (omega arith);
-    }
 
 pub nth_part_spec : {M : Type 1} → statement M
 nth_part_spec =
@@ -114,14 +72,36 @@ nth_part_spec =
     invariant-loop
     decreases-loop
     (λ c κs. search rules)
-    loop-holds
+    (λ c. (omega (arith, c.record_end-at.ensures.1), started _ _ _ _ _ c.record_end-at.ensures.0))
     (λ c κs. search rules)
     (λ c κs. search rules)
     (λ c κs. search rules)
-    sub-length
-    returns
+    (λ c. omega (arith, places c.before))
+    (λ c.
+    let t = c.before in
+    record {
+      found = λ e.
+          hit (opening_of t) (closing-of t) e.others e.apart (s-of t) (at_of t) (first-end t) (end_of t) (begun t)
+          t.record_end-after.ensures.0 t.next_line_of-e.ensures.0 _ _ (omega arith) ((head t).loop-opening.invariant.1 e);
+      inside = omega (arith, places t);
+    })
     (λ c. search rules)
-    loop-less
-    loop-again
+    (λ c. omega (arith, places c.before))
+    (λ c.
+    let t = c.before in (
+      (places t).1,
+      λ e.
+          go (opening_of t) (closing-of t) e.others e.apart (s-of t) (at_of t) (first-end t) (end_of t) (begun t)
+          t.record_end-after.ensures.0 t.next_line_of-e.ensures.0 _ _ (omega arith) ((head t).loop-opening.invariant.1 e),
+    ))
     (λ c κs. search rules)
-    returns-2)
+    (λ c.
+    let l = c.before.before.before in
+    let a = l.args in
+    record {
+      found = λ e.
+          c.no_part.ensures
+          ∙ missed (code_meant a.opening) (code_meant a.closing) e.others e.apart a.s.now _ _ _
+          (sym c.begins.ensures ∙ c.loop-opening-test.false) (l.loop-opening.invariant.1 e);
+      inside = subst (Inside a.s.now) (sym c.no_part.ensures) (omega arith);
+    }))

@@ -3,7 +3,7 @@ use Prim.Native.Nat.{◌+◌, ◌-◌, ◌≤◌}
 use mathlib.Core.Path.{◌≡◌}
 use native.Mathlib.Omega.{arith}
 use borrow.Author.Rules.{rules}
-use lib.ListN.{length, drop}
+use lib.ListN.{length, get_or, drop}
 use Rattle.read_field_ends.specs.FieldLengths.{until, is_mark}
 use Rattle.read_field_ends.proofs.FieldLengthLaws.{until_stop, until-on, until_end, mark-comma, mark-slash, mark-none}
 use Rattle.read_field_ends.proofs.field_len.Statement.{statement}
@@ -15,24 +15,6 @@ invariant-loop f i₀ i = (i ≤ length f) × (i + until is_mark (drop i f) ≡ 
 abbrev decreases-loop : tie.decreases-loop-i
 decreases-loop f i₀ i = length f - i
 
-returns : tie.Need-returns-then-f-i-eq44 invariant-loop decreases-loop
-returns c =
-    let l = c.before.before.before in
-    (until_stop is_mark _ _ l.loop-i.invariant.1 c.loop-i-test.true (mark-comma _ c.if-f-i-eq44.true), omega arith)
-
-returns-2 : tie.Need-returns-then-f-i-eq47 invariant-loop decreases-loop
-returns-2 c =
-    let l = c.before.before.before.before in
-    (until_stop is_mark _ _ l.loop-i.invariant.1 l.loop-i-test.true (mark-slash _ c.if-f-i-eq47.true), omega arith)
-
-loop-again : tie.Need-loop-i-preserved invariant-loop decreases-loop
-loop-again c =
-    let l = c.before.before.before.before in
-    (omega arith, until-on is_mark _ _ l.loop-i.invariant.1 l.loop-i-test.true (mark-none _ c.if-f-i-eq44.false c.if-f-i-eq47.false))
-
-returns-3 : tie.Need-returns invariant-loop decreases-loop
-returns-3 c = (until_end is_mark _ _ c.loop-i.invariant.1 c.loop-i-test.false, omega arith)
-
 pub field_len_spec : {M : Type 1} → statement M
 field_len_spec =
     tie.close
@@ -41,10 +23,16 @@ field_len_spec =
     decreases-loop
     (λ c. search rules)
     (λ c. search rules)
-    returns
+    (λ c.
+    let l = c.before.before.before in
+    (until_stop is_mark _ _ l.loop-i.invariant.1 c.loop-i-test.true (mark-comma (get_or c.args.f.now c.loop-i.i 0) (omega arith)), omega arith))
     (λ c. search rules)
-    returns-2
+    (λ c.
+    let l = c.before.before.before.before in
+    (until_stop is_mark _ _ l.loop-i.invariant.1 l.loop-i-test.true (mark-slash (get_or c.args.f.now c.loop-i.i 0) (omega arith)), omega arith))
     (λ c. search rules)
     (λ c. search rules)
-    loop-again
-    returns-3)
+    (λ c.
+    let l = c.before.before.before.before in
+    (omega arith, until-on is_mark _ _ l.loop-i.invariant.1 l.loop-i-test.true (mark-none (get_or c.args.f.now c.loop-i.i 0) (omega arith) (omega arith))))
+    (λ c. (until_end is_mark _ _ c.loop-i.invariant.1 c.loop-i-test.false, omega arith)))

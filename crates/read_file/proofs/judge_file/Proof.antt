@@ -61,52 +61,9 @@ told c r e = subst (λ (x : Stepped). StepIs x (turn c).loop-why.st (drop (at_of
 
 -- ---- before the loop
 
-returns : tie.Need-returns-then-file-eq0 invariant-loop decreases-loop
-returns c = judge-empty c.args.file.now c.if-file-eq0.true
-
-returns-2 : tie.Need-returns-then-file-gt-LONGEST_FILE invariant-loop decreases-loop
-returns-2 c = judge-long c.args.file.now (omega arith) (omega arith)
-
-loop-holds : tie.Need-loop-why-init invariant-loop decreases-loop
-loop-holds c =
-    let e = c.start-st.ensures in
-    (omega arith, e.1, omega arith, ap (λ (s : verdict.State). run_from 0 s c.args.file.now) (sym e.0), refl)
-
-step-requires : tie.Need-step-requires invariant-loop decreases-loop
-step-requires c κs =
-    let t = c.before in
-    let l = length-drop (at_of t) (file-of t) in
-    (t.loop-why.invariant.1, rw (rest-is (file-of t) (at_of t)) (omega (arith, t.loop-why.invariant.2)))
-
 -- ---- no record is left
 
-returns-3 : tie.Need-returns-in-End invariant-loop decreases-loop
-returns-3 c =
-    let t = turn c.before.before in
-    let z = told c.before.before _ c.in-End.is in
-    let l = length-drop (at_of t) (file-of t) in
-    judged-end (file-of t) t.loop-why.st t.loop-why.last (omega arith) (omega arith) t.loop-why.invariant.1 (omega (arith, t.loop-why.invariant.2))
-    (t.loop-why.invariant.3 ∙ run_end (at_of t) (state-of t) (file-of t) (omega arith))
-    (t.loop-why.invariant.4 ∙ last_end _ (at_of t) (file-of t) (omega arith))
-    c.at_end.result c.at_end.ensures
-
 -- ---- the record is refused
-
-add-place : tie.Need-overflow_add-place invariant-loop decreases-loop
-add-place c =
-    let s = c.before.before.before in
-    let l = length-drop (at_of (turn s)) (file-of (turn s)) in
-    let z = told s _ c.in-Refused.is in
-    omega (arith, z.within)
-
-returns-4 : tie.Need-returns-in-Refused invariant-loop decreases-loop
-returns-4 c =
-    let s = c.before.before.before in
-    let t = turn s in
-    let l = length-drop (at_of t) (file-of t) in
-    let z = told s _ c.in-Refused.is in
-    judge-stop (file-of t) (omega arith) (omega arith) _ (t.loop-why.invariant.3
-    ∙ run-stop (at_of t) (record_size (first_record (lines_of (drop (at_of t) (file-of t))))) (state-of t) (file-of t) (omega (arith, z.some_byte)) refl _ z.stops)
 
 -- ---- the record is accepted
 
@@ -119,14 +76,52 @@ step_of c = c.before
 passed : (c : Next) → Passed (turn (step_of c)).loop-why.st (drop (at_of (turn (step_of c))) (file-of (turn (step_of c)))) c.in-Next.next c.in-Next.size
 passed c = told (step_of c) _ c.in-Next.is
 
-add_at : tie.Need-overflow_add-at invariant-loop decreases-loop
-add_at c = let t = turn (step_of c) in let l = length-drop (at_of t) (file-of t) in omega (arith, (passed c).fits)
-
-loop-less : tie.Need-loop-why-smaller invariant-loop decreases-loop
-loop-less c = let t = turn (step_of c) in let l = length-drop (at_of t) (file-of t) in omega (arith, (passed c).fits, (passed c).some_byte)
-
-loop-again : tie.Need-loop-why-preserved invariant-loop decreases-loop
-loop-again c =
+pub judge_file_spec : {M : Type 1} → statement M
+judge_file_spec =
+    tie.close
+    (tie.spec
+    invariant-loop
+    decreases-loop
+    (λ c. judge-empty c.args.file.now (omega arith))
+    (λ c. judge-long c.args.file.now (omega arith) (omega arith))
+    (λ c κs. search rules)
+    (λ c.
+    let e = c.start-st.ensures in
+    (omega arith, e.1, omega arith, ap (λ (s : verdict.State). run_from 0 s c.args.file.now) (sym e.0), refl))
+    (λ c. search rules)
+    (λ c. search rules)
+    (λ c. search rules)
+    (λ c κs.
+    let t = c.before in
+    let l = length-drop (at_of t) (file-of t) in
+    (t.loop-why.invariant.1, rw (rest-is (file-of t) (at_of t)) (omega (arith, t.loop-why.invariant.2))))
+    (λ c. search rules)
+    (λ c κs. search rules)
+    (λ c.
+    let t = turn c.before.before in
+    let z = told c.before.before _ c.in-End.is in
+    let l = length-drop (at_of t) (file-of t) in
+    judged-end (file-of t) t.loop-why.st t.loop-why.last (omega arith) (omega arith) t.loop-why.invariant.1 (omega (arith, t.loop-why.invariant.2))
+    (t.loop-why.invariant.3 ∙ run_end (at_of t) (state-of t) (file-of t) (omega arith))
+    (t.loop-why.invariant.4 ∙ last_end _ (at_of t) (file-of t) (omega arith))
+    c.at_end.result c.at_end.ensures)
+    (λ c. search rules)
+    (λ c.
+    let s = c.before.before.before in
+    let l = length-drop (at_of (turn s)) (file-of (turn s)) in
+    let z = told s _ c.in-Refused.is in
+    omega (arith, z.within))
+    (λ c.
+    let s = c.before.before.before in
+    let t = turn s in
+    let l = length-drop (at_of t) (file-of t) in
+    let z = told s _ c.in-Refused.is in
+    judge-stop (file-of t) (omega arith) (omega arith) _ (t.loop-why.invariant.3
+    ∙ run-stop (at_of t) (record_size (first_record (lines_of (drop (at_of t) (file-of t))))) (state-of t) (file-of t) (omega (arith, z.some_byte)) refl _ z.stops))
+    (λ c. search rules)
+    (λ c. let t = turn (step_of c) in let l = length-drop (at_of t) (file-of t) in omega (arith, (passed c).fits))
+    (λ c. let t = turn (step_of c) in let l = length-drop (at_of t) (file-of t) in omega (arith, (passed c).fits, (passed c).some_byte))
+    (λ c.
     let t = turn (step_of c) in
     let l = length-drop (at_of t) (file-of t) in
     let z = passed c in (
@@ -135,29 +130,4 @@ loop-again c =
       omega (arith, z.records, z.fits, t.loop-why.invariant.2),
       t.loop-why.invariant.3 ∙ run-go (at_of t) _ (state-of t) (file-of t) (omega (arith, z.fits, z.some_byte)) z.extent _ z.steps,
       t.loop-why.invariant.4 ∙ last-go (at_of t) _ (state-of t) (file-of t) (omega (arith, z.fits, z.some_byte)) z.extent _,
-    )
-
-pub judge_file_spec : {M : Type 1} → statement M
-judge_file_spec =
-    tie.close
-    (tie.spec
-    invariant-loop
-    decreases-loop
-    returns
-    returns-2
-    (λ c κs. search rules)
-    loop-holds
-    (λ c. search rules)
-    (λ c. search rules)
-    (λ c. search rules)
-    step-requires
-    (λ c. search rules)
-    (λ c κs. search rules)
-    returns-3
-    (λ c. search rules)
-    add-place
-    returns-4
-    (λ c. search rules)
-    add_at
-    loop-less
-    loop-again)
+    )))

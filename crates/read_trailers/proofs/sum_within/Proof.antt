@@ -6,17 +6,5 @@ use Rattle.read_trailers.proofs.TrailerLaws.{within-fine, within-above, within-b
 use Rattle.read_trailers.proofs.sum_within.Statement.{statement}
 use Rattle.read_trailers.proofs.sum_within.Tie as tie
 
-returns : tie.Need-returns-then-sum-gt-MOST
-returns c = within-below (summary_meant c.args.s) c.args.kept (omega arith)
-
-returns-2 : tie.Need-returns-then-sum
-returns-2 c = within-fine (summary_meant c.args.s) c.args.kept (omega arith) (omega arith)
-
-returns-3 : tie.Need-returns-then-sum-gt-MOST-2
-returns-3 c = within-above (summary_meant c.args.s) c.args.kept (omega arith)
-
-returns-4 : tie.Need-returns
-returns-4 c = within-fine (summary_meant c.args.s) c.args.kept (omega arith) (omega arith)
-
 pub sum_within_spec : {M : Type 1} → statement M
-sum_within_spec = tie.close (tie.spec (λ c. search rules) returns returns-2 returns-3 returns-4)
+sum_within_spec = tie.close (tie.spec (λ c. search rules) (λ c. within-below (summary_meant c.args.s) c.args.kept (omega arith)) (λ c. within-fine (summary_meant c.args.s) c.args.kept (omega arith) (omega arith)) (λ c. within-above (summary_meant c.args.s) c.args.kept (omega arith)) (λ c. within-fine (summary_meant c.args.s) c.args.kept (omega arith) (omega arith)))

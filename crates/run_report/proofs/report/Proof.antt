@@ -6,22 +6,13 @@ use borrow.Author.Rules.{rules}
 use Rattle.run_report.proofs.report.Statement.{statement}
 use Rattle.run_report.proofs.report.Tie as tie
 
-returns : tie.Need-returns-then-input-gt-MOST_INPUT
-returns c =
-    rw (report-long c.args.input.now c.if-input-gt-MOST_INPUT.true) (c.put.ensures, omega arith)
-
-returns-2 : tie.Need-returns
-returns-2 c =
-    put-judged c.args.input.now (verdict_meant c.read.result) _ _ c.args.out.now c.put_verdict-length.result c.put-2.result _ c.if-input-gt-MOST_INPUT.false
-    c.read.ensures (search rules) c.put_verdict-length.ensures c.put-2.ensures
-
 pub report_spec : {M : Type 1} → statement M
 report_spec =
     tie.close
     (tie.spec
     (λ c κs. search rules)
     (λ c. search rules)
-    returns
+    (λ c. rw (report-long c.args.input.now (omega arith)) (c.put.ensures, omega arith))
     (λ c. search rules)
     (λ c κs. search rules)
     (λ c κs. search rules)
@@ -30,4 +21,6 @@ report_spec =
     (λ c. search rules)
     (λ c κs. search rules)
     (λ c. search rules)
-    returns-2)
+    (λ c.
+    put-judged c.args.input.now (verdict_meant c.read.result) _ _ c.args.out.now c.put_verdict-length.result c.put-2.result _ (omega arith)
+    c.read.ensures (search rules) c.put_verdict-length.ensures c.put-2.ensures))
