@@ -62,8 +62,13 @@ def floors():
         if line.startswith("#"):
             name = line[1:].split(":")[0].strip()
         elif line.strip():
-            found.append((name, line.split(":")[0].strip()))
+            found.append((name, named_in(line)))
     return found
+
+
+def named_in(line):
+    """The crate that a line of crates.txt is about; words behind it, as `staticlib`, say how it is built."""
+    return line.split(":")[0].split()[0]
 
 
 CRATES = [crate for _, crate in floors()]
@@ -156,17 +161,16 @@ def crates():
     if [cells[0].strip("`") for cells in table_with("docs/CHECKS.md", "crate", "edits")] != CRATES + ["all"]:
         yield "the table of docs/CHECKS.md is not crates.txt, in its order"
     for line in text_of("crates.txt").split("\n"):
-        crate, _, used = line.partition(":")
-        for other in used.split() if crate in CRATES else []:
-            if other in CRATES and CRATES.index(crate) <= CRATES.index(other):
-                yield f"crates.txt: {crate} uses {other}, which doesn't stand before it"
+        for other in line.partition(":")[2].split() if line and line[0] != "#" else []:
+            if other in CRATES and CRATES.index(named_in(line)) <= CRATES.index(other):
+                yield f"crates.txt: {named_in(line)} uses {other}, which doesn't stand before it"
     for crate in sorted(set(CRATES) ^ set(os.listdir("crates"))):
         yield f"crates.txt and crates/ differ in {crate}"
 
 
 @check
 def header():
-    """include/bai2.h has the library's names and numbers of refusals, its limits, and the rules' kinds of fields, of which firstType is TYPE there."""
+    """include/bai2.h has the library's names and numbers of refusals, its limits, and the rules' kinds of fields, of which first_type is TYPE there."""
     named = {name: int(number) for name, number in re.findall(r"const (\w+): u64 = (\d+);", text_of("crates/base_refusals/src/lib.rt"))}
     limits = {name: int(n.replace("_", "")) for name, n in re.findall(r"const (LONGEST_\w+): usize = ([\d_]+);", text_of("crates/base_limits/src/lib.rt"))}
     told = {name: int(number) for name, number in re.findall(r"\bBAI2_(\w+) = (\d+)", text_of("include/bai2.h"))}
@@ -175,8 +179,8 @@ def header():
     for name, number in sorted({**named, **limits}.items()):
         if told.get(name) != number:
             yield f"{name} is {number}, and BAI2_{name} is {told.get(name)}"
-    kinds = {name: int(number) for name, number in re.findall(r"^kindNumber (\w+) = (\d+)$", text_of("crates/rules/specs/Grammar.antt"), re.M)}
-    kinds = {"FIELD_" + re.sub("(?=[A-Z])", "_", name.removeprefix("first")).upper().strip("_"): number for name, number in kinds.items()}
+    kinds = {name: int(number) for name, number in re.findall(r"^kind_number (\w+) = (\d+)$", text_of("crates/rules/specs/Grammar.antt"), re.M)}
+    kinds = {"FIELD_" + name.removeprefix("first_").upper(): number for name, number in kinds.items()}
     if not kinds or kinds != {name: number for name, number in told.items() if name.startswith("FIELD_")}:
         yield "the kinds of include/bai2.h are not those of rules/specs/Grammar.antt"
 
