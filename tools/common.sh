@@ -54,13 +54,9 @@ install_package() {
         && DEBIAN_FRONTEND=noninteractive apt-get install -y -qq "${patience[@]}" "$1" >/dev/null
 }
 
-# Sets X86_CC, X86_NM and X86_RUN: the compiler for x86-64, for which the library is built, what lists names, and what runs its programs;
-# and KIT_LOADER: the loader, with its libraries, by which a program that `rt` built runs on any machine, behind X86_RUN.
+# Sets X86_CC, X86_NM and X86_RUN: the compiler for x86-64, for which the library is built, what lists names, and what runs its programs.
 # Fails where the compiler or make is missing and can't be installed; that is never a reason to skip a check.
 need_x86() {
-    local kit
-    kit=$(dirname "$(dirname "$(rt doc)")")/on/$(uname -m)/toolchain
-    KIT_LOADER=("$kit/lib/ld-linux-x86-64.so.2" --library-path "$kit/lib")
     if [ "$(uname -m)" = x86_64 ]; then
         X86_CC=gcc
         X86_NM="nm"
@@ -69,8 +65,9 @@ need_x86() {
     else
         X86_CC="x86_64-linux-gnu-gcc -static"
         X86_NM=x86_64-linux-gnu-nm
-        X86_RUN=$kit/bin/qemu-x86_64
+        X86_RUN=qemu-x86_64
         need x86_64-linux-gnu-gcc gcc-x86-64-linux-gnu 'C programs over the library, which is built for x86-64' || return 1
+        need qemu-x86_64 qemu-user 'programs for x86-64' || return 1
     fi
     need make make 'the rules that build C programs'
 }
