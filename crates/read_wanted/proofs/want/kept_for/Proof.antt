@@ -1,6 +1,8 @@
 -- `kept_for` meets its contract. Assumes nothing.
 use Rattle.rules.specs.Grammar.{fields_of}
 use Rattle.read_wanted.specs.Wants.{wanted_of, purpose}
+use mathlib.Core.Path.{◌≡◌}
+use Rattle.read_wanted.specs.declared.want.Want.TheVariants.{StatusAmount, ItemAmount, DetailAmount, AccountTotal, Total, Count, Records, Length}
 use Rattle.read_wanted.proofs.OtherWants.{not-kept}
 use borrow.Author.Rules.{rules}
 use Rattle.read_wanted.proofs.want.kept_for.Statement.{statement}
@@ -18,12 +20,12 @@ kept_for_spec =
     (λ c. search rules)
     (λ c. search rules)
     (λ c. search rules)
-    (λ c. unfold wanted_of in unfold fields_of in unfold purpose in rw c.in-StatusAmount.is)
-    (λ c. unfold wanted_of in unfold fields_of in unfold purpose in rw c.in-ItemAmount.is)
-    (λ c. unfold wanted_of in unfold fields_of in unfold purpose in rw c.in-DetailAmount.is)
-    (λ c. unfold wanted_of in unfold fields_of in unfold purpose in rw c.in-AccountTotal.is)
-    (λ c. unfold wanted_of in unfold fields_of in unfold purpose in rw c.in-Total.is)
-    (λ c. unfold wanted_of in unfold fields_of in unfold purpose in rw c.in-Count.is)
-    (λ c. unfold wanted_of in unfold fields_of in unfold purpose in rw c.in-Records.is)
-    (λ c. unfold wanted_of in unfold fields_of in unfold purpose in rw c.in-Length.is)
+    (λ c. unfold wanted_of in unfold fields_of in unfold purpose in let e : c.args.want ≡ StatusAmount = cc in rw e)
+    (λ c. unfold wanted_of in unfold fields_of in unfold purpose in let e : c.args.want ≡ ItemAmount = cc in rw e)
+    (λ c. unfold wanted_of in unfold fields_of in unfold purpose in let e : c.args.want ≡ DetailAmount = cc in rw e)
+    (λ c. unfold wanted_of in unfold fields_of in unfold purpose in let e : c.args.want ≡ AccountTotal = cc in rw e)
+    (λ c. unfold wanted_of in unfold fields_of in unfold purpose in let e : c.args.want ≡ Total = cc in rw e)
+    (λ c. unfold wanted_of in unfold fields_of in unfold purpose in let e : c.args.want ≡ Count = cc in rw e)
+    (λ c. unfold wanted_of in unfold fields_of in unfold purpose in let e : c.args.want ≡ Records = cc in rw e)
+    (λ c. unfold wanted_of in unfold fields_of in unfold purpose in let e : c.args.want ≡ Length = cc in rw e)
     (λ c. not-kept _ c.in_default.in_default-own.keys9))
