@@ -102,17 +102,17 @@ zeros-digits zero n = decimal-digits n
 zeros-digits (suc zeros) n = zeros-digits zeros n
 
 -- read as the same form and magnitude
-pub read_back : (zeros : ℕ) (a : Amount) → amount_in (written_with zeros a) ≡ a
+pub read_back : (k : ℕ) (a : Amount) → amount_in (written_with k a) ≡ a
 unfolding amount_in
-read_back zeros empty = refl
-read_back zeros (unsigned n) =
-    unsigned-digits (with_zeros zeros n) (zeros-some zeros n) (zeros-digits zeros n) ∙ ap unsigned (zeros-number zeros n)
-read_back zeros (with_plus n) = ap with_plus (zeros-number zeros n)
-read_back zeros (with_minus n) = ap with_minus (zeros-number zeros n)
+read_back k empty = refl
+read_back k (unsigned n) =
+    unsigned-digits (with_zeros k n) (zeros-some k n) (zeros-digits k n) ∙ ap unsigned (zeros-number k n)
+read_back k (with_plus n) = ap with_plus (zeros-number k n)
+read_back k (with_minus n) = ap with_minus (zeros-number k n)
 
 -- ---- as long, the same
 
--- as long, as many zeros
+-- as long, as many k
 same-zeros : (y z n : ℕ) → length (with_zeros y n) ≡ length (with_zeros z n) → with_zeros y n ≡ with_zeros z n
 same-zeros y z n e =
     let same : y ≡ z = omega (arith, zeros-length y n, zeros-length z n) in

@@ -29,10 +29,10 @@ with_zeros zeros n = replicate zeros (letter "0") ++ decimal n
 
 -- its sign, so many zeros, and its magnitude's digits
 abbrev pub written_with : ℕ → Amount → Bytes
-written_with zeros empty = []
-written_with zeros (unsigned n) = with_zeros zeros n
-written_with zeros (with_plus n) = plus ∷ with_zeros zeros n
-written_with zeros (with_minus n) = minus ∷ with_zeros zeros n
+written_with k empty = []
+written_with k (unsigned n) = with_zeros k n
+written_with k (with_plus n) = plus ∷ with_zeros k n
+written_with k (with_minus n) = minus ∷ with_zeros k n
 
 -- the field's bytes are its form and its magnitude written out, up to leading zeros
 pub record GivenBack (bs : Bytes) : Type 0 where
