@@ -89,6 +89,9 @@ def clashes(paths, names):
 
 
 def main(argv):
+    if argv not in ([], ["--clashes"]):
+        print(__doc__)
+        return
     ghost = sources("antt", "specs", "proofs")
     code = sources("rt", "src")
     names = names_of(ghost)
