@@ -21,7 +21,8 @@ use Rattle.rules.proofs.Binds.{first_fine, from-bind, then-fine, check-fine, fin
 use Rattle.rules.proofs.Tests.{and_left}
 use Rattle.laws.specs.LawWords.{NotRefused, written}
 use Rattle.laws.proofs.Lists.{concat-append}
-use Rattle.laws.proofs.Refusals.{By, bind-by, then_by, check-by, checked-by, last_number, by_reader, judge-by}
+use Rattle.laws.proofs.ReaderNumbers.{last_number}
+use Rattle.laws.proofs.Refusals.{By, bind-by, then_by, check-by, checked-by, by_reader, judge-by}
 
 -- ---- what a fine outcome says
 

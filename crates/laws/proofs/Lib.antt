@@ -13,6 +13,7 @@ pub mod WholeLines
 pub mod KeptBytes
 pub mod FieldValues
 pub mod WalkedFields
+pub mod ReaderNumbers
 pub mod Refusals
 pub mod Fresh99
 pub mod SplitSums

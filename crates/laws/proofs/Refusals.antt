@@ -24,6 +24,7 @@ use Rattle.rules.proofs.Binds.{moved-fine}
 use Rattle.rules.proofs.RunLaws.{within}
 use Rattle.rules.proofs.Accepted.{stepped}
 use Rattle.laws.proofs.FieldValues.{Says, judged-says}
+use Rattle.laws.proofs.ReaderNumbers.{last_number}
 use Rattle.laws.proofs.RecordsTaken.{bounded-within}
 
 -- where refused, then by a number that passes the test
@@ -60,9 +61,6 @@ module _ (test : ℕ → Bool) where
   either-by false o r h k = k
 
 -- the numbers that the reader gives
-abbrev pub last_number : ℕ
-last_number = 13
-
 abbrev pub by_reader : ℕ → Bool
 by_reader n = between 1 last_number n
 
