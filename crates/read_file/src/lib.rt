@@ -7,7 +7,6 @@ ghost use Rattle.rules.specs.Verdict.{judge};
 ghost use Rattle.read_file.specs.FileMeanings.{verdict_meant};
 ghost use Rattle.read_file.specs.FileAnswers.{EndIs, JudgedIs};
 
-use crate::record::Stepped;
 use crate::state::State;
 use base_limits::LONGEST_FILE;
 use base_quantities::Place;
@@ -17,13 +16,6 @@ use base_totals::Summary;
 mod record;
 mod state;
 
-// The summary, or a refusal with its place in the file.
-#[derive(Clone, Copy)]
-pub enum Verdict {
-    Accepted(Summary),
-    Refused(Refusal),
-}
-
 // An accepted file: its summary, its longest line (L, or 4,096), and where its 99 starts.
 #[derive(Clone, Copy)]
 pub struct GoodFile {
@@ -32,44 +24,35 @@ pub struct GoodFile {
     pub last: Place,
 }
 
-// What is known of an accepted file, or a refusal with its place in the file.
-#[derive(Clone, Copy)]
-pub enum Judged {
-    Accepted(GoodFile),
-    Refused(Refusal),
-}
-
 // After the last record, which starts at `last`, of a file of this length: 6, where the 99 was not there.
-fn at_end(st: State, last: Place, length: usize) -> Judged
+fn at_end(st: State, last: Place, length: usize) -> Result<GoodFile, Refusal>
     ensures { EndIs result st last.0 length }
 {
-    let expected = st.expected;
-    if read_order::has_ended(expected) {
-        let summary = st.file;
-        return Judged::Accepted(GoodFile {
-            summary,
+    if read_order::has_ended(st.expected) {
+        return Ok(GoodFile {
+            summary: st.file,
             limit: st.limit,
             last,
         });
     }
-    Judged::Refused(Refusal {
+    Err(Refusal {
         number: RECORD_OUT_OF_ORDER,
         place: Place(length),
     })
 }
 
-// A file's verdict, with what is known of a file that is accepted.
-pub fn judge_file(file: &[u8]) -> Judged
+// What is known of the file, if it is accepted.
+pub fn judge_file(file: &[u8]) -> Result<GoodFile, Refusal>
     ensures { JudgedIs result file.now }
 {
-    if file.len() == 0 {
-        return Judged::Refused(Refusal {
+    if file.is_empty() {
+        return Err(Refusal {
             number: EMPTY_FILE,
             place: Place(0),
         });
     }
     if LONGEST_FILE < file.len() {
-        return Judged::Refused(Refusal {
+        return Err(Refusal {
             number: FILE_TOO_LONG,
             place: Place(0),
         });
@@ -79,33 +62,26 @@ pub fn judge_file(file: &[u8]) -> Judged
     let mut at: usize = 0;
     loop {
         match record::step(st, &file[at..]) {
-            Stepped::End => return at_end(st, Place(last), file.len()),
-            Stepped::Refused(why) => {
-                let in_record = why.place;
-                let place = at + in_record.0;
-                return Judged::Refused(Refusal {
-                    number: why.number,
-                    place: Place(place),
-                });
-            }
-            Stepped::Next(next, size) => {
-                st = next;
+            Ok(Some(next)) => {
+                st = next.state;
                 last = at;
-                at += size;
+                at += next.size;
+            }
+            Ok(None) => return at_end(st, Place(last), file.len()),
+            Err(why) => {
+                return Err(Refusal {
+                    number: why.number,
+                    place: Place(at + why.place.0),
+                });
             }
         }
     }
 }
 
-// A file's verdict.
-pub fn read(file: &[u8]) -> Verdict
+// A file's verdict: its summary, or a refusal with its place in the file.
+pub fn read(file: &[u8]) -> Result<Summary, Refusal>
     ensures { verdict_meant result ≡ judge file.now }
 {
-    match judge_file(file) {
-        Judged::Accepted(good) => {
-            let summary = good.summary;
-            Verdict::Accepted(summary)
-        }
-        Judged::Refused(why) => Verdict::Refused(why),
-    }
+    let good = judge_file(file)?;
+    Ok(good.summary)
 }

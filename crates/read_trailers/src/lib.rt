@@ -14,10 +14,9 @@ use base_quantities::Count;
 use base_refusals::{Refusal, SUM_TOO_LARGE, WRONG_COUNT, WRONG_RECORD_COUNT, WRONG_TOTAL};
 use base_totals::Summary;
 use read_kept::Kept;
-use read_line_checks::Checked;
 
 // 14: a group's or file's sum, at the total.
-fn sum_within(s: Summary, kept: Kept) -> Checked
+fn sum_within(s: Summary, kept: Kept) -> Result<(), Refusal>
     ensures { checked_of result ≡ within_k (summary_meant s) kept }
 {
     let sum = s.total;
@@ -29,18 +28,18 @@ fn sum_within(s: Summary, kept: Kept) -> Checked
     };
     if sum.0 < sum.1 {
         if MOST < sum.1 - sum.0 {
-            return Checked::Refused(why);
+            return Err(why);
         }
-        return Checked::Fine;
+        return Ok(());
     }
     if MOST < sum.0 - sum.1 {
-        return Checked::Refused(why);
+        return Err(why);
     }
-    Checked::Fine
+    Ok(())
 }
 
 // 11: a trailer's total.
-fn right_total(s: Summary, kept: Kept) -> Checked
+fn right_total(s: Summary, kept: Kept) -> Result<(), Refusal>
     ensures { checked_of result ≡ total_k (summary_meant s) kept }
 {
     let sum = s.total;
@@ -53,24 +52,24 @@ fn right_total(s: Summary, kept: Kept) -> Checked
     };
     if kept.total_negative {
         if sum.1 < sum.0 {
-            return Checked::Refused(why);
+            return Err(why);
         }
         if sum.1 - sum.0 != magnitude.0 {
-            return Checked::Refused(why);
+            return Err(why);
         }
-        return Checked::Fine;
+        return Ok(());
     }
     if sum.0 < sum.1 {
-        return Checked::Refused(why);
+        return Err(why);
     }
     if sum.0 - sum.1 != magnitude.0 {
-        return Checked::Refused(why);
+        return Err(why);
     }
-    Checked::Fine
+    Ok(())
 }
 
 // 12: a trailer's count of accounts or groups.
-fn right_count(n: Count, kept: Kept) -> Checked
+fn right_count(n: Count, kept: Kept) -> Result<(), Refusal>
     ensures { checked_of result ≡ count_k n.0 kept }
 {
     let t = kept.count;
@@ -81,13 +80,13 @@ fn right_count(n: Count, kept: Kept) -> Checked
         place: at,
     };
     if n.0 != count.0 {
-        return Checked::Refused(why);
+        return Err(why);
     }
-    Checked::Fine
+    Ok(())
 }
 
 // 13: a trailer's record count.
-fn right_records(s: Summary, kept: Kept) -> Checked
+fn right_records(s: Summary, kept: Kept) -> Result<(), Refusal>
     ensures { checked_of result ≡ records_k (summary_meant s) kept }
 {
     let n = s.records;
@@ -99,53 +98,47 @@ fn right_records(s: Summary, kept: Kept) -> Checked
         place: at,
     };
     if n.0 != records.0 {
-        return Checked::Refused(why);
+        return Err(why);
     }
-    Checked::Fine
+    Ok(())
 }
 
 // The 98 of a group with n accounts, or the 99 of a file with n groups.
-fn right_trailer(s: Summary, n: Count, kept: Kept) -> Checked
+fn right_trailer(s: Summary, n: Count, kept: Kept) -> Result<(), Refusal>
     ensures { checked_of result ≡ trailer_k (summary_meant s) n.0 kept }
 {
-    match sum_within(s, kept) {
-        Checked::Refused(why) => return Checked::Refused(why),
-        Checked::Fine => {}
-    }
-    match right_total(s, kept) {
-        Checked::Refused(why) => return Checked::Refused(why),
-        Checked::Fine => {}
-    }
-    match right_count(n, kept) {
-        Checked::Refused(why) => return Checked::Refused(why),
-        Checked::Fine => {}
-    }
+    sum_within(s, kept)?;
+    right_total(s, kept)?;
+    right_count(n, kept)?;
     right_records(s, kept)
 }
 
 // The 49 of an account.
-fn right_account(s: Summary, kept: Kept) -> Checked
+fn right_account(s: Summary, kept: Kept) -> Result<(), Refusal>
     ensures { checked_of result ≡ account_k (summary_meant s) kept }
 {
-    match right_total(s, kept) {
-        Checked::Refused(why) => return Checked::Refused(why),
-        Checked::Fine => {}
-    }
+    right_total(s, kept)?;
     right_records(s, kept)
 }
 
 // A trailer against the summaries of its account, its group and the file, itself included.
-pub fn balance(code: Code, account: Summary, group: Summary, file: Summary, kept: Kept) -> Checked
+pub fn balance(
+    code: Code,
+    account: Summary,
+    group: Summary,
+    file: Summary,
+    kept: Kept,
+) -> Result<(), Refusal>
     ensures { checked_of result ≡ balanced_k (code_meant code) (summary_meant account) (summary_meant group) (summary_meant file) kept }
 {
     match code {
-        Code::FileHeader => Checked::Fine,
-        Code::GroupHeader => Checked::Fine,
-        Code::AccountHeader => Checked::Fine,
-        Code::Detail => Checked::Fine,
         Code::AccountTrailer => right_account(account, kept),
         Code::GroupTrailer => right_trailer(group, group.accounts, kept),
         Code::FileTrailer => right_trailer(file, file.groups, kept),
-        Code::Continuation => Checked::Fine,
+        Code::FileHeader
+        | Code::GroupHeader
+        | Code::AccountHeader
+        | Code::Detail
+        | Code::Continuation => { Ok(()) }
     }
 }

@@ -14,7 +14,6 @@ ghost use Rattle.run_report.specs.PutLines.{counts, longest_report, PutLine};
 use base_limits::MOST_INPUT;
 use base_refusals::Refusal;
 use base_totals::Summary;
-use read_file::Verdict;
 
 // The longest line: `ok`, five numbers of up to 20 digits, each after a blank and the first with a sign, and a line feed.
 pub const LONGEST_REPORT: usize = 109;
@@ -62,13 +61,13 @@ fn put_refusal(out: &mut [u8], why: Refusal) -> usize
 }
 
 // The line for a verdict at the front of out: how many bytes.
-fn put_verdict(out: &mut [u8], verdict: Verdict) -> usize
+fn put_verdict(out: &mut [u8], verdict: Result<Summary, Refusal>) -> usize
     requires { longest_report ≤ length out.old }
     ensures { PutLine (as_line (verdict_words (verdict_meant verdict))) out.old result out.new }
 {
     match verdict {
-        Verdict::Accepted(summary) => put_summary(out, summary),
-        Verdict::Refused(why) => put_refusal(out, why),
+        Ok(summary) => put_summary(out, summary),
+        Err(why) => put_refusal(out, why),
     }
 }
 
