@@ -14,13 +14,6 @@ use base_quantities::{Place, Records};
 
 pub mod scan;
 
-// A line's code, if it has one.
-#[derive(Clone, Copy)]
-pub enum Coded {
-    None,
-    With(Code),
-}
-
 // Some lines: how many, and where they end.
 #[derive(Clone, Copy)]
 pub struct Lines {
@@ -112,35 +105,35 @@ pub fn begins(s: &[u8], start: Place, code: Code) -> bool
     begins_with(s, start, d.0, d.1)
 }
 
-// The code of the line that starts there.
-pub fn code_at(s: &[u8], start: Place) -> Coded
+// The code of the line that starts there, if it has one.
+pub fn code_at(s: &[u8], start: Place) -> Option<Code>
     ensures { code_found result ≡ code_of (first_line (drop start.0 s.now)) }
 {
     if begins(s, start, Code::FileHeader) {
-        return Coded::With(Code::FileHeader);
+        return Some(Code::FileHeader);
     }
     if begins(s, start, Code::GroupHeader) {
-        return Coded::With(Code::GroupHeader);
+        return Some(Code::GroupHeader);
     }
     if begins(s, start, Code::AccountHeader) {
-        return Coded::With(Code::AccountHeader);
+        return Some(Code::AccountHeader);
     }
     if begins(s, start, Code::Detail) {
-        return Coded::With(Code::Detail);
+        return Some(Code::Detail);
     }
     if begins(s, start, Code::AccountTrailer) {
-        return Coded::With(Code::AccountTrailer);
+        return Some(Code::AccountTrailer);
     }
     if begins(s, start, Code::GroupTrailer) {
-        return Coded::With(Code::GroupTrailer);
+        return Some(Code::GroupTrailer);
     }
     if begins(s, start, Code::FileTrailer) {
-        return Coded::With(Code::FileTrailer);
+        return Some(Code::FileTrailer);
     }
     if begins(s, start, Code::Continuation) {
-        return Coded::With(Code::Continuation);
+        return Some(Code::Continuation);
     }
-    Coded::None
+    None
 }
 
 // The 88 lines from a place on.

@@ -2,49 +2,37 @@
 
 #![tactic(auto)]
 
-ghost use Rattle.std.specs.Prelude.{◌≡◌, length, take};
+ghost use Rattle.std.specs.Prelude.{◌≡◌, Err, length, take};
 ghost use Rattle.read_wanted.specs.Wants.{wanted_of};
 ghost use Rattle.read_walk.specs.WalkKept.{point, end_k};
-ghost use Rattle.read_walk.specs.declared.Walked.TheVariants.{Refused};
 ghost use Rattle.read_walk.specs.WalkAnswers.{walked_of, Walks};
 
 use base_quantities::{Magnitude, Place};
 use base_refusals::{LINE_BADLY_ENDED, Refusal, WRONG_FIELD};
-use read_field_ends::Extent;
 use read_kept::Kept;
+use read_wanted::want;
 use read_wanted::want::Want;
-use read_wanted::{Taken, want};
-
-// A refusal with its place in the record, or what was kept.
-#[derive(Clone, Copy)]
-pub enum Walked {
-    Refused(Refusal),
-    Done(Kept),
-}
 
 // After the record's last line, with this wanted, this kept and the last slash that ended a line: what is missing.
-fn finish(want: Want, kept: Kept, slash: Place) -> Walked
+fn finish(want: Want, kept: Kept, slash: Place) -> Result<Kept, Refusal>
     ensures { walked_of result ≡ end_k (point (wanted_of want) kept slash.0) }
 {
     if want::may_lack(want) {
-        return Walked::Done(kept);
+        return Ok(kept);
     }
-    Walked::Refused(Refusal {
-        number: WRONG_FIELD,
-        place: slash,
-    })
+    stop(WRONG_FIELD, slash)
 }
 
 // The walk stops at this place of the record.
-fn stop(number: u64, place: Place) -> Walked
-    ensures { result ≡ Refused (record { number = number; place = place }) }
+fn stop(number: u64, place: Place) -> Result<Kept, Refusal>
+    ensures { result ≡ Err (record { number = number; place = place }) }
 {
-    Walked::Refused(Refusal { number, place })
+    Err(Refusal { number, place })
 }
 
 // The walk over the record in front of rest stops at the first fault found; places are counted from the record's start. `before`: the magnitudes of the
 // records before.
-fn walk_lines(rest: &[u8], rec: &[u8], first: Want, before: Magnitude) -> Walked
+fn walk_lines(rest: &[u8], rec: &[u8], first: Want, before: Magnitude) -> Result<Kept, Refusal>
     requires { rec.now ≡ take (length rec.now) rest.now }
     ensures { Walks rec.now first before.0 result }
 {
@@ -64,7 +52,7 @@ fn walk_lines(rest: &[u8], rec: &[u8], first: Want, before: Magnitude) -> Walked
         }
         loop {
             let text = want::is_text(want);
-            let Extent::Field(n) = read_field_ends::field_extent(text, &rec[a..e]) else {
+            let Some(n) = read_field_ends::field_extent(text, &rec[a..e]) else {
                 break 'walk stop(LINE_BADLY_ENDED, Place(e));
             };
             let f = a + n;
@@ -72,8 +60,8 @@ fn walk_lines(rest: &[u8], rec: &[u8], first: Want, before: Magnitude) -> Walked
                 kept = kept.keep(want, Place(a), &rec[a..f]);
             }
             match read_fields::take_detail_first(want, &rec[a..f]) {
-                Taken::Refused(number) => break 'walk stop(number, Place(a)),
-                Taken::Next(next) => want = next,
+                Err(number) => break 'walk stop(number, Place(a)),
+                Ok(next) => want = next,
             }
             if text {
                 break;
@@ -92,7 +80,12 @@ fn walk_lines(rest: &[u8], rec: &[u8], first: Want, before: Magnitude) -> Walked
 }
 
 // The walk over a record, the first `size` bytes of what is left of the file; `before`: the magnitudes of the records before.
-pub fn walk_record(rest: &[u8], size: usize, first: Want, before: Magnitude) -> Walked
+pub fn walk_record(
+    rest: &[u8],
+    size: usize,
+    first: Want,
+    before: Magnitude,
+) -> Result<Kept, Refusal>
     ensures { Walks (take size rest.now) first before.0 result }
 {
     walk_lines(rest, base_slices::front(rest, size), first, before)

@@ -411,7 +411,7 @@ returns-3 c =
     h.loop-n.invariant.0 h.loop-n.invariant.1 (sym d.in_default.is ∙ extent-is d.before)))
     (omega (arith, ends (line h)))
 
-returns-4 : tie.Need-returns-in-Refused invariant-loop decreases-loop invariant-walk decreases-walk
+returns-4 : tie.Need-returns-in-Err invariant-loop decreases-loop invariant-walk decreases-walk
 unfolding judged_of
 returns-4 c =
     let d = c.before in
