@@ -15,13 +15,6 @@ pub const MOST_RECORDS: u64 = 18_446_744_073_709_551_615;
 #[derive(Clone, Copy)]
 pub struct Units(pub u64, pub u64);
 
-// A sum, or its magnitudes pass the largest.
-#[derive(Clone, Copy)]
-pub enum UnitsSum {
-    Within(Units),
-    Beyond,
-}
-
 // Minor units without a sign.
 #[derive(Clone, Copy)]
 pub struct Magnitude(pub u64);
@@ -75,25 +68,25 @@ impl Units {
     }
 
     // Both sums in one, unless the magnitudes pass the largest sum.
-    pub fn join(self, other: Units) -> UnitsSum
+    pub fn join(self, other: Units) -> Option<Units>
         ensures { result ≡ units_within (sum_meant self ⊕ sum_meant other) }
     {
         let pluses = self.0;
         let minuses = self.1;
         if MOST < pluses {
-            return UnitsSum::Beyond;
+            return None;
         }
         if MOST - pluses < minuses {
-            return UnitsSum::Beyond;
+            return None;
         }
         let room = MOST - pluses - minuses;
         if room < other.0 {
-            return UnitsSum::Beyond;
+            return None;
         }
         if room - other.0 < other.1 {
-            return UnitsSum::Beyond;
+            return None;
         }
-        UnitsSum::Within(Units(pluses + other.0, minuses + other.1))
+        Some(Units(pluses + other.0, minuses + other.1))
     }
 }
 

@@ -39,7 +39,7 @@ pub fn no_summary() -> Summary
 fn one(code: Code, of: Code) -> Count
     ensures { result.0 ≡ totals.one (code_meant code) (code_meant of) }
 {
-    if base_codes::same_code(code, of) {
+    if code == of {
         return Count(1);
     }
     Count(0)
