@@ -10,7 +10,7 @@ ghost use Rattle.read_file.specs.FileAnswers.{EndIs, JudgedIs};
 use crate::state::State;
 use base_limits::LONGEST_FILE;
 use base_quantities::Place;
-use base_refusals::{EMPTY_FILE, FILE_TOO_LONG, RECORD_OUT_OF_ORDER, Refusal};
+use base_refusals::{Reason, Refusal};
 use base_totals::Summary;
 
 mod record;
@@ -35,10 +35,7 @@ fn at_end(st: State, last: Place, length: usize) -> Result<GoodFile, Refusal>
             last,
         });
     }
-    Err(Refusal {
-        number: RECORD_OUT_OF_ORDER,
-        place: Place(length),
-    })
+    Err(Reason::RecordOutOfOrder.at(Place(length)))
 }
 
 // What is known of the file, if it is accepted.
@@ -46,16 +43,10 @@ pub fn judge_file(file: &[u8]) -> Result<GoodFile, Refusal>
     ensures { JudgedIs result file.now }
 {
     if file.is_empty() {
-        return Err(Refusal {
-            number: EMPTY_FILE,
-            place: Place(0),
-        });
+        return Err(Reason::EmptyFile.nowhere());
     }
     if LONGEST_FILE < file.len() {
-        return Err(Refusal {
-            number: FILE_TOO_LONG,
-            place: Place(0),
-        });
+        return Err(Reason::FileTooLong.nowhere());
     }
     let mut st = state::start();
     let mut last: usize = 0;
@@ -69,10 +60,7 @@ pub fn judge_file(file: &[u8]) -> Result<GoodFile, Refusal>
             }
             Ok(None) => return at_end(st, Place(last), file.len()),
             Err(why) => {
-                return Err(Refusal {
-                    number: why.number,
-                    place: Place(at + why.place.0),
-                });
+                return Err(why.reason.at(Place(at + why.place.0)));
             }
         }
     }

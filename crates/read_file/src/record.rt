@@ -12,8 +12,8 @@ ghost use Rattle.read_file.specs.FileMeanings.{Held};
 
 use crate::state::State;
 use base_codes::Code;
-use base_quantities::{Magnitude, Place, Records};
-use base_refusals::{AMOUNTS_TOO_LARGE, RECORD_OUT_OF_ORDER, Refusal};
+use base_quantities::{Magnitude, Records};
+use base_refusals::{Reason, Refusal};
 use base_totals::Summary;
 use read_kept::Kept;
 use read_wanted::want;
@@ -66,10 +66,7 @@ fn settle(st: State, rec: &[u8], code: Code, records: Records, kept: Kept) -> Re
     let limit = limit_after(code, st.limit, kept);
     own_lines(code, limit, rec)?;
     if kept.over {
-        return Err(Refusal {
-            number: AMOUNTS_TOO_LARGE,
-            place: kept.past,
-        });
+        return Err(Reason::AmountsTooLarge.at(kept.past));
     }
     let this = base_totals::adding(code, kept.sum, records);
     let file = base_totals::add(st.file, this);
@@ -88,10 +85,7 @@ pub(crate) fn step(st: State, rest: &[u8]) -> Result<Option<Stepped>, Refusal>
         return Ok(None);
     };
     if !read_order::allows(st.expected, scanned.code) {
-        return Err(Refusal {
-            number: RECORD_OUT_OF_ORDER,
-            place: Place(0),
-        });
+        return Err(Reason::RecordOutOfOrder.nowhere());
     }
     let total = st.file.total;
     let before = Magnitude(total.0 + total.1);

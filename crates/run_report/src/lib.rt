@@ -54,7 +54,7 @@ fn put_refusal(out: &mut [u8], why: Refusal) -> usize
 {
     let place = why.place;
     let mut o = base_slices::put(out, b"refused");
-    o += base_numerals::put_digits_after(&mut out[o..], b' ', why.number);
+    o += base_numerals::put_digits_after(&mut out[o..], b' ', why.reason.number());
     o += base_numerals::put_digits_after(&mut out[o..], b' ', place.0 as u64);
     o += base_slices::put(&mut out[o..], b"\n");
     o
