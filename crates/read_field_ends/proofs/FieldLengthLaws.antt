@@ -12,7 +12,7 @@ use borrow.Author.Tests.{ne_eqb, ltb-true, ltb-false, lt-ltb, le-ltb}
 use Rattle.rules.specs.Bytes.{Bytes, blank, comma, slash, trimmed, trimmed_before}
 use Rattle.rules.specs.Cells.{leading_blanks}
 use Rattle.read_field_ends.specs.FieldLengths.{until, is_mark, field_len, extent_of}
-use Rattle.read_field_ends.specs.declared.Extent.TheVariants.{Field, Open}
+use Rattle.std.specs.Prelude.{Some, None}
 
 -- ---- up to the first byte that passes a test
 
@@ -120,46 +120,46 @@ trim-front (b ∷ s) = trim-front-step b s (trimmed s) refl (trim-front s)
 -- ---- how far a field goes, case by case, and what a caller knows of it
 
 module _ (s : Bytes) (n : ℕ) where
-  pub text-extent : n ≡ length (trimmed s) → Field n ≡ extent_of true s
+  pub text-extent : n ≡ length (trimmed s) → Some n ≡ extent_of true s
   unfolding extent_of
   text-extent e = rw e
 
   module _ (e : n ≡ field_len s) where
-    pub field-extent : n < length s → Field n ≡ extent_of false s
+    pub field-extent : n < length s → Some n ≡ extent_of false s
     unfolding extent_of
     field-extent h = rw (← e, lt-ltb n (length s) h)
 
-    pub open-extent : length s ≤ n → Open ≡ extent_of false s
+    pub open-extent : length s ≤ n → None ≡ extent_of false s
     unfolding extent_of
     open-extent h = rw (← e, le-ltb n (length s) h)
 
-cond-field : (t : Bool) (n m : ℕ) → Field n ≡ cond t (Field m) Open → (t ≡ true) × (n ≡ m)
+cond-field : (t : Bool) (n m : ℕ) → Some n ≡ cond t (Some m) None → (t ≡ true) × (n ≡ m)
 cond-field true n m e = (refl, cc)
 cond-field false n m e = absurd (let z : ◌≡◌ {A = ℕ} 0 1 = cc in omega arith)
 
 -- a field that is no text ends at its comma or slash
-pub extent-short : (s : Bytes) (n : ℕ) → Field n ≡ extent_of false s → (n ≡ field_len s) × (n < length s)
+pub extent-short : (s : Bytes) (n : ℕ) → Some n ≡ extent_of false s → (n ≡ field_len s) × (n < length s)
 unfolding extent_of
 extent-short s n e =
     let z = cond-field (ltb (field_len s) (length s)) n (field_len s) e in
     (z.1, rw z.1 (ltb-true (field_len s) (length s) z.0))
 
-cond-open : (t : Bool) (m : ℕ) → Open ≡ cond t (Field m) Open → t ≡ false
+cond-open : (t : Bool) (m : ℕ) → None ≡ cond t (Some m) None → t ≡ false
 cond-open true m e = absurd (let z : ◌≡◌ {A = ℕ} 0 1 = cc in omega arith)
 cond-open false m e = refl
 
 -- where the line is open, it has no comma or slash, and no text was wanted
-pub extent-open : (text : Bool) (s : Bytes) → Open ≡ extent_of text s → (text ≡ false) × (length s ≤ field_len s)
+pub extent-open : (text : Bool) (s : Bytes) → None ≡ extent_of text s → (text ≡ false) × (length s ≤ field_len s)
 unfolding extent_of
 extent-open true s e = absurd (let z : ◌≡◌ {A = ℕ} 0 1 = cc in omega arith)
 extent-open false s e = (refl, ltb-false (field_len s) (length s) (cond-open (ltb (field_len s) (length s)) (field_len s) e))
 
 -- a text is all of the line, less trailing blanks
-pub extent-text : (s : Bytes) (n : ℕ) → Field n ≡ extent_of true s → take n s ≡ trimmed s
+pub extent-text : (s : Bytes) (n : ℕ) → Some n ≡ extent_of true s → take n s ≡ trimmed s
 unfolding extent_of
 extent-text s n e = let z : n ≡ length (trimmed s) = cc in rw z (trim-front s)
 
-pub extent-within : (text : Bool) (s : Bytes) (n : ℕ) → Field n ≡ extent_of text s → n ≤ length s
+pub extent-within : (text : Bool) (s : Bytes) (n : ℕ) → Some n ≡ extent_of text s → n ≤ length s
 unfolding extent_of
 extent-within true s n e =
     let z : n ≡ length (trimmed s) = cc in

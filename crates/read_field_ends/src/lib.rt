@@ -7,13 +7,6 @@ ghost use Rattle.rules.specs.Bytes.{trimmed};
 ghost use Rattle.rules.specs.Cells.{leading_blanks};
 ghost use Rattle.read_field_ends.specs.FieldLengths.{field_len, extent_of};
 
-// How far a field goes: so many bytes; or the line ends before a comma or slash.
-#[derive(Clone, Copy)]
-pub enum Extent {
-    Field(usize),
-    Open,
-}
-
 // How many bytes stand before the first comma or slash.
 fn field_len(f: &[u8]) -> usize
     ensures { (result ≡ field_len f.now) × (result ≤ length f.now) }
@@ -59,16 +52,16 @@ fn trimmed_len(f: &[u8]) -> usize
     n
 }
 
-// How long the first field is of what is left of a line; a text takes all of it, less trailing blanks.
-pub fn field_extent(text: bool, rest: &[u8]) -> Extent
+// How long the first field is of what is left of a line, unless the line ends before a comma or slash; a text takes all of it, less trailing blanks.
+pub fn field_extent(text: bool, rest: &[u8]) -> Option<usize>
     ensures { result ≡ extent_of text rest.now }
 {
     if text {
-        return Extent::Field(trimmed_len(rest));
+        return Some(trimmed_len(rest));
     }
     let n = field_len(rest);
     if n < rest.len() {
-        return Extent::Field(n);
+        return Some(n);
     }
-    Extent::Open
+    None
 }

@@ -15,8 +15,8 @@ use Rattle.base_digits.proofs.DigitTests.{within, below, above}
 use Rattle.base_digits.proofs.ReadingLaws.{value-is, value-part}
 use Rattle.read_values.specs.ValueMeanings.{date_in}
 use Rattle.read_values.specs.declared.date.Date.{Date}
-use Rattle.read_values.specs.declared.date.DateRead.{DateRead}
-use Rattle.read_values.specs.declared.date.DateRead.TheVariants.{Given, NoDate}
+use Rattle.std.specs.Prelude.{Some, None}
+use Rattle.std.specs.Option.{is_some}
 
 -- ---- the physical length
 
@@ -77,45 +77,41 @@ pub days-long : (year month : ℕ) → (month ≡ 2 → ⊥) → (month ≡ 4 �
 unfolding days_of
 days-long year month a b c d e = rw (ne_eqb month 2 a, ne_eqb month 4 b, ne_eqb month 6 c, ne_eqb month 9 d, ne_eqb month 11 e)
 
-pub date-not : (s : Bytes) → digits 6 6 s ≡ false → NoDate ≡ date_in s
+pub date-not : (s : Bytes) → digits 6 6 s ≡ false → None ≡ date_in s
 unfolding date_in is_date
 date-not s e = rw e
 
 module _ (s : Bytes) (year month day : ℕ) (d : digits 6 6 s ≡ true)
     (ey : year ≡ value_of (take 2 s)) (em : month ≡ value_of (take 2 (drop 2 s))) (ed : day ≡ value_of (take 2 (drop 4 s))) where
-  date-is : cond (between 1 12 month && between 1 (days_of year month) day) (Given (record { year = year; month = month; day = day })) NoDate ≡ date_in s
+  date-is : cond (between 1 12 month && between 1 (days_of year month) day) (Some (record { year = year; month = month; day = day })) None ≡ date_in s
   unfolding date_in is_date
   date-is =
       rw (ey, em, ed, value-part 6 6 2 0 s d (omega arith), value-part 6 6 2 2 s d (omega arith), value-part 6 6 2 4 s d (omega arith), d)
 
-  pub month-low : month < 1 → NoDate ≡ date_in s
+  pub month-low : month < 1 → None ≡ date_in s
   month-low h = rw (below 1 12 month h) at date-is
 
-  pub month-high : 12 < month → NoDate ≡ date_in s
+  pub month-high : 12 < month → None ≡ date_in s
   month-high h = rw (above 1 12 month h) at date-is
 
   module _ (low : 1 ≤ month) (high : month ≤ 12) where
-    month-is : cond (between 1 (days_of year month) day) (Given (record { year = year; month = month; day = day })) NoDate ≡ date_in s
+    month-is : cond (between 1 (days_of year month) day) (Some (record { year = year; month = month; day = day })) None ≡ date_in s
     month-is = rw (within 1 12 month low high) at date-is
 
-    pub day-low : day < 1 → NoDate ≡ date_in s
+    pub day-low : day < 1 → None ≡ date_in s
     day-low h = rw (below 1 (days_of year month) day h) at month-is
 
-    pub day-high : (last : ℕ) → last ≡ days_of year month → last < day → NoDate ≡ date_in s
+    pub day-high : (last : ℕ) → last ≡ days_of year month → last < day → None ≡ date_in s
     day-high last e h = rw (above 1 (days_of year month) day (rw e at h)) at month-is
 
-    pub day-good : (last : ℕ) → last ≡ days_of year month → 1 ≤ day → day ≤ last → Given (record { year = year; month = month; day = day }) ≡ date_in s
+    pub day-good : (last : ℕ) → last ≡ days_of year month → 1 ≤ day → day ≤ last → Some (record { year = year; month = month; day = day }) ≡ date_in s
     day-good last e h g = rw (within 1 (days_of year month) day h (rw e at g)) at month-is
 
 -- a date was found or not
-abbrev pub found : DateRead → Bool
-found (Given d) = true
-found NoDate = false
-
-found-by : (t : Bool) (d : Date) → found (cond t (Given d) NoDate) ≡ t
+found-by : (t : Bool) (d : Date) → is_some (cond t (Some d) None) ≡ t
 found-by true d = refl
 found-by false d = refl
 
-pub found-date : (s : Bytes) → found (date_in s) ≡ is_date s
+pub found-date : (s : Bytes) → is_some (date_in s) ≡ is_date s
 unfolding date_in
 found-date s = found-by (is_date s) (record { year = number (take 2 s); month = number (take 2 (drop 2 s)); day = number (take 2 (drop 4 s)) })

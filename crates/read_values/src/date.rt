@@ -11,13 +11,6 @@ pub struct Date {
     pub day: u64,
 }
 
-// What reading a date finds.
-#[derive(Clone, Copy)]
-pub enum DateRead {
-    Given(Date),
-    NoDate,
-}
-
 impl Date {
     // Its limits: how many digits it has, the last month, and what makes a year a leap year.
     pub const DIGITS: usize = 6;
@@ -53,29 +46,29 @@ impl Date {
         31
     }
 
-    // The date that six digits give.
-    pub fn read(f: &[u8]) -> DateRead
+    // The date that six digits give, if they give one.
+    pub fn read(f: &[u8]) -> Option<Date>
         ensures { result ≡ date_in f.now }
     {
         if !base_digits::is_digits(f, Date::DIGITS, Date::DIGITS) {
-            return DateRead::NoDate;
+            return None;
         }
         let year = base_digits::value(&f[0..2]);
         let month = base_digits::value(&f[2..4]);
         let day = base_digits::value(&f[4..6]);
         if month < 1 {
-            return DateRead::NoDate;
+            return None;
         }
         if Date::MONTHS < month {
-            return DateRead::NoDate;
+            return None;
         }
         if day < 1 {
-            return DateRead::NoDate;
+            return None;
         }
         if Date::days_in(year, month) < day {
-            return DateRead::NoDate;
+            return None;
         }
-        DateRead::Given(Date { year, month, day })
+        Some(Date { year, month, day })
     }
 }
 
@@ -83,8 +76,5 @@ impl Date {
 pub fn is_date(f: &[u8]) -> bool
     ensures { result ≡ is_date f.now }
 {
-    match Date::read(f) {
-        DateRead::Given(_) => true,
-        DateRead::NoDate => false,
-    }
+    Date::read(f).is_some()
 }

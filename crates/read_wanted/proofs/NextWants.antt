@@ -8,22 +8,22 @@ use Rattle.rules.specs.Bytes.{Bytes, is_empty}
 use Rattle.rules.specs.Grammar.{Kind, Judged, and_then, fits, pairs}
 use Rattle.read_wanted.specs.Wants.{wanted_of, wanted_after, splits}
 use Rattle.read_wanted.specs.TakenMeaning.{judged_of}
-use Rattle.read_wanted.specs.declared.Taken.TheVariants.{Next, Refused}
+use Rattle.std.specs.Prelude.{Ok, Err}
 use Rattle.read_wanted.specs.declared.want.After.{After}
 use Rattle.read_wanted.specs.declared.want.Want.{Want}
 use Rattle.read_wanted.specs.declared.want.Want.TheVariants.{SplitAmount, Days}
 
 -- ---- a field that fits, and one that does not
 
-pub fit : (t : Bool) (w : Want) → t ≡ true → judged_of (Next w) ≡ and_then (fits t) (wanted_of w)
+pub fit : (t : Bool) (w : Want) → t ≡ true → judged_of (Ok w) ≡ and_then (fits t) (wanted_of w)
 unfolding judged_of and_then
 fit t w e = rw e
 
-pub unfit : (t : Bool) (w : Want) → t ≡ false → judged_of (Refused 8) ≡ and_then (fits t) (wanted_of w)
+pub unfit : (t : Bool) (w : Want) → t ≡ false → judged_of (Err 8) ≡ and_then (fits t) (wanted_of w)
 unfolding judged_of and_then
 unfit t w e = rw e
 
-pub none-fits : (s : Bytes) (t : Bool) (w : Want) → is_empty s ≡ true → judged_of (Next w) ≡ and_then (fits (is_empty s || t)) (wanted_of w)
+pub none-fits : (s : Bytes) (t : Bool) (w : Want) → is_empty s ≡ true → judged_of (Ok w) ≡ and_then (fits (is_empty s || t)) (wanted_of w)
 none-fits s t w e = fit (is_empty s || t) w (rw e)
 
 pub some_fits : (s : Bytes) (t : Bool) (w : Want) (j : Judged) → is_empty s ≡ false → j ≡ and_then (fits t) (wanted_of w)

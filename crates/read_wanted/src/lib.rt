@@ -16,20 +16,16 @@ use want::{After, Want};
 pub mod want;
 
 // A field was good, and this is wanted next; or it is refused by this number.
-#[derive(Clone, Copy)]
-pub enum Taken {
-    Next(Want),
-    Refused(u64),
-}
+pub type Taken = Result<Want, u64>;
 
 // A field that must be as this test says, with this wanted after it.
 pub fn fitted(ok: bool, next: Want) -> Taken
     ensures { judged_of result ≡ and_then (fits ok) (wanted_of next) }
 {
     if ok {
-        return Taken::Next(next);
+        return Ok(next);
     }
-    Taken::Refused(WRONG_FIELD)
+    Err(WRONG_FIELD)
 }
 
 // The same where it may also be empty.
@@ -37,7 +33,7 @@ pub fn fitted_or_none(f: &[u8], ok: bool, next: Want) -> Taken
     ensures { judged_of result ≡ and_then (fits (is_empty f.now || ok)) (wanted_of next) }
 {
     if read_values::is_empty(f) {
-        return Taken::Next(next);
+        return Ok(next);
     }
     fitted(ok, next)
 }
@@ -47,9 +43,9 @@ pub fn take_version(f: &[u8]) -> Taken
     ensures { judged_of result ≡ and_then (judged version f.now) [] }
 {
     if read_values::is_one_of(f, b'2', b'2') {
-        return Taken::Next(Want::End);
+        return Ok(Want::End);
     }
-    Taken::Refused(WRONG_VERSION)
+    Err(WRONG_VERSION)
 }
 
 // A type of this class in 03.
@@ -57,11 +53,11 @@ pub fn item(class: Class) -> Taken
     ensures { judged_of result ≡ and_then (item_of (class_meant class)) [] }
 {
     match class {
-        Class::Status => Taken::Next(Want::StatusAmount),
-        Class::SummaryOnly => Taken::Next(Want::ItemAmount),
-        Class::SummaryOrDetail => Taken::Next(Want::ItemAmount),
-        Class::NonMonetary => Taken::Refused(WRONG_FIELD),
-        Class::Unknown => Taken::Refused(WRONG_FIELD),
+        Class::Status => Ok(Want::StatusAmount),
+        Class::SummaryOnly => Ok(Want::ItemAmount),
+        Class::SummaryOrDetail => Ok(Want::ItemAmount),
+        Class::NonMonetary => Err(WRONG_FIELD),
+        Class::Unknown => Err(WRONG_FIELD),
     }
 }
 
@@ -70,11 +66,11 @@ pub fn detail(class: Class) -> Taken
     ensures { judged_of result ≡ and_then (detail_of (class_meant class)) references }
 {
     match class {
-        Class::SummaryOrDetail => Taken::Next(Want::DetailAmount),
-        Class::NonMonetary => Taken::Next(Want::NoAmount),
-        Class::Status => Taken::Refused(WRONG_FIELD),
-        Class::SummaryOnly => Taken::Refused(WRONG_FIELD),
-        Class::Unknown => Taken::Refused(WRONG_FIELD),
+        Class::SummaryOrDetail => Ok(Want::DetailAmount),
+        Class::NonMonetary => Ok(Want::NoAmount),
+        Class::Status => Err(WRONG_FIELD),
+        Class::SummaryOnly => Err(WRONG_FIELD),
+        Class::Unknown => Err(WRONG_FIELD),
     }
 }
 
@@ -83,7 +79,7 @@ pub fn take_first_type(f: &[u8]) -> Taken
     ensures { judged_of result ≡ and_then (judged first_type f.now) [] }
 {
     if read_values::is_empty(f) {
-        return Taken::Next(Want::EmptyAmount);
+        return Ok(Want::EmptyAmount);
     }
     item(read_values::type_class(f))
 }
@@ -93,24 +89,24 @@ pub fn take_funds(f: &[u8], after: After) -> Taken
     ensures { judged_of result ≡ and_then (judged funds f.now) (wanted_after after) }
 {
     if read_values::is_empty(f) {
-        return Taken::Next(want::after_funds(after));
+        return Ok(want::after_funds(after));
     }
     if read_values::is_one_of(f, b'0', b'2') {
-        return Taken::Next(want::after_funds(after));
+        return Ok(want::after_funds(after));
     }
     if read_values::is_one_of(f, b'Z', b'Z') {
-        return Taken::Next(want::after_funds(after));
+        return Ok(want::after_funds(after));
     }
     if read_values::is_one_of(f, b'S', b'S') {
-        return Taken::Next(Want::SplitAmount(after, 2));
+        return Ok(Want::SplitAmount(after, 2));
     }
     if read_values::is_one_of(f, b'V', b'V') {
-        return Taken::Next(Want::ValueDate(after));
+        return Ok(Want::ValueDate(after));
     }
     if read_values::is_one_of(f, b'D', b'D') {
-        return Taken::Next(Want::PairCount(after));
+        return Ok(Want::PairCount(after));
     }
-    Taken::Refused(WRONG_FIELD)
+    Err(WRONG_FIELD)
 }
 
 // The number of pairs of D.
@@ -118,13 +114,13 @@ pub fn take_pair_count(f: &[u8], after: After) -> Taken
     ensures { judged_of result ≡ and_then (judged pair_count f.now) (wanted_after after) }
 {
     if !base_digits::is_digits(f, 1, 3) {
-        return Taken::Refused(WRONG_FIELD);
+        return Err(WRONG_FIELD);
     }
     let n = base_digits::value(f);
     if n < 1 {
-        return Taken::Refused(WRONG_FIELD);
+        return Err(WRONG_FIELD);
     }
-    Taken::Next(want::next_pair(after, n))
+    Ok(want::next_pair(after, n))
 }
 
 // A text's piece isn't empty and doesn't begin with a slash.
@@ -132,12 +128,12 @@ pub fn take_piece(f: &[u8]) -> Taken
     ensures { judged_of result ≡ and_then (piece_of f.now) [] }
 {
     if f.len() == 0 {
-        return Taken::Refused(LINE_BADLY_ENDED);
+        return Err(LINE_BADLY_ENDED);
     }
     if f[0] == b'/' {
-        return Taken::Refused(LINE_BADLY_ENDED);
+        return Err(LINE_BADLY_ENDED);
     }
-    Taken::Next(Want::FurtherText)
+    Ok(Want::FurtherText)
 }
 
 // A text's first piece, or "/" for no text.
@@ -145,7 +141,7 @@ pub fn take_first_piece(f: &[u8]) -> Taken
     ensures { judged_of result ≡ and_then (judged text f.now) [] }
 {
     if read_values::is_one_of(f, b'/', b'/') {
-        return Taken::Next(Want::End);
+        return Ok(Want::End);
     }
     take_piece(f)
 }
