@@ -5,13 +5,11 @@
 ghost use Rattle.std.specs.Prelude.{◌≡◌, cond, ◌&&◌, ◌∷◌, ◌++◌, ◌+◌, ◌≤◌, ◌<◌, eqb, length, take, drop};
 ghost use Rattle.rules.specs.Bytes.{slash, just};
 ghost use Rattle.base_codes.specs.CodeMeaning.{code_meant};
-ghost use Rattle.find_walk.specs.declared.Reached.TheVariants.{Refused};
 ghost use Rattle.find_walk.specs.WalkEnds.{PutsThree, WalksTo};
 
 use base_codes::Code;
 use base_quantities::Place;
 use base_refusals::Refusal;
-use find_next::Next;
 use read_wanted::want;
 
 // A text's kind.
@@ -21,24 +19,22 @@ const TEXT: u64 = 21;
 #[derive(Clone, Copy)]
 pub struct FieldCount(pub u64);
 
-// Where a walk ends: it is refused; the record is over, after so many fields; or it meets the field sought, by its start in the record and its length.
+// Where a walk ends: the record is over, after so many fields; or it meets the field sought, by its start in the record and its length.
 #[derive(Clone, Copy)]
 pub enum Reached {
-    Refused(Refusal),
     Over(FieldCount),
     Field(Place, usize),
 }
 
 // The refusal of a record that starts there, with its place in the file.
-fn refused_there(start: Place, why: Refusal) -> Reached
+fn refused_there(start: Place, why: Refusal) -> Refusal
     requires { start.0 + why.place.0 < 18446744073709551616 }
-    ensures { result ≡ Refused (record { number = why.number; place = record { 0 = start.0 + why.place.0 } }) }
+    ensures { result ≡ record { number = why.number; place = record { 0 = start.0 + why.place.0 } } }
 {
-    let place = why.place;
-    Reached::Refused(Refusal {
-        number: why.number,
-        place: Place(start.0 + place.0),
-    })
+    Refusal {
+        place: Place(start.0 + why.place.0),
+        ..why
+    }
 }
 
 // The length that is handed out of a field of this kind: "/" is no text, a text of length 0.
@@ -96,7 +92,7 @@ pub fn walk_to(
     code: Code,
     sought: u64,
     out: &mut [u64],
-) -> Reached
+) -> Result<Reached, Refusal>
     ensures { WalksTo (drop start.0 file.now) start.0 least (code_meant code) sought out.old out.new result }
 {
     let rec = base_slices::part(file, start, Place(file.len()));
@@ -104,19 +100,17 @@ pub fn walk_to(
     let mut n: usize = 0;
     let mut at: usize = 0;
     loop {
-        let want = walk.want;
-        match find_next::next_field(rec, least, walk) {
-            Next::Refused(why) => return refused_there(start, why),
-            Next::Over => return Reached::Over(FieldCount(n as u64)),
-            Next::Field(place, length, after) => {
-                let kind = read_kinds::kind_number(want);
-                if kind == sought {
-                    return Reached::Field(place, length);
-                }
-                at = put_next(rec, kind, start, place, length, out, at);
-                n += 1;
-                walk = after;
-            }
+        let step = match find_next::next_field(rec, least, walk) {
+            Err(why) => return Err(refused_there(start, why)),
+            Ok(None) => return Ok(Reached::Over(FieldCount(n as u64))),
+            Ok(Some(step)) => step,
+        };
+        let kind = read_kinds::kind_number(walk.want);
+        if kind == sought {
+            return Ok(Reached::Field(step.start, step.length));
         }
+        at = put_next(rec, kind, start, step.start, step.length, out, at);
+        n += 1;
+        walk = step.after;
     }
 }
