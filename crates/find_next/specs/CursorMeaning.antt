@@ -5,6 +5,7 @@ use Rattle.rules.specs.Bytes.{Bytes, same_bytes}
 use Rattle.rules.specs.Lines.{Line, size_of, lines_of, code_bytes, begins, continuation}
 use Rattle.rules.specs.Cells.{cells_from}
 use Rattle.rules.specs.Grammar.{Kind, may_lack}
+use Rattle.base_refusals.specs.declared.Reason.TheVariants as reasons
 use Rattle.base_refusals.specs.declared.Refusal.{Refusal}
 use Rattle.base_refusals.specs.RefusalMeaning.{refusal_meant}
 use Rattle.base_quantities.specs.declared.Place.{Place}
@@ -93,7 +94,7 @@ Ready rec c (Ok (Some d)) = (d.want ≡ c.want) × (d.at.0 ≤ d.end.0) × (Insi
 
 -- where no line is left: what is wanted, the last slash that ended a line, and the answer
 abbrev pub Ends : Want → Place → Result Unit Refusal → Type 0
-Ends w s (Err why) = (may_lack (wanted_of w) ≡ false) × (why ≡ record { number = 8; place = s })
+Ends w s (Err why) = (may_lack (wanted_of w) ≡ false) × (why ≡ record { reason = reasons.WrongField; place = s })
 Ends w s (Ok u) = may_lack (wanted_of w) ≡ true
 
 -- a record's bytes, where the walk stands, and where it stands in a line

@@ -11,7 +11,7 @@ ghost use Rattle.find_next.specs.CursorMeaning.{own_lines, own_line, trace_of, I
 
 use base_codes::Code;
 use base_quantities::Place;
-use base_refusals::{LINE_BADLY_ENDED, Refusal, WRONG_FIELD};
+use base_refusals::{Reason, Refusal};
 use read_wanted::want;
 use read_wanted::want::Want;
 
@@ -63,18 +63,10 @@ fn field_here(rec: &[u8], walk: Cursor) -> Result<FieldStep, Refusal>
     let left = base_slices::part(rec, start, walk.end);
     let text = want::is_text(walk.want);
     let Some(n) = read_field_ends::field_extent(text, left) else {
-        return Err(Refusal {
-            number: LINE_BADLY_ENDED,
-            place: Place(a + left.len()),
-        });
+        return Err(Reason::LineBadlyEnded.at(Place(a + left.len())));
     };
     let next = match read_fields::take_yielded(walk.want, &left[..n]) {
-        Err(number) => {
-            return Err(Refusal {
-                number,
-                place: start,
-            });
-        }
+        Err(reason) => return Err(reason.at(start)),
         Ok(next) => next,
     };
     if text {
@@ -99,10 +91,7 @@ fn field_here(rec: &[u8], walk: Cursor) -> Result<FieldStep, Refusal>
     }
     let t = f + read_field_ends::blanks_len(&left[f..]);
     if t < left.len() {
-        return Err(Refusal {
-            number: LINE_BADLY_ENDED,
-            place: Place(a + t),
-        });
+        return Err(Reason::LineBadlyEnded.at(Place(a + t)));
     }
     let after = before_line(next, walk.line, Place(a + n));
     Ok(FieldStep {
@@ -132,10 +121,7 @@ fn at_end(want: Want, slash: Place) -> Result<(), Refusal>
     if want::may_lack(want) {
         return Ok(());
     }
-    Err(Refusal {
-        number: WRONG_FIELD,
-        place: slash,
-    })
+    Err(Reason::WrongField.at(slash))
 }
 
 // The walk before the next field's bytes: in its line or, where that is over, after the code of the next one; none where the record is over.
@@ -153,10 +139,7 @@ fn in_line(rec: &[u8], least: usize, walk: Cursor) -> Result<Option<Cursor>, Ref
     let end = read_lines::body_end(rec, start);
     let at = Place(start.0 + 3);
     if end.0 < at.0 {
-        return Err(Refusal {
-            number: LINE_BADLY_ENDED,
-            place: at,
-        });
+        return Err(Reason::LineBadlyEnded.at(at));
     }
     let line = Place(end.0 + read_lines::end_len(rec, end));
     Ok(Some(Cursor {

@@ -29,12 +29,9 @@ pub enum Reached {
 // The refusal of a record that starts there, with its place in the file.
 fn refused_there(start: Place, why: Refusal) -> Refusal
     requires { start.0 + why.place.0 < 18446744073709551616 }
-    ensures { result ≡ record { number = why.number; place = record { 0 = start.0 + why.place.0 } } }
+    ensures { result ≡ record { reason = why.reason; place = record { 0 = start.0 + why.place.0 } } }
 {
-    Refusal {
-        place: Place(start.0 + why.place.0),
-        ..why
-    }
+    why.reason.at(Place(start.0 + why.place.0))
 }
 
 // The length that is handed out of a field of this kind: "/" is no text, a text of length 0.
