@@ -1,20 +1,34 @@
-// A fresh 99, and how many records a part has.
+// A fresh 99, how many records a part has, and whether a result fits.
 
 #![tactic(auto)]
 
-ghost use Rattle.std.specs.Prelude.{◌≡◌, ◌≤◌, length};
+ghost use Rattle.std.specs.Prelude.{◌≡◌, ◌≤◌, length, take};
 ghost use Rattle.rules.specs.Lines.{lines_of};
+ghost use Rattle.rules.specs.Combine.{has_room};
 ghost use Rattle.base_quantities.specs.QuantityMeanings.{sum_meant};
 ghost use Rattle.base_numerals.specs.PutBytes.{Put};
+ghost use Rattle.read_line_checks.specs.LineChecks.{checked_of};
 ghost use Rattle.join_trailer.specs.FreshTrailer.{last_line, trailer_of};
 
+use base_limits::LONGEST_FILE;
 use base_quantities::{Count, Place, Records, Units};
+use base_refusals::{NO_ROOM, RESULT_TOO_LONG, Refusal};
 
-// A fresh 99: its bytes, zeros after them, and how many they are.
+// A fresh 99: its bytes, zeros after them, and how many they are. An array, since nothing here allocates.
 #[derive(Clone, Copy)]
 pub struct Trailer {
-    pub bytes: [u8; 80],
-    pub length: usize,
+    bytes: [u8; 80],
+    length: usize,
+    ghost within: { length ≤ 80 },
+}
+
+impl Trailer {
+    // The line's bytes.
+    pub fn line(&self) -> &[u8]
+        ensures { result.now ≡ take self.now.length self.now.bytes }
+    {
+        &self.bytes[..self.length]
+    }
 }
 
 // A 99 with these numbers at the front of out: how many bytes.
@@ -50,4 +64,23 @@ pub fn count_lines(s: &[u8]) -> Records
         n += 1;
     }
     Records(n)
+}
+
+// A result of this length is not too long, and fits into so much room.
+pub fn fits(length: usize, room: usize) -> Result<(), Refusal>
+    ensures { checked_of result ≡ has_room length room }
+{
+    if LONGEST_FILE < length {
+        return Err(Refusal {
+            number: RESULT_TOO_LONG,
+            place: Place(0),
+        });
+    }
+    if room < length {
+        return Err(Refusal {
+            number: NO_ROOM,
+            place: Place(0),
+        });
+    }
+    Ok(())
 }
