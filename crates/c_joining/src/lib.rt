@@ -28,7 +28,7 @@ pub extern "C" fn bai2_split(name: &[u8], file: &[u8], out: &mut [u8]) -> Bai2An
             length: length as u64,
         },
         Err(why) => Bai2Answer {
-            number: why.number,
+            number: why.reason.number(),
             place: why.place.0 as u64,
             length: 0,
         },
@@ -58,7 +58,7 @@ pub extern "C" fn bai2_combine(a: &[u8], b: &[u8], out: &mut [u8]) -> Bai2Combin
             file: 0,
         },
         Err(why) => Bai2Combined {
-            number: why.refusal.number,
+            number: why.refusal.reason.number(),
             place: why.refusal.place.0 as u64,
             length: 0,
             file: why.file,

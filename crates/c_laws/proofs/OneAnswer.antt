@@ -8,6 +8,7 @@ use mathlib.Core.List.{List, ◌++◌}
 use mathlib.Core.Option.{Option, none, some}
 use borrow.Author.Tests.{ne_eqb}
 use lib.Dec.{eqb}
+use Rattle.std.specs.Prelude.{Result, Ok, Err}
 use Rattle.rules.specs.Bytes.{Bytes}
 use Rattle.rules.specs.Outcome.{Outcome, refused, fine, ◌>>=◌}
 use Rattle.rules.specs.Outcome as outcome
@@ -38,13 +39,13 @@ use Rattle.read_file.specs.declared.Judged.TheVariants as judged
 use Rattle.base_totals.specs.SummaryMeaning.{summary_meant}
 use Rattle.read_file.specs.FileMeanings.{verdict_meant}
 use Rattle.read_file.specs.FileAnswers.{JudgedIs}
-use Rattle.join_split.specs.declared.Answer.{Answer}
 use Rattle.join_split.specs.SplitAnswers.{answer_meant}
-use Rattle.join_combine.specs.declared.Combined.{Combined}
+use Rattle.join_combine.specs.declared.Refused.{Refused}
 use Rattle.join_combine.specs.CombineAnswers.{combined_meant}
 use Rattle.part_groups.specs.declared.Part.{Part}
 use Rattle.base_refusals.specs.declared.Refusal.{Refusal}
 use Rattle.base_refusals.specs.RefusalMeaning.{refusal_meant}
+use Rattle.base_refusals.proofs.RefusalsBack.{not_numbered_0, refusal_from, same-refusal, result_from, same_err}
 use Rattle.base_amounts.specs.declared.Amount as amounts
 use Rattle.base_amounts.specs.declared.Amount.TheVariants as forms
 use Rattle.base_amounts.specs.AmountsRead.{amount_meant}
@@ -82,10 +83,6 @@ use Rattle.c_reading.specs.CAnswers.{SummaryFigures, summary_figures, read_meant
 use Rattle.c_naming.specs.CNamed.{code_meant}
 use Rattle.c_joining.specs.CJoined.{split_meant, combine_meant}
 use Rattle.c_writer.specs.WriterFigures.{numbers_of, Reply, replied, reply_to}
-
--- the code's refusal that stands for one of the rules
-abbrev refusal_from : outcome.Refusal → Refusal
-refusal_from why = record { number = why.number; place = record { 0 = why.place } }
 
 -- ---- reading
 
@@ -152,13 +149,18 @@ c-read-one file =
 
 -- ---- splitting
 
+abbrev split_back : combine.Answer → Left (Result ℕ Refusal)
+split_back m = record { answer = result_from m.len m.refusal; slice = m.output }
+
+same_split : (r : Result ℕ Refusal) (out : Bytes) → ◌≡◌ {A = Left (Result ℕ Refusal)} (split_back (answer_meant r out)) (record { answer = r; slice = out })
+same_split (Ok n) out = refl
+same_split (Err why) out = ap (λ (r : Result ℕ Refusal). record { answer = r; slice = out }) (same_err 0 why)
+
 -- join_split::split
-pub split_one : (name file before : Bytes) (x y : Left Answer)
+pub split_one : (name file before : Bytes) (x y : Left (Result ℕ Refusal))
     → answer_meant x.answer x.slice ≡ split name file before → answer_meant y.answer y.slice ≡ split name file before → x ≡ y
 split_one name file before =
-    one_answer (λ (x : Left Answer). answer_meant x.answer x.slice)
-    (λ (m : combine.Answer). record { answer = record { refusal = refusal_from m.refusal; length = m.len }; slice = m.output })
-    (λ x. refl) (split name file before)
+    one_answer (λ (x : Left (Result ℕ Refusal)). answer_meant x.answer x.slice) split_back (λ x. same_split x.answer x.slice) (split name file before)
 
 -- bai2_split
 pub c-split-one : (name file before : Bytes) (x y : Left Bai2Answer)
@@ -170,13 +172,24 @@ c-split-one name file before =
 
 -- ---- combining
 
+abbrev combined_back : combine.Answer → Left (Result ℕ Refused)
+combined_back m =
+    record {
+      answer = cond (eqb m.refusal.number 0) (Ok m.len) (Err (record { refusal = refusal_from m.refusal; file = m.which }));
+      slice = m.output;
+    }
+
+same_combined : (r : Result ℕ Refused) (out : Bytes) → ◌≡◌ {A = Left (Result ℕ Refused)} (combined_back (combined_meant r out)) (record { answer = r; slice = out })
+same_combined (Ok n) out = refl
+same_combined (Err r) out =
+    rw (not_numbered_0 r.refusal.reason)
+    (ap (λ (why : Refusal). record { answer = Err (record { refusal = why; file = r.file }); slice = out }) (same-refusal r.refusal))
+
 -- join_combine::combine
-pub combine-one : (a b before : Bytes) (x y : Left Combined)
+pub combine-one : (a b before : Bytes) (x y : Left (Result ℕ Refused))
     → combined_meant x.answer x.slice ≡ combine.combine a b before → combined_meant y.answer y.slice ≡ combine.combine a b before → x ≡ y
 combine-one a b before =
-    one_answer (λ (x : Left Combined). combined_meant x.answer x.slice)
-    (λ (m : combine.Answer). record { answer = record { refusal = refusal_from m.refusal; length = m.len; file = m.which }; slice = m.output })
-    (λ x. refl) (combine.combine a b before)
+    one_answer (λ (x : Left (Result ℕ Refused)). combined_meant x.answer x.slice) combined_back (λ x. same_combined x.answer x.slice) (combine.combine a b before)
 
 -- bai2_combine
 pub c-combine-one : (a b before : Bytes) (x y : Left Bai2Combined)

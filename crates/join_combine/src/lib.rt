@@ -2,13 +2,11 @@
 
 #![tactic(auto)]
 
-ghost use Rattle.std.specs.Prelude.{◌≡◌, ◌++◌, ◌+◌, ◌-◌, ◌≤◌, T, length, Err};
-ghost use Rattle.rules.specs.Bytes.{Bytes};
+ghost use Rattle.std.specs.Prelude.{◌≡◌, ◌++◌, ◌+◌, ◌-◌, ◌≤◌, T, length};
 ghost use Rattle.rules.specs.Numbers.{◌⊕◌};
 ghost use Rattle.rules.specs.Lines.{lines_of, record_size};
 ghost use Rattle.rules.specs.Limits.{longest_file};
-ghost use Rattle.rules.specs.Outcome.{refuse};
-ghost use Rattle.rules.specs.Combine.{answered, lines_within};
+ghost use Rattle.rules.specs.Combine.{lines_within};
 ghost use Rattle.rules.specs.Combine as rules;
 ghost use Rattle.base_quantities.specs.QuantityMeanings.{sum_meant};
 ghost use Rattle.base_numerals.specs.PutBytes.{Put};
@@ -18,7 +16,7 @@ ghost use Rattle.read_file.specs.FileAnswers.{IsGood};
 ghost use Rattle.join_combine.specs.CombineAnswers.{combined_meant, AcceptedIs, combined_accepted, combined_fitting};
 
 use base_quantities::{Count, Place, Records, Units};
-use base_refusals::{AMOUNTS_TOO_LARGE, RESULT_TOO_LONG, Refusal};
+use base_refusals::{Reason, Refusal};
 use read_file::GoodFile;
 
 // Why two files are not combined; and the file that the reader refused, 1 or 2, or 0.
@@ -36,17 +34,11 @@ struct Accepted<'a> {
     ghost is_good: { IsGood good bytes.now },
 }
 
-// Refused by this number, at place 0: neither file shows it alone.
-fn refused_by(number: u64) -> Refused
-    ensures { (out : Bytes) → combined_meant (Err result) out ≡ answered (refuse number 0) 0 out }
+// Neither file shows this refusal alone.
+fn by_both(refusal: Refusal) -> Refused
+    ensures { result ≡ record { refusal = refusal; file = 0 } }
 {
-    Refused {
-        refusal: Refusal {
-            number,
-            place: Place(0),
-        },
-        file: 0,
-    }
+    Refused { refusal, file: 0 }
 }
 
 // The count without some of it; none is left where these are more.
@@ -127,7 +119,7 @@ fn combine_fitting(
     let last = last.line();
     let length = a99 + (b99 - header) + last.len();
     if let Err(why) = join_trailer::fits(length, out.len()) {
-        return Err(refused_by(why.number));
+        return Err(by_both(why));
     }
     Ok(put_three(&a.bytes[..a99], &b.bytes[header..b99], last, out))
 }
@@ -137,12 +129,12 @@ fn combine_accepted(a: Accepted, b: Accepted, out: &mut [u8]) -> Result<usize, R
     ensures { combined_meant result out.new ≡ combined_accepted (summary_meant a.good.summary) (summary_meant b.good.summary) a.bytes.now b.bytes.now out.old }
 {
     let Some(total) = a.good.summary.total.join(b.good.summary.total) else {
-        return Err(refused_by(AMOUNTS_TOO_LARGE));
+        return Err(by_both(Reason::AmountsTooLarge.nowhere()));
     };
     let header = read_lines::record_end(b.bytes, Place(0)).0;
     let groups = &b.bytes[header..b.good.last.0];
     if !within(groups, b.good.limit, a.good.limit) {
-        return Err(refused_by(RESULT_TOO_LONG));
+        return Err(by_both(Reason::ResultTooLong.nowhere()));
     }
     combine_fitting(a, b, header, total, out)
 }

@@ -5,13 +5,13 @@
 ghost use Rattle.std.specs.Prelude.{◌≡◌, ◌≤◌, length};
 ghost use Rattle.rules.specs.Combine.{has_room};
 ghost use Rattle.rules.specs.Split as rules;
+ghost use Rattle.base_refusals.specs.RefusalMeaning.{outcome_of};
 ghost use Rattle.base_numerals.specs.PutBytes.{Put};
-ghost use Rattle.read_line_checks.specs.LineChecks.{checked_of};
 ghost use Rattle.join_split.specs.SplitAnswers.{answer_meant, Opens, RestIs, split_result};
 
 use base_limits::LONGEST_FILE;
 use base_quantities::{Place, Records};
-use base_refusals::{NOT_A_NAME, Refusal};
+use base_refusals::{Reason, Refusal};
 use join_trailer::Trailer;
 
 // No fresh 99 of a file is longer.
@@ -63,7 +63,7 @@ impl Asked<'_> {
 
     // Refused where the split is too long, or longer than this room. Where even the whole file and a 99 fit, nothing is measured.
     fn fits(self, room: usize) -> Result<(), Refusal>
-        ensures { checked_of result ≡ has_room (length (split_result self.name.now self.file.now)) room }
+        ensures { outcome_of (λ done. done) result ≡ has_room (length (split_result self.name.now self.file.now)) room }
     {
         let most = self.file.len() + MOST_LAST;
         if most <= room && most <= LONGEST_FILE {
@@ -90,10 +90,7 @@ pub fn split(name: &[u8], file: &[u8], out: &mut [u8]) -> Result<usize, Refusal>
     ensures { answer_meant result out.new ≡ rules.split name.now file.now out.old }
 {
     if !is_asked(name) {
-        return Err(Refusal {
-            number: NOT_A_NAME,
-            place: Place(0),
-        });
+        return Err(Reason::NotAName.nowhere());
     }
     read_file::read(file)?;
     let header = read_lines::record_end(file, Place(0)).0;

@@ -6,13 +6,13 @@ ghost use Rattle.std.specs.Prelude.{◌≡◌, ◌≤◌, length, take};
 ghost use Rattle.rules.specs.Lines.{lines_of};
 ghost use Rattle.rules.specs.Combine.{has_room};
 ghost use Rattle.base_quantities.specs.QuantityMeanings.{sum_meant};
+ghost use Rattle.base_refusals.specs.RefusalMeaning.{outcome_of};
 ghost use Rattle.base_numerals.specs.PutBytes.{Put};
-ghost use Rattle.read_line_checks.specs.LineChecks.{checked_of};
 ghost use Rattle.join_trailer.specs.FreshTrailer.{last_line, trailer_of};
 
 use base_limits::LONGEST_FILE;
 use base_quantities::{Count, Place, Records, Units};
-use base_refusals::{NO_ROOM, RESULT_TOO_LONG, Refusal};
+use base_refusals::{Reason, Refusal};
 
 // A fresh 99: its bytes, zeros after them, and how many they are. An array, since nothing here allocates.
 #[derive(Clone, Copy)]
@@ -68,19 +68,13 @@ pub fn count_lines(s: &[u8]) -> Records
 
 // A result of this length is not too long, and fits into so much room.
 pub fn fits(length: usize, room: usize) -> Result<(), Refusal>
-    ensures { checked_of result ≡ has_room length room }
+    ensures { outcome_of (λ done. done) result ≡ has_room length room }
 {
     if LONGEST_FILE < length {
-        return Err(Refusal {
-            number: RESULT_TOO_LONG,
-            place: Place(0),
-        });
+        return Err(Reason::ResultTooLong.nowhere());
     }
     if room < length {
-        return Err(Refusal {
-            number: NO_ROOM,
-            place: Place(0),
-        });
+        return Err(Reason::NoRoom.nowhere());
     }
     Ok(())
 }
