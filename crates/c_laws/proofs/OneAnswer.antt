@@ -5,10 +5,11 @@ use native.Mathlib.Omega.{arith}
 use mathlib.Core.Path.{◌≡◌, refl, sym, ap, ap₂, subst, ◌∙◌}
 use mathlib.Core.Bool.{false, cond}
 use mathlib.Core.List.{List, ◌++◌}
-use mathlib.Core.Option.{Option, none, some}
+use mathlib.Core.Option as math
+use mathlib.Core.Option.{none, some}
 use borrow.Author.Tests.{ne_eqb}
 use lib.Dec.{eqb}
-use Rattle.std.specs.Prelude.{Result, Ok, Err}
+use Rattle.std.specs.Prelude.{Option, Some, None, Result, Ok, Err}
 use Rattle.rules.specs.Bytes.{Bytes}
 use Rattle.rules.specs.Outcome.{Outcome, refused, fine, ◌>>=◌}
 use Rattle.rules.specs.Outcome as outcome
@@ -32,10 +33,7 @@ use Rattle.name_codes.specs.declared.CodeClass.{CodeClass}
 use Rattle.name_codes.specs.declared.CodeClass.TheVariants as classes
 use Rattle.name_codes.specs.ClassMeaning.{class_meant}
 use Rattle.base_totals.specs.declared.Summary.{Summary}
-use Rattle.read_file.specs.declared.Verdict.{Verdict}
-use Rattle.read_file.specs.declared.Verdict.TheVariants.{Accepted, Refused}
-use Rattle.read_file.specs.declared.Judged.{Judged}
-use Rattle.read_file.specs.declared.Judged.TheVariants as judged
+use Rattle.read_file.specs.declared.GoodFile.{GoodFile}
 use Rattle.base_totals.specs.SummaryMeaning.{summary_meant}
 use Rattle.read_file.specs.FileMeanings.{verdict_meant}
 use Rattle.read_file.specs.FileAnswers.{JudgedIs}
@@ -49,19 +47,17 @@ use Rattle.base_refusals.proofs.RefusalsBack.{not_numbered_0, refusal_from, same
 use Rattle.base_amounts.specs.declared.Amount as amounts
 use Rattle.base_amounts.specs.declared.Amount.TheVariants as forms
 use Rattle.base_amounts.specs.AmountsRead.{amount_meant}
-use Rattle.find_item.specs.declared.ItemCount.{ItemCount}
-use Rattle.find_item.specs.declared.ItemCount.TheVariants as counts
+use Rattle.base_quantities.specs.declared.Count.{Count}
 use Rattle.find_item.specs.ItemSearch.{count_meant}
-use Rattle.part_items.specs.declared.ItemAnswer.{ItemAnswer}
+use Rattle.find_item.specs.declared.Item.{Item}
 use Rattle.part_items.specs.ItemMeaning.{item_meant}
-use Rattle.part_details.specs.declared.DetailAnswer.{DetailAnswer}
 use Rattle.part_groups.specs.PartMeaning as parts
 use Rattle.part_details.specs.DetailMeaning as details
-use Rattle.part_records.specs.declared.Found.{Found}
-use Rattle.part_records.specs.declared.Found.TheVariants as found
+use Rattle.part_records.specs.declared.Record.{Record}
+use Rattle.part_details.specs.declared.Detail.{Detail}
+use Rattle.find_field.specs.declared.Spot.{Spot}
 use Rattle.part_records.specs.RecordsFound.{record_meant, Finds}
-use Rattle.part_fields.specs.declared.Fields.{Fields}
-use Rattle.part_fields.specs.declared.Fields.TheVariants as fields
+use Rattle.find_walk.specs.declared.FieldCount.{FieldCount}
 use Rattle.part_fields.specs.FieldAnswers.{fields_meant}
 use Rattle.write_state.specs.declared.Phase.{Phase}
 use Rattle.write_state.specs.declared.Phase.TheVariants as phases
@@ -89,16 +85,16 @@ use Rattle.c_writer.specs.WriterFigures.{numbers_of, Reply, replied, reply_to}
 abbrev summary_of : totals.Summary → Summary
 summary_of s = record { total = units_of s.sum; groups = record { 0 = s.groups }; accounts = record { 0 = s.accounts }; details = record { 0 = s.details }; records = record { 0 = s.records } }
 
-abbrev verdict_of : Outcome totals.Summary → Verdict
-verdict_of (fine s) = Accepted (summary_of s)
-verdict_of (refused why) = Refused (refusal_from why)
+abbrev verdict_of : Outcome totals.Summary → Result Summary Refusal
+verdict_of (fine s) = Ok (summary_of s)
+verdict_of (refused why) = Err (refusal_from why)
 
-same-verdict : (v : Verdict) → verdict_of (verdict_meant v) ≡ v
-same-verdict (Accepted s) = refl
-same-verdict (Refused why) = refl
+same-verdict : (v : Result Summary Refusal) → verdict_of (verdict_meant v) ≡ v
+same-verdict (Ok s) = refl
+same-verdict (Err why) = ap Err (same-refusal why)
 
 -- read_file::read
-pub read_one : (file : Bytes) (v w : Verdict) → verdict_meant v ≡ judge file → verdict_meant w ≡ judge file → v ≡ w
+pub read_one : (file : Bytes) (v w : Result Summary Refusal) → verdict_meant v ≡ judge file → verdict_meant w ≡ judge file → v ≡ w
 read_one file = one_answer verdict_meant verdict_of same-verdict (judge file)
 
 -- what is known of an accepted file: its summary, its longest line, and where its 99 starts
@@ -107,29 +103,29 @@ record Known : Type 0 where
   limit : ℕ
   last : ℕ
 
-abbrev judged_meant : Judged → Outcome Known
-judged_meant (judged.Accepted g) = fine (record { summary = summary_meant g.summary; limit = g.limit; last = g.last.0 })
-judged_meant (judged.Refused why) = refused (refusal_meant why)
+abbrev judged_meant : Result GoodFile Refusal → Outcome Known
+judged_meant (Ok g) = fine (record { summary = summary_meant g.summary; limit = g.limit; last = g.last.0 })
+judged_meant (Err why) = refused (refusal_meant why)
 
-abbrev judged_of : Outcome Known → Judged
-judged_of (fine k) = judged.Accepted (record { summary = summary_of k.summary; limit = k.limit; last = record { 0 = k.last } })
-judged_of (refused why) = judged.Refused (refusal_from why)
+abbrev judged_of : Outcome Known → Result GoodFile Refusal
+judged_of (fine k) = Ok (record { summary = summary_of k.summary; limit = k.limit; last = record { 0 = k.last } })
+judged_of (refused why) = Err (refusal_from why)
 
-same-judged : (v : Judged) → judged_of (judged_meant v) ≡ v
-same-judged (judged.Accepted g) = refl
-same-judged (judged.Refused why) = refl
+same-judged : (v : Result GoodFile Refusal) → judged_of (judged_meant v) ≡ v
+same-judged (Ok g) = refl
+same-judged (Err why) = ap Err (same-refusal why)
 
 abbrev known : Bytes → Outcome Known
 known file =
     judge file
     >>= λ s. fine (record { summary = s; limit = combine.limit_of (header_in file); last = size_of_all (header_in file ++ combine.concat (groups_in file)) })
 
-judged-says : (file : Bytes) (v : Judged) → JudgedIs v file → judged_meant v ≡ known file
-judged-says file (judged.Accepted g) good = rw (good.accepts, good.limit, good.last)
-judged-says file (judged.Refused why) e = rw e
+judged-says : (file : Bytes) (v : Result GoodFile Refusal) → JudgedIs v file → judged_meant v ≡ known file
+judged-says file (Ok g) good = rw (good.accepts, good.limit, good.last)
+judged-says file (Err why) e = rw e
 
 -- read_file::judge_file
-pub judged-one : (file : Bytes) (v w : Judged) → JudgedIs v file → JudgedIs w file → v ≡ w
+pub judged-one : (file : Bytes) (v w : Result GoodFile Refusal) → JudgedIs v file → JudgedIs w file → v ≡ w
 judged-one file v w x y = one_answer judged_meant judged_of same-judged (known file) v w (judged-says file v x) (judged-says file w y)
 
 -- bai2_read
@@ -205,11 +201,16 @@ c-combine-one a b before =
 pub slice-one : (promised x y : Bytes) → x ≡ promised → y ≡ promised → x ≡ y
 slice-one = one_answer (λ (x : Bytes). x) (λ (x : Bytes). x) (λ x. refl)
 
+abbrev part_from : rules.PartAnswer → Result Part Refusal
+part_from m = result_from (record { start = record { 0 = m.start }; length = m.len }) m.refusal
+
+same-part : (p : Result Part Refusal) → part_from (parts.part_meant p) ≡ p
+same-part (Ok p) = refl
+same-part (Err why) = same_err _ why
+
 -- part_groups::find_group, find_account, find_detail
-pub part-one : (promised : rules.PartAnswer) (x y : Part) → parts.part_meant x ≡ promised → parts.part_meant y ≡ promised → x ≡ y
-part-one =
-    one_answer parts.part_meant (λ (m : rules.PartAnswer). record { refusal = refusal_from m.refusal; start = record { 0 = m.start }; length = m.len })
-    (λ x. refl)
+pub part-one : (promised : rules.PartAnswer) (x y : Result Part Refusal) → parts.part_meant x ≡ promised → parts.part_meant y ≡ promised → x ≡ y
+part-one = one_answer parts.part_meant part_from same-part
 
 -- bai2_group, bai2_account
 pub c-part-one : (promised : rules.PartAnswer) (x y : Bai2Part) → part_meant x ≡ promised → part_meant y ≡ promised → x ≡ y
