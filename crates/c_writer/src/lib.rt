@@ -2,17 +2,19 @@
 
 #![tactic(auto)]
 
-ghost use Rattle.std.specs.Prelude.{◌≡◌, []};
+ghost use Rattle.std.specs.Prelude.{◌≡◌, ◌≢◌, [], IfErr};
 ghost use Rattle.base_quantities.specs.QuantityMeanings.{signed_meant};
 ghost use Rattle.write_line.specs.DraftMeaning.{amount_given, items_given};
 ghost use Rattle.base_totals.specs.SummaryMeaning.{summary_meant};
+ghost use Rattle.write_state.specs.declared.Writer as state;
 ghost use Rattle.write_state.specs.WriterMeaning.{phase_meant, writer_meant, written_meant};
-ghost use Rattle.c_writer.specs.WriterFigures.{summary_of, figures_of, phase_of, phase_number, flag, size_of, state_of, numbers_of, numbers_after, answer_of, signed_of, amount_asked, items_asked};
+ghost use Rattle.c_writer.specs.WriterFigures.{summary_of, figures_of, phase_of, phase_number, flag, size_of, state_of, numbers_of, answer_of, signed_of, amount_asked, items_asked};
 
 use base_limits::LONGEST_FILE;
 use base_quantities::{Count, Magnitude, Place, Records, Signed, Units};
+use base_refusals::Refusal;
 use base_totals::Summary;
-use write_line::{Items, MaybeAmount, MaybeItems};
+use write_line::Items;
 use write_state::{Phase, Writer, Written};
 
 // A summary in figures.
@@ -164,28 +166,23 @@ pub fn numbers_of(w: Writer) -> Bai2Writer
     }
 }
 
-// The numbers after a call: the new state's where it was accepted, those given where it was refused.
-fn numbers_after(given: Bai2Writer, r: Written) -> Bai2Writer
-    ensures { result ≡ numbers_after given (written_meant r []) }
+// The answer for C, at any state before the call: where it was refused, the numbers given stay.
+pub fn answered(given: Bai2Writer, r: Result<Written, Refusal>) -> Bai2Written
+    ensures { (w : state.Writer) → IfErr r (λ why. why.number ≢ 0) → result ≡ answer_of given (written_meant w r []) }
 {
-    let why = r.refusal;
-    if why.number != 0 {
-        return given;
-    }
-    numbers_of(r.writer)
-}
-
-// The answer for C.
-pub fn answered(given: Bai2Writer, r: Written) -> Bai2Written
-    ensures { result ≡ answer_of given (written_meant r []) }
-{
-    let why = r.refusal;
-    let place = why.place;
-    Bai2Written {
-        number: why.number,
-        place: place.0 as u64,
-        length: r.length as u64,
-        writer: numbers_after(given, r),
+    match r {
+        Ok(done) => Bai2Written {
+            number: 0,
+            place: 0,
+            length: done.length as u64,
+            writer: numbers_of(done.writer),
+        },
+        Err(why) => Bai2Written {
+            number: why.number,
+            place: why.place.0 as u64,
+            length: 0,
+            writer: given,
+        },
     }
 }
 
@@ -208,21 +205,21 @@ fn signed_of(n: i64) -> Signed
 }
 
 // The amount, or none where none is given.
-pub fn amount_asked(given: u64, n: i64) -> MaybeAmount
+pub fn amount_asked(given: u64, n: i64) -> Option<Signed>
     ensures { amount_given result ≡ amount_asked given n }
 {
     if given == 0 {
-        return MaybeAmount::NoAmount;
+        return None;
     }
-    MaybeAmount::Given(signed_of(n))
+    Some(signed_of(n))
 }
 
 // The number of items, or none where none is given.
-pub fn items_asked(given: u64, n: u64) -> MaybeItems
+pub fn items_asked(given: u64, n: u64) -> Option<Items>
     ensures { items_given result ≡ items_asked given n }
 {
     if given == 0 {
-        return MaybeItems::NoItems;
+        return None;
     }
-    MaybeItems::Given(Items(n))
+    Some(Items(n))
 }

@@ -14,8 +14,9 @@ use Rattle.rules.specs.Writer as rules
 use Rattle.rules.specs.Writer.{Item, Call, write}
 use Rattle.rules.proofs.Tests.{Known, holds, fails, known}
 use Rattle.write_line.specs.DraftMeaning.{amount_given, items_given}
-use Rattle.write_line.specs.declared.MaybeAmount.{MaybeAmount}
-use Rattle.write_line.specs.declared.MaybeItems.{MaybeItems}
+use Rattle.std.specs.Prelude as prelude
+use Rattle.base_quantities.specs.declared.Signed.{Signed}
+use Rattle.write_line.specs.declared.Items.{Items}
 use Rattle.write_state.specs.WriterMeaning.{writer_meant, written_meant}
 use Rattle.write_state.specs.declared.Writer.{Writer}
 use Rattle.write_state.specs.declared.Written.{Written}
@@ -35,10 +36,10 @@ pub written_as : (s : rules.Writer) (before : Bytes) (asked call : Call) (r : ru
 written_as s before asked call r h e = h ∙ ap (λ (x : Call). write s x before) e
 
 -- an amount, as the number that was handed on is stored and read
-pub amount-is : (given : ℕ) (n : ℤ) (a : MaybeAmount) → SFits w64 n → amount_given a ≡ amount_asked given (to_z w64 (of_z w64 n)) → amount_given a ≡ amount_asked given n
+pub amount-is : (given : ℕ) (n : ℤ) (a : prelude.Option Signed) → SFits w64 n → amount_given a ≡ amount_asked given (to_z w64 (of_z w64 n)) → amount_given a ≡ amount_asked given n
 amount-is given n a fits e = e ∙ ap (λ (z : ℤ). amount_asked given z) (to_z-of_z w64 n fits)
 
-module _ (type : Bytes) (g h count : ℕ) (amount : ℤ) (a : MaybeAmount) (n : MaybeItems) (e : amount_given a ≡ amount_asked g amount) (f : items_given n ≡ items_asked h count) where
+module _ (type : Bytes) (g h count : ℕ) (amount : ℤ) (a : prelude.Option Signed) (n : prelude.Option Items) (e : amount_given a ≡ amount_asked g amount) (f : items_given n ≡ items_asked h count) where
   -- an item
   pub item-is : item_meant type a n ≡ item_of type g amount h count
   item-is = rw (e, f)

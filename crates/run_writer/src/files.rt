@@ -1,8 +1,9 @@
 // Two files: K1, and one with every call of the writer.
 use crate::amounts::{minus, plus};
 use crate::printing::after;
+use base_quantities::Signed;
 use std::io;
-use write_line::{Items, MaybeAmount, MaybeItems};
+use write_line::Items;
 use write_state::Writer;
 
 // K1 of document 01; the writer leaves the 16's funds empty.
@@ -10,10 +11,12 @@ pub fn k1(rt: &impl Print, out: &mut [u8]) -> io::Result<Writer> {
     let w = Writer::new();
     let w = after(
         rt,
+        w,
         write_calls::header(w, b"122099999", b"123456789", b"040621", b"0200", b"1", out),
     )?;
     let w = after(
         rt,
+        w,
         write_calls::group(
             w,
             b"031001234",
@@ -29,6 +32,7 @@ pub fn k1(rt: &impl Print, out: &mut [u8]) -> io::Result<Writer> {
     let w = status_account(rt, w, b"0975312468", b"USD", b"010", minus(500), out)?;
     let w = after(
         rt,
+        w,
         write_calls::detail(
             w,
             b"165",
@@ -49,29 +53,21 @@ fn status_account(
     number: &[u8],
     currency: &[u8],
     type_code: &[u8],
-    amount: MaybeAmount,
+    amount: Option<Signed>,
     out: &mut [u8],
 ) -> io::Result<Writer> {
     after(
         rt,
-        write_calls::account(
-            w,
-            number,
-            currency,
-            true,
-            type_code,
-            amount,
-            MaybeItems::NoItems,
-            out,
-        ),
+        w,
+        write_calls::account(w, number, currency, true, type_code, amount, None, out),
     )
 }
 
 // The ends of account, group and file.
 fn end_all(rt: &impl Print, w: Writer, out: &mut [u8]) -> io::Result<Writer> {
-    let w = after(rt, write_ends::end_account(w, out))?;
-    let w = after(rt, write_ends::end_group(w, out))?;
-    after(rt, write_ends::end_file(w, out))
+    let w = after(rt, w, write_ends::end_account(w, out))?;
+    let w = after(rt, w, write_ends::end_group(w, out))?;
+    after(rt, w, write_ends::end_file(w, out))
 }
 
 // A file of two groups with every call.
@@ -79,6 +75,7 @@ pub fn every_call(rt: &impl Print, out: &mut [u8]) -> io::Result<Writer> {
     let w = Writer::new();
     let w = after(
         rt,
+        w,
         write_calls::header(
             w,
             b"BANK A",
@@ -92,6 +89,7 @@ pub fn every_call(rt: &impl Print, out: &mut [u8]) -> io::Result<Writer> {
     let w = two_accounts(rt, w, out)?;
     let w = after(
         rt,
+        w,
         write_calls::group(
             w,
             b"031001234",
@@ -112,41 +110,27 @@ pub fn every_call(rt: &impl Print, out: &mut [u8]) -> io::Result<Writer> {
 fn two_accounts(rt: &impl Print, w: Writer, out: &mut [u8]) -> io::Result<Writer> {
     let w = after(
         rt,
+        w,
         write_calls::group(w, b"", b"BANK A", b"1", b"240228", b"", b"USD", b"", out),
     )?;
     let w = without_items(rt, w, out)?;
     let w = with_items(rt, w, out)?;
-    after(rt, write_ends::end_group(w, out))
+    after(rt, w, write_ends::end_group(w, out))
 }
 
 // An account without an item, and a detail without an amount.
 fn without_items(rt: &impl Print, w: Writer, out: &mut [u8]) -> io::Result<Writer> {
     let w = after(
         rt,
-        write_calls::account(
-            w,
-            b"0012345",
-            b"",
-            false,
-            b"",
-            MaybeAmount::NoAmount,
-            MaybeItems::NoItems,
-            out,
-        ),
+        w,
+        write_calls::account(w, b"0012345", b"", false, b"", None, None, out),
     )?;
     let w = after(
         rt,
-        write_calls::detail(
-            w,
-            b"890",
-            MaybeAmount::NoAmount,
-            b"",
-            b"",
-            b"PLEASE CALL 9/5, ROOM 7",
-            out,
-        ),
+        w,
+        write_calls::detail(w, b"890", None, b"", b"", b"PLEASE CALL 9/5, ROOM 7", out),
     )?;
-    after(rt, write_ends::end_account(w, out))
+    after(rt, w, write_ends::end_account(w, out))
 }
 
 // An account with three items, a credit and a debit.
@@ -154,12 +138,10 @@ fn with_items(rt: &impl Print, w: Writer, out: &mut [u8]) -> io::Result<Writer> 
     let w = status_account(rt, w, b"0099887766", b"CAD", b"010", minus(250_075), out)?;
     let w = after(
         rt,
-        write_calls::item(w, b"100", plus(300_000), MaybeItems::Given(Items(2)), out),
+        w,
+        write_calls::item(w, b"100", plus(300_000), Some(Items(2)), out),
     )?;
-    let w = after(
-        rt,
-        write_calls::item(w, b"400", plus(50_000), MaybeItems::NoItems, out),
-    )?;
+    let w = after(rt, w, write_calls::item(w, b"400", plus(50_000), None, out))?;
     credit_and_debit(rt, w, out)
 }
 
@@ -167,11 +149,13 @@ fn with_items(rt: &impl Print, w: Writer, out: &mut [u8]) -> io::Result<Writer> 
 fn credit_and_debit(rt: &impl Print, w: Writer, out: &mut [u8]) -> io::Result<Writer> {
     let w = after(
         rt,
+        w,
         write_calls::detail(w, b"165", plus(300_000), b"DD1620", b"REF 7", b"", out),
     )?;
     let w = after(
         rt,
+        w,
         write_calls::detail(w, b"475", plus(50_000), b"", b"", b"CHECK 000123", out),
     )?;
-    after(rt, write_ends::end_account(w, out))
+    after(rt, w, write_ends::end_account(w, out))
 }

@@ -1,8 +1,9 @@
 // Calls that are refused: 19, 20, 10 and 15. Each leaves all that was written as it stood.
 use crate::amounts::{minus, plus};
 use crate::printing::{after, print_answer, print_file};
+use base_quantities::Signed;
 use std::io;
-use write_line::{Items, MaybeAmount, MaybeItems};
+use write_line::Items;
 use write_state::Writer;
 
 // A writer after a header, a group and an account without an item.
@@ -10,24 +11,18 @@ fn in_account(rt: &impl Print, out: &mut [u8]) -> io::Result<Writer> {
     let w = Writer::new();
     let w = after(
         rt,
+        w,
         write_calls::header(w, b"A", b"B", b"240229", b"0000", b"0", out),
     )?;
     let w = after(
         rt,
+        w,
         write_calls::group(w, b"B", b"A", b"1", b"240229", b"", b"", b"", out),
     )?;
     after(
         rt,
-        write_calls::account(
-            w,
-            b"7",
-            b"",
-            false,
-            b"",
-            MaybeAmount::NoAmount,
-            MaybeItems::NoItems,
-            out,
-        ),
+        w,
+        write_calls::account(w, b"7", b"", false, b"", None, None, out),
     )
 }
 
@@ -43,6 +38,7 @@ fn try_header(
     print_answer(
         rt,
         tried,
+        w,
         write_calls::header(w, sender, b"B", date, b"0000", b"0", out),
     )
 }
@@ -52,7 +48,8 @@ fn try_item(rt: &impl Print, tried: &[u8], w: Writer, out: &mut [u8]) -> io::Res
     print_answer(
         rt,
         tried,
-        write_calls::item(w, b"010", plus(1), MaybeItems::NoItems, out),
+        w,
+        write_calls::item(w, b"010", plus(1), None, out),
     )
 }
 
@@ -62,13 +59,14 @@ fn try_detail(
     tried: &[u8],
     w: Writer,
     type_code: &[u8],
-    amount: MaybeAmount,
+    amount: Option<Signed>,
     text: &[u8],
     out: &mut [u8],
 ) -> io::Result<()> {
     print_answer(
         rt,
         tried,
+        w,
         write_calls::detail(w, type_code, amount, b"", b"", text, out),
     )
 }
@@ -78,11 +76,12 @@ fn short_detail(
     rt: &impl Print,
     w: Writer,
     type_code: &[u8],
-    amount: MaybeAmount,
+    amount: Option<Signed>,
     out: &mut [u8],
 ) -> io::Result<Writer> {
     after(
         rt,
+        w,
         write_calls::detail(w, type_code, amount, b"", b"", b"", out),
     )
 }
@@ -92,6 +91,7 @@ pub fn out_of_turn(rt: &impl Print, out: &mut [u8]) -> io::Result<()> {
     print_answer(
         rt,
         b"end of a file that was not begun",
+        Writer::new(),
         write_ends::end_file(Writer::new(), out),
     )?;
     let w = in_account(rt, out)?;
@@ -99,6 +99,7 @@ pub fn out_of_turn(rt: &impl Print, out: &mut [u8]) -> io::Result<()> {
     print_answer(
         rt,
         b"end of a group with an open account",
+        w,
         write_ends::end_group(w, out),
     )?;
     try_item(rt, b"item after an account with none", w, out)?;
@@ -109,7 +110,7 @@ pub fn out_of_turn(rt: &impl Print, out: &mut [u8]) -> io::Result<()> {
 fn after_a_detail(rt: &impl Print, w: Writer, out: &mut [u8]) -> io::Result<()> {
     let w = short_detail(rt, w, b"165", plus(1), out)?;
     try_item(rt, b"item after a detail", w, out)?;
-    let w = after(rt, write_ends::end_account(w, out))?;
+    let w = after(rt, w, write_ends::end_account(w, out))?;
     try_detail(
         rt,
         b"detail after its account",
@@ -149,20 +150,12 @@ pub fn bad_fields(rt: &impl Print, out: &mut [u8]) -> io::Result<()> {
 
 // 20: a count beside a customised status.
 fn counted_status(rt: &impl Print, w: Writer, out: &mut [u8]) -> io::Result<()> {
-    let w = after(rt, write_ends::end_account(w, out))?;
+    let w = after(rt, w, write_ends::end_account(w, out))?;
     print_answer(
         rt,
         b"count of a customised status",
-        write_calls::account(
-            w,
-            b"8",
-            b"",
-            true,
-            b"905",
-            minus(1),
-            MaybeItems::Given(Items(1)),
-            out,
-        ),
+        w,
+        write_calls::account(w, b"8", b"", true, b"905", minus(1), Some(Items(1)), out),
     )
 }
 
@@ -225,8 +218,9 @@ pub fn too_much(rt: &impl Print, out: &mut [u8]) -> io::Result<()> {
     print_answer(
         rt,
         b"slice of 10 bytes",
+        w,
         write_ends::end_account(w, &mut short[0..10]),
     )?;
-    let w = after(rt, write_ends::end_account(w, out))?;
+    let w = after(rt, w, write_ends::end_account(w, out))?;
     print_file(rt, w, out)
 }

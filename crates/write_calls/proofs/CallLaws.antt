@@ -23,8 +23,9 @@ use Rattle.write_line.specs.declared.Draft.{Draft}
 use Rattle.write_records.specs.RecordLines.{line_drawn}
 use Rattle.write_records.proofs.LinesSaid.{line-said, line-text-said}
 use Rattle.write_line.proofs.FieldChains.{no_text, line_sofar, chain-is, fields_fit}
-use Rattle.write_line.specs.declared.MaybeAmount.{MaybeAmount}
-use Rattle.write_line.specs.declared.MaybeItems.{MaybeItems}
+use Rattle.std.specs.Prelude as prelude
+use Rattle.base_quantities.specs.declared.Signed as quantities
+use Rattle.write_line.specs.declared.Items.{Items}
 use Rattle.write_commit.proofs.LinesCommitted.{Drafts, good-line, bad-field, bad-text, slash_line, slash-drafts, none-wanted, answered, answers, zero_space}
 use Rattle.write_calls.specs.ItemMeaning.{item_meant, given_item}
 
@@ -121,6 +122,6 @@ pub no_item : (w : Writer) (n c out : Bytes) → write w (write_account n c (som
 unfolding write given
 no_item w n c out = refl
 
-pub with_item : (w : Writer) (n c y out : Bytes) (a : MaybeAmount) (k : MaybeItems) (g : Bool) {r : Written} → g ≡ true
+pub with_item : (w : Writer) (n c y out : Bytes) (a : prelude.Option quantities.Signed) (k : prelude.Option Items) (g : Bool) {r : Written} → g ≡ true
     → r ≡ write w (write_account n c (some (item_meant y a k))) out → r ≡ write w (write_account n c (given_item g y a k)) out
 with_item w n c y out a k g e h = rw e h

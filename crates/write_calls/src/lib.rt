@@ -10,8 +10,9 @@ ghost use Rattle.write_state.specs.WriterMeaning.{writer_meant, written_meant};
 ghost use Rattle.write_calls.specs.ItemMeaning.{item_meant, given_item};
 
 use base_codes::Code;
-use base_quantities::Units;
-use write_line::{LINE_SPACE, MaybeAmount, MaybeItems};
+use base_quantities::{Signed, Units};
+use base_refusals::Refusal;
+use write_line::{Items, LINE_SPACE};
 use write_state::{Writer, Written};
 
 // An account with an item, which may be empty.
@@ -20,11 +21,11 @@ fn open_account(
     number: &[u8],
     currency: &[u8],
     type_code: &[u8],
-    amount: MaybeAmount,
-    count: MaybeItems,
+    amount: Option<Signed>,
+    count: Option<Items>,
     out: &mut [u8],
-) -> Written
-    ensures { written_meant result out.new ≡ rules.write (writer_meant w)
+) -> Result<Written, Refusal>
+    ensures { written_meant w result out.new ≡ rules.write (writer_meant w)
         (rules.write_account number.now currency.now (given_item true type_code.now amount count))
         out.old }
 {
@@ -44,8 +45,8 @@ pub fn header(
     time: &[u8],
     file_number: &[u8],
     out: &mut [u8],
-) -> Written
-    ensures { written_meant result out.new ≡ rules.write (writer_meant w)
+) -> Result<Written, Refusal>
+    ensures { written_meant w result out.new ≡ rules.write (writer_meant w)
         (rules.write_header sender.now receiver.now date.now time.now file_number.now)
         out.old }
 {
@@ -65,8 +66,8 @@ pub fn group(
     currency: &[u8],
     modifier: &[u8],
     out: &mut [u8],
-) -> Written
-    ensures { written_meant result out.new ≡ rules.write (writer_meant w)
+) -> Result<Written, Refusal>
+    ensures { written_meant w result out.new ≡ rules.write (writer_meant w)
         (rules.write_group receiver.now originator.now status.now date.now time.now currency.now modifier.now)
         out.old }
 {
@@ -84,11 +85,11 @@ pub fn account(
     currency: &[u8],
     item_given: bool,
     type_code: &[u8],
-    amount: MaybeAmount,
-    count: MaybeItems,
+    amount: Option<Signed>,
+    count: Option<Items>,
     out: &mut [u8],
-) -> Written
-    ensures { written_meant result out.new ≡ rules.write (writer_meant w)
+) -> Result<Written, Refusal>
+    ensures { written_meant w result out.new ≡ rules.write (writer_meant w)
         (rules.write_account number.now currency.now (given_item item_given type_code.now amount count))
         out.old }
 {
@@ -96,26 +97,18 @@ pub fn account(
         return open_account(w, number, currency, type_code, amount, count, out);
     }
     let none = [0u8];
-    open_account(
-        w,
-        number,
-        currency,
-        &none[0..0],
-        MaybeAmount::NoAmount,
-        MaybeItems::NoItems,
-        out,
-    )
+    open_account(w, number, currency, &none[0..0], None, None, out)
 }
 
 // A further item of the account: a line 88.
 pub fn item(
     w: Writer,
     type_code: &[u8],
-    amount: MaybeAmount,
-    count: MaybeItems,
+    amount: Option<Signed>,
+    count: Option<Items>,
     out: &mut [u8],
-) -> Written
-    ensures { written_meant result out.new ≡ rules.write (writer_meant w)
+) -> Result<Written, Refusal>
+    ensures { written_meant w result out.new ≡ rules.write (writer_meant w)
         (rules.write_item (item_meant type_code.now amount count))
         out.old }
 {
@@ -129,13 +122,13 @@ pub fn item(
 pub fn detail(
     w: Writer,
     type_code: &[u8],
-    amount: MaybeAmount,
+    amount: Option<Signed>,
     bank_reference: &[u8],
     customer_reference: &[u8],
     text: &[u8],
     out: &mut [u8],
-) -> Written
-    ensures { written_meant result out.new ≡ rules.write (writer_meant w)
+) -> Result<Written, Refusal>
+    ensures { written_meant w result out.new ≡ rules.write (writer_meant w)
         (rules.write_detail type_code.now (amount_given amount) bank_reference.now customer_reference.now text.now)
         out.old }
 {

@@ -1,15 +1,15 @@
--- A refusal, and a good field. Assumes nothing.
-use Rattle.std.specs.Prelude.{ℕ, Bool, true, false}
-use Rattle.read_wanted.specs.declared.Taken.{Taken}
-use Rattle.read_wanted.specs.declared.Taken.TheVariants.{Next, Refused}
-use Rattle.write_state.specs.declared.Writer.{Writer}
-use Rattle.write_state.specs.declared.Written.{Written}
+-- What a refused call answers, and a room that is there or not. Assumes nothing.
+use Rattle.std.specs.Prelude.{ℕ, Result, Ok, Err}
+use Rattle.rules.specs.Outcome as rules
+use Rattle.rules.specs.Outcome.{Outcome, fine, refused}
+use Rattle.base_refusals.specs.RefusalMeaning.{refusal_meant}
+use Rattle.base_refusals.specs.declared.Refusal.{Refusal}
 
--- a refusal with this number; stands for `written_by` of a refusal (rules/specs/Writer.antt): joined by `refuses` (proofs/CommitLaws.antt)
-abbrev pub refused_by : Writer → ℕ → Written
-refused_by w n = record { refusal = record { number = n; place = record { 0 = 0 } }; length = 0; writer = w }
+-- the refusal with this number: no byte of a file shows it
+abbrev pub refused_by : ℕ → rules.Refusal
+refused_by n = record { number = n; place = 0 }
 
--- a field was good
-abbrev pub is_next : Taken → Bool
-is_next (Next want) = true
-is_next (Refused n) = false
+-- there is room, or a refusal
+abbrev pub room_meant : Result (Unit {0}) Refusal → Outcome (Unit {0})
+room_meant (Ok u) = fine tt
+room_meant (Err why) = refused (refusal_meant why)

@@ -12,13 +12,14 @@ ghost use Rattle.write_ends.specs.EndLines.{ended};
 
 use base_codes::Code;
 use base_quantities::{Count, Records, Units};
+use base_refusals::Refusal;
 use base_totals::Summary;
 use write_line::LINE_SPACE;
 use write_state::{Writer, Written};
 
 // The line 49.
-pub fn end_account(w: Writer, out: &mut [u8]) -> Written
-    ensures { written_meant result out.new ≡ rules.write (writer_meant w) rules.end_account out.old }
+pub fn end_account(w: Writer, out: &mut [u8]) -> Result<Written, Refusal>
+    ensures { written_meant w result out.new ≡ rules.write (writer_meant w) rules.end_account out.old }
 {
     let account = w.account;
     let records = account.records.add(Records(1));
@@ -36,8 +37,14 @@ pub fn end_account(w: Writer, out: &mut [u8]) -> Written
 }
 
 // The line 98 or 99: the total, this count, and the records with itself.
-fn end(w: Writer, code: Code, summary: Summary, count: Count, out: &mut [u8]) -> Written
-    ensures { written_meant result out.new ≡ ended (writer_meant w) (code_meant code) (summary_meant summary) count.0 out.old }
+fn end(
+    w: Writer,
+    code: Code,
+    summary: Summary,
+    count: Count,
+    out: &mut [u8],
+) -> Result<Written, Refusal>
+    ensures { written_meant w result out.new ≡ ended (writer_meant w) (code_meant code) (summary_meant summary) count.0 out.old }
 {
     let records = summary.records.add(Records(1));
     let mut space = [0u8; LINE_SPACE];
@@ -46,16 +53,16 @@ fn end(w: Writer, code: Code, summary: Summary, count: Count, out: &mut [u8]) ->
 }
 
 // The line 98.
-pub fn end_group(w: Writer, out: &mut [u8]) -> Written
-    ensures { written_meant result out.new ≡ rules.write (writer_meant w) rules.end_group out.old }
+pub fn end_group(w: Writer, out: &mut [u8]) -> Result<Written, Refusal>
+    ensures { written_meant w result out.new ≡ rules.write (writer_meant w) rules.end_group out.old }
 {
     let group = w.group;
     end(w, Code::GroupTrailer, group, group.accounts, out)
 }
 
 // The line 99.
-pub fn end_file(w: Writer, out: &mut [u8]) -> Written
-    ensures { written_meant result out.new ≡ rules.write (writer_meant w) rules.end_file out.old }
+pub fn end_file(w: Writer, out: &mut [u8]) -> Result<Written, Refusal>
+    ensures { written_meant w result out.new ≡ rules.write (writer_meant w) rules.end_file out.old }
 {
     let file = w.file;
     end(w, Code::FileTrailer, file, file.groups, out)

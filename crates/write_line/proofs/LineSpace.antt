@@ -27,8 +27,7 @@ use Rattle.laws_writer.proofs.LinesWritten.{code-bytes}
 use Rattle.laws_writer.proofs.Placing.{placed-more}
 use Rattle.read_wanted.specs.Wants.{wanted_of}
 use Rattle.read_wanted.specs.TakenMeaning.{judged_of}
-use Rattle.read_wanted.specs.declared.Taken.{Taken}
-use Rattle.read_wanted.specs.declared.Taken.TheVariants.{Next, Refused}
+use Rattle.std.specs.Prelude.{Result, Ok, Err}
 use Rattle.read_wanted.specs.declared.want.Want.{Want}
 use Rattle.write_line.specs.DraftMeaning.{wanting}
 use Rattle.write_line.specs.DrawnLine.{drawn_of, code_drawn, field_drawn, text_drawn}
@@ -64,7 +63,7 @@ unfolding good_text
 text-short t h = leb-true (length t) 76 (and_left (leb (length t) 76) _ h)
 
 abbrev pub refused_draft : Draft
-refused_draft = record { taken = Refused 20; len = 0 }
+refused_draft = record { taken = Err 20; len = 0 }
 
 module _ (line : Bytes) (len : ℕ) where
   module _ (want : Want) (f : Bytes) (mark : ℕ) where
@@ -82,7 +81,7 @@ module _ (line : Bytes) (len : ℕ) where
     field-unclean e = rw (e, and-false (leb (len + 77) 640))
 
     -- else it is put with its mark, and judged
-    pub field_put : (t : Taken) (put now : Bytes) → length line ≡ 640 → len + 77 ≤ 640 → length f ≤ 76 → clean f ≡ true → judged_of t ≡ take_next (wanted_of want) f
+    pub field_put : (t : Result Want ℕ) (put now : Bytes) → length line ≡ 640 → len + 77 ≤ 640 → length f ≤ 76 → clean f ≡ true → judged_of t ≡ take_next (wanted_of want) f
         → put ≡ cond (leb (len + length f) (length line)) (placed len f line) line → now ≡ set put (len + length f) mark
         → drawn_of now (record { taken = t; len = len + length f + 1 }) ≡ field_drawn f mark (drawn_of line (wanting want len))
     unfolding drawn_of judged_of field_drawn
@@ -118,7 +117,7 @@ module _ (line : Bytes) (len : ℕ) where
         rw (le-leb (len + 77) 640 h, g, none-empty t e, q)
 
 -- a refused draft stays
-module _ (line : Bytes) (d : Draft) (n : ℕ) (e : d.taken ≡ Refused n) where
+module _ (line : Bytes) (d : Draft) (n : ℕ) (e : d.taken ≡ Err n) where
   pub refused-stays : (f : Bytes) (mark : ℕ) → drawn_of line d ≡ field_drawn f mark (drawn_of line d)
   unfolding drawn_of judged_of field_drawn
   refused-stays f mark = rw e
@@ -128,7 +127,7 @@ module _ (line : Bytes) (d : Draft) (n : ℕ) (e : d.taken ≡ Refused n) where
   refused-text t = rw e
 
 -- what is wanted says what a draft says
-pub wanted-is : (line : Bytes) (d : Draft) (want : Want) → d.taken ≡ Next want → drawn_of line d ≡ drawn_of line (wanting want d.len)
+pub wanted-is : (line : Bytes) (d : Draft) (want : Want) → d.taken ≡ Ok want → drawn_of line d ≡ drawn_of line (wanting want d.len)
 unfolding drawn_of
 wanted-is line d want e = rw e
 

@@ -25,23 +25,9 @@ pub struct Draft {
     pub len: usize,
 }
 
-// An amount or none.
-#[derive(Clone, Copy)]
-pub enum MaybeAmount {
-    Given(Signed),
-    NoAmount,
-}
-
 // How many items a summary item stands for: document 01's item count.
 #[derive(Clone, Copy)]
 pub struct Items(pub u64);
-
-// A number of items or none.
-#[derive(Clone, Copy)]
-pub enum MaybeItems {
-    Given(Items),
-    NoItems,
-}
 
 // The space of a line in the making: room for a code, and eight fields of 76 bytes with their marks.
 pub const LINE_SPACE: usize = 640;
@@ -95,7 +81,7 @@ pub fn begin(line: &mut [u8; LINE_SPACE], code: Code, want: Want) -> Draft
     let bytes = [digits.0, digits.1, b','];
     put_at(line, Place(0), &bytes[0..3]);
     Draft {
-        taken: Taken::Next(want),
+        taken: Ok(want),
         len: 3,
     }
 }
@@ -106,7 +92,7 @@ fn add_wanted(line: &mut [u8], len: usize, want: Want, f: &[u8], mark: u8) -> Dr
     ensures { drawn_of line.new result ≡ field_drawn f.now mark (drawn_of line.old (wanting want len)) }
 {
     let refused = Draft {
-        taken: Taken::Refused(WRONG_FIELD_GIVEN),
+        taken: Err(WRONG_FIELD_GIVEN),
         len: 0,
     };
     if LINE_SPACE - LONGEST_NAME - 1 < len {
@@ -132,8 +118,8 @@ pub fn add(line: &mut [u8; LINE_SPACE], d: Draft, f: &[u8], mark: u8) -> Draft
 {
     let taken = d.taken;
     match taken {
-        Taken::Next(want) => add_wanted(line, d.len, want, f, mark),
-        Taken::Refused(_) => d,
+        Ok(want) => add_wanted(line, d.len, want, f, mark),
+        Err(_) => d,
     }
 }
 
@@ -186,32 +172,32 @@ pub fn add_records(line: &mut [u8; LINE_SPACE], d: Draft, n: Records, mark: u8) 
 }
 
 // What an amount or none adds.
-pub fn sum_given(amount: MaybeAmount) -> Units
+pub fn sum_given(amount: Option<Signed>) -> Units
     ensures { sum_meant result ≡ sum_given (amount_given amount) }
 {
     match amount {
-        MaybeAmount::Given(a) => Units::of(a),
-        MaybeAmount::NoAmount => Units::none(),
+        Some(a) => Units::of(a),
+        None => Units::none(),
     }
 }
 
 // The line with an amount more, or with an empty field where there is none.
-pub fn add_amount(line: &mut [u8; LINE_SPACE], d: Draft, amount: MaybeAmount, mark: u8) -> Draft
+pub fn add_amount(line: &mut [u8; LINE_SPACE], d: Draft, amount: Option<Signed>, mark: u8) -> Draft
     ensures { drawn_of line.new result ≡ field_drawn (amount_bytes (amount_given amount)) mark (drawn_of line.old d) }
 {
     match amount {
-        MaybeAmount::Given(a) => add_total(line, d, Units::of(a), mark),
-        MaybeAmount::NoAmount => add_empty(line, d, mark),
+        Some(a) => add_total(line, d, Units::of(a), mark),
+        None => add_empty(line, d, mark),
     }
 }
 
 // The line with a number of items more, or with an empty field where there is none.
-pub fn add_items(line: &mut [u8; LINE_SPACE], d: Draft, count: MaybeItems, mark: u8) -> Draft
+pub fn add_items(line: &mut [u8; LINE_SPACE], d: Draft, count: Option<Items>, mark: u8) -> Draft
     ensures { drawn_of line.new result ≡ field_drawn (item_count_bytes (items_given count)) mark (drawn_of line.old d) }
 {
     match count {
-        MaybeItems::Given(n) => add_number(line, d, n.0, mark),
-        MaybeItems::NoItems => add_empty(line, d, mark),
+        Some(n) => add_number(line, d, n.0, mark),
+        None => add_empty(line, d, mark),
     }
 }
 
@@ -221,7 +207,7 @@ fn put_text(line: &mut [u8], len: usize, want: Want, t: &[u8]) -> Draft
     ensures { drawn_of line.new result ≡ text_drawn t.now (drawn_of line.old (wanting want len)) }
 {
     let refused = Draft {
-        taken: Taken::Refused(WRONG_FIELD_GIVEN),
+        taken: Err(WRONG_FIELD_GIVEN),
         len: 0,
     };
     if LINE_SPACE - LONGEST_NAME - 1 < len {
@@ -233,13 +219,13 @@ fn put_text(line: &mut [u8], len: usize, want: Want, t: &[u8]) -> Draft
     if t.len() == 0 {
         line[len] = b'/';
         return Draft {
-            taken: Taken::Next(want),
+            taken: Ok(want),
             len: len + 1,
         };
     }
     put_at(line, Place(len), t);
     Draft {
-        taken: Taken::Next(want),
+        taken: Ok(want),
         len: len + t.len(),
     }
 }
@@ -250,7 +236,7 @@ pub fn add_text(line: &mut [u8; LINE_SPACE], d: Draft, t: &[u8]) -> Draft
 {
     let taken = d.taken;
     match taken {
-        Taken::Next(want) => put_text(line, d.len, want, t),
-        Taken::Refused(_) => d,
+        Ok(want) => put_text(line, d.len, want, t),
+        Err(_) => d,
     }
 }

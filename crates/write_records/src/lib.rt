@@ -14,10 +14,10 @@ ghost use Rattle.write_line.specs.DrawnLine.{drawn_of, text_drawn};
 ghost use Rattle.write_records.specs.RecordLines.{line_drawn};
 
 use base_codes::Code;
-use base_quantities::{Count, Records, Units};
+use base_quantities::{Count, Records, Signed, Units};
 use read_wanted::want;
 use read_wanted::want::Want;
-use write_line::{Draft, LINE_SPACE, MaybeAmount, MaybeItems};
+use write_line::{Draft, Items, LINE_SPACE};
 
 // The line 01: L and block size stay empty, and the version is 2.
 pub fn header(
@@ -72,8 +72,8 @@ pub fn account(
     number: &[u8],
     currency: &[u8],
     type_code: &[u8],
-    amount: MaybeAmount,
-    count: MaybeItems,
+    amount: Option<Signed>,
+    count: Option<Items>,
 ) -> Draft
     ensures { drawn_of line.new result ≡ line_drawn lines.account_header (fields_of lines.account_header)
         (number.now ∷ currency.now ∷ type_code.now ∷ amount_bytes (amount_given amount) ∷ item_count_bytes (items_given count) ∷ [] ∷ []) 47 line.old }
@@ -95,8 +95,8 @@ pub fn account(
 pub fn item(
     line: &mut [u8; LINE_SPACE],
     type_code: &[u8],
-    amount: MaybeAmount,
-    count: MaybeItems,
+    amount: Option<Signed>,
+    count: Option<Items>,
 ) -> Draft
     ensures { drawn_of line.new result ≡ line_drawn lines.continuation (further_type ∷ [])
         (type_code.now ∷ amount_bytes (amount_given amount) ∷ item_count_bytes (items_given count) ∷ [] ∷ []) 47 line.old }
@@ -112,7 +112,7 @@ pub fn item(
 pub fn detail(
     line: &mut [u8; LINE_SPACE],
     type_code: &[u8],
-    amount: MaybeAmount,
+    amount: Option<Signed>,
     bank_reference: &[u8],
     customer_reference: &[u8],
     text: &[u8],

@@ -15,7 +15,6 @@ ghost use Rattle.write_state.specs.WriterMeaning.{phase_meant, writer_meant};
 use base_codes::Code;
 use base_limits::{LONGEST_FILE, MOST};
 use base_quantities::{Magnitude, Place, Units};
-use base_refusals::Refusal;
 use base_totals::Summary;
 use read_order::Expected;
 
@@ -41,10 +40,9 @@ pub struct Writer {
     pub account: Summary,
 }
 
-// What a call answers: its refusal, number 0 and place 0 where it was accepted; the length of all bytes so far, 0 where refused; and the state after it.
+// What an accepted call answers: the length of all bytes so far, and the state after it.
 #[derive(Clone, Copy)]
 pub struct Written {
-    pub refusal: Refusal,
     pub length: usize,
     pub writer: Writer,
 }
@@ -152,7 +150,7 @@ pub fn in_turn(code: Code, phase: Phase, items: bool) -> bool
     ensures { result ≡ in_turn (code_meant code) (phase_meant phase) items }
 {
     let expected = expected_in(phase);
-    if !base_codes::same_code(code, Code::Continuation) {
+    if code != Code::Continuation {
         return read_order::allows(expected, code);
     }
     if !items {
