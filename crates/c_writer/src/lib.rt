@@ -2,7 +2,7 @@
 
 #![tactic(auto)]
 
-ghost use Rattle.std.specs.Prelude.{◌≡◌, ◌≢◌, [], IfErr};
+ghost use Rattle.std.specs.Prelude.{◌≡◌, []};
 ghost use Rattle.base_quantities.specs.QuantityMeanings.{signed_meant};
 ghost use Rattle.write_line.specs.DraftMeaning.{amount_given, items_given};
 ghost use Rattle.base_totals.specs.SummaryMeaning.{summary_meant};
@@ -168,7 +168,7 @@ pub fn numbers_of(w: Writer) -> Bai2Writer
 
 // The answer for C, at any state before the call: where it was refused, the numbers given stay.
 pub fn answered(given: Bai2Writer, r: Result<Written, Refusal>) -> Bai2Written
-    ensures { (w : state.Writer) → IfErr r (λ why. why.number ≢ 0) → result ≡ answer_of given (written_meant w r []) }
+    ensures { (w : state.Writer) → result ≡ answer_of given (written_meant w r []) }
 {
     match r {
         Ok(done) => Bai2Written {
@@ -178,7 +178,7 @@ pub fn answered(given: Bai2Writer, r: Result<Written, Refusal>) -> Bai2Written
             writer: numbers_of(done.writer),
         },
         Err(why) => Bai2Written {
-            number: why.number,
+            number: why.reason.number(),
             place: why.place.0 as u64,
             length: 0,
             writer: given,

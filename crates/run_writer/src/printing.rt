@@ -25,7 +25,7 @@ pub fn print_answer(
     print!(rt; ":")?;
     let (number, place, length, after) = match r {
         Ok(done) => (0, 0, done.length, done.writer),
-        Err(why) => (why.number, why.place.0, 0, w),
+        Err(why) => (why.reason.number(), why.place.0, 0, w),
     };
     print_figure(rt, number)?;
     print_figure(rt, place as u64)?;

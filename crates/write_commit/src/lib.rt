@@ -9,52 +9,38 @@ ghost use Rattle.rules.specs.Combine.{has_room};
 ghost use Rattle.rules.specs.Writer.{sound, written_by};
 ghost use Rattle.base_codes.specs.CodeMeaning.{code_meant};
 ghost use Rattle.base_quantities.specs.QuantityMeanings.{sum_meant};
-ghost use Rattle.base_refusals.specs.RefusalMeaning.{refusal_meant};
+ghost use Rattle.base_refusals.specs.RefusalMeaning.{outcome_of};
 ghost use Rattle.write_line.specs.DraftMeaning.{draft_of};
 ghost use Rattle.write_state.specs.WriterMeaning.{writer_meant, written_meant};
-ghost use Rattle.write_commit.specs.CommitAnswers.{refused_by, room_meant};
 ghost use Rattle.write_commit.specs.Commit.{state_after, room_for, committed};
 
 use base_codes::Code;
 use base_limits::LONGEST_FILE;
 use base_quantities::{Place, Records, Units};
-use base_refusals::{
-    AMOUNTS_TOO_LARGE, NO_ROOM, OUT_OF_TURN, RESULT_TOO_LONG, Refusal, WRONG_FIELD_GIVEN,
-};
+use base_refusals::{Reason, Refusal};
 use write_line::{Draft, LINE_SPACE};
 use write_state::{Writer, Written};
 
-// The refusal with this number; no byte of a file shows it.
-fn refused(number: u64) -> Refusal
-    ensures { refusal_meant result ≡ refused_by number }
-{
-    Refusal {
-        number,
-        place: Place(0),
-    }
-}
-
 // 10, 18 or 15 where a line of n bytes that adds this sum has no room.
 fn line_fits(w: Writer, sum: Units, n: usize, room: usize) -> Result<(), Refusal>
-    ensures { room_meant result ≡ room_for (writer_meant w) (sum_meant sum) n room }
+    ensures { outcome_of (λ u. u) result ≡ room_for (writer_meant w) (sum_meant sum) n room }
 {
-    let file = w.file;
-    let Some(_) = file.total.join(sum) else {
-        return Err(refused(AMOUNTS_TOO_LARGE));
-    };
+    if w.file.total.join(sum).is_none() {
+        return Err(Reason::AmountsTooLarge.nowhere());
+    }
     size_fits(w.size, n, room)
 }
 
 // 18 or 15 where n bytes more don't fit the file or the slice.
 fn size_fits(size: Place, n: usize, room: usize) -> Result<(), Refusal>
-    ensures { room_meant result ≡ has_room (size.0 + n) room }
+    ensures { outcome_of (λ u. u) result ≡ has_room (size.0 + n) room }
 {
     let end = size.0;
     if LONGEST_FILE < end || LONGEST_FILE - end < n {
-        return Err(refused(RESULT_TOO_LONG));
+        return Err(Reason::ResultTooLong.nowhere());
     }
     if room < end + n {
-        return Err(refused(NO_ROOM));
+        return Err(Reason::NoRoom.nowhere());
     }
     Ok(())
 }
@@ -96,10 +82,10 @@ pub fn commit(
 {
     let size = w.size;
     if !write_state::is_sound(w) || !write_state::in_turn(code, w.phase, w.items) {
-        return Err(refused(OUT_OF_TURN));
+        return Err(Reason::OutOfTurn.nowhere());
     }
     if d.taken.is_err() {
-        return Err(refused(WRONG_FIELD_GIVEN));
+        return Err(Reason::WrongFieldGiven.nowhere());
     }
     let body = base_slices::front(line, d.len);
     let n = body.len() + 1;

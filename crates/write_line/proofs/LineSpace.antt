@@ -28,6 +28,8 @@ use Rattle.laws_writer.proofs.Placing.{placed-more}
 use Rattle.read_wanted.specs.Wants.{wanted_of}
 use Rattle.read_wanted.specs.TakenMeaning.{judged_of}
 use Rattle.std.specs.Prelude.{Result, Ok, Err}
+use Rattle.base_refusals.specs.declared.Reason.{Reason}
+use Rattle.base_refusals.specs.declared.Reason.TheVariants.{WrongFieldGiven}
 use Rattle.read_wanted.specs.declared.want.Want.{Want}
 use Rattle.write_line.specs.DraftMeaning.{wanting}
 use Rattle.write_line.specs.DrawnLine.{drawn_of, code_drawn, field_drawn, text_drawn}
@@ -63,7 +65,7 @@ unfolding good_text
 text-short t h = leb-true (length t) 76 (and_left (leb (length t) 76) _ h)
 
 abbrev pub refused_draft : Draft
-refused_draft = record { taken = Err 20; len = 0 }
+refused_draft = record { taken = Err WrongFieldGiven; len = 0 }
 
 module _ (line : Bytes) (len : ℕ) where
   module _ (want : Want) (f : Bytes) (mark : ℕ) where
@@ -81,7 +83,7 @@ module _ (line : Bytes) (len : ℕ) where
     field-unclean e = rw (e, and-false (leb (len + 77) 640))
 
     -- else it is put with its mark, and judged
-    pub field_put : (t : Result Want ℕ) (put now : Bytes) → length line ≡ 640 → len + 77 ≤ 640 → length f ≤ 76 → clean f ≡ true → judged_of t ≡ take_next (wanted_of want) f
+    pub field_put : (t : Result Want Reason) (put now : Bytes) → length line ≡ 640 → len + 77 ≤ 640 → length f ≤ 76 → clean f ≡ true → judged_of t ≡ take_next (wanted_of want) f
         → put ≡ cond (leb (len + length f) (length line)) (placed len f line) line → now ≡ set put (len + length f) mark
         → drawn_of now (record { taken = t; len = len + length f + 1 }) ≡ field_drawn f mark (drawn_of line (wanting want len))
     unfolding drawn_of judged_of field_drawn
@@ -117,7 +119,7 @@ module _ (line : Bytes) (len : ℕ) where
         rw (le-leb (len + 77) 640 h, g, none-empty t e, q)
 
 -- a refused draft stays
-module _ (line : Bytes) (d : Draft) (n : ℕ) (e : d.taken ≡ Err n) where
+module _ (line : Bytes) (d : Draft) (why : Reason) (e : d.taken ≡ Err why) where
   pub refused-stays : (f : Bytes) (mark : ℕ) → drawn_of line d ≡ field_drawn f mark (drawn_of line d)
   unfolding drawn_of judged_of field_drawn
   refused-stays f mark = rw e

@@ -14,7 +14,7 @@ ghost use Rattle.write_line.specs.DrawnLine.{drawn_of, code_drawn, field_drawn, 
 use base_codes::Code;
 use base_limits::LONGEST_NAME;
 use base_quantities::{Count, Place, Records, Signed, Units};
-use base_refusals::WRONG_FIELD_GIVEN;
+use base_refusals::Reason;
 use read_wanted::Taken;
 use read_wanted::want::Want;
 
@@ -92,7 +92,7 @@ fn add_wanted(line: &mut [u8], len: usize, want: Want, f: &[u8], mark: u8) -> Dr
     ensures { drawn_of line.new result ≡ field_drawn f.now mark (drawn_of line.old (wanting want len)) }
 {
     let refused = Draft {
-        taken: Err(WRONG_FIELD_GIVEN),
+        taken: Err(Reason::WrongFieldGiven),
         len: 0,
     };
     if LINE_SPACE - LONGEST_NAME - 1 < len {
@@ -207,7 +207,7 @@ fn put_text(line: &mut [u8], len: usize, want: Want, t: &[u8]) -> Draft
     ensures { drawn_of line.new result ≡ text_drawn t.now (drawn_of line.old (wanting want len)) }
 {
     let refused = Draft {
-        taken: Err(WRONG_FIELD_GIVEN),
+        taken: Err(Reason::WrongFieldGiven),
         len: 0,
     };
     if LINE_SPACE - LONGEST_NAME - 1 < len {
