@@ -428,20 +428,22 @@ same_writer w =
 pub new-one : (v w : Writer) → writer_meant v ≡ writing.fresh_writer → writer_meant w ≡ writing.fresh_writer → v ≡ w
 new-one = one_answer writer_meant writer_of same_writer writing.fresh_writer
 
-same-written : (x : Left Written)
-    → ◌≡◌ {A = Left Written}
-    (record { answer = record { refusal = x.answer.refusal; length = x.answer.length; writer = writer_of (writer_meant x.answer.writer) }; slice = x.slice }) x
-same-written x =
-    ap (λ (w : Writer). record { answer = record { refusal = x.answer.refusal; length = x.answer.length; writer = w }; slice = x.slice })
-    (same_writer x.answer.writer)
+written-back : writing.Written → Left (Result Written Refusal)
+written-back m = record { answer = result_from (record { length = m.len; writer = writer_of m.writer }) m.refusal; slice = m.output }
+
+same-written : (state : Writer) (r : Result Written Refusal) (out : Bytes)
+    → ◌≡◌ {A = Left (Result Written Refusal)} (written-back (written_meant state r out)) (record { answer = r; slice = out })
+same-written state (Ok r) out =
+    ap (λ (w : Writer). record { answer = Ok (record { length = r.length; writer = w }); slice = out }) (same_writer r.writer)
+same-written state (Err why) out =
+    ap (λ (r : Result Written Refusal). record { answer = r; slice = out }) (same_err (record { length = 0; writer = writer_of (writer_meant state) }) why)
 
 -- write_calls::header, group, account, item, detail, write_ends::end_account, end_group, end_file: each call on each state
-pub write-one : (w : writing.Writer) (call : writing.Call) (before : Bytes) (x y : Left Written)
-    → written_meant x.answer x.slice ≡ writing.write w call before → written_meant y.answer y.slice ≡ writing.write w call before → x ≡ y
-write-one w call before =
-    one_answer (λ (x : Left Written). written_meant x.answer x.slice)
-    (λ (m : writing.Written). record { answer = record { refusal = refusal_from m.refusal; length = m.len; writer = writer_of m.writer }; slice = m.output })
-    same-written (writing.write w call before)
+pub write-one : (state : Writer) (w : writing.Writer) (call : writing.Call) (before : Bytes) (x y : Left (Result Written Refusal))
+    → written_meant state x.answer x.slice ≡ writing.write w call before → written_meant state y.answer y.slice ≡ writing.write w call before → x ≡ y
+write-one state w call before =
+    one_answer (λ (x : Left (Result Written Refusal)). written_meant state x.answer x.slice) written-back (λ x. same-written state x.answer x.slice)
+    (writing.write w call before)
 
 -- bai2_writer_new
 pub c-new-one : (v w : Bai2Writer) → v ≡ numbers_of writing.fresh_writer → w ≡ numbers_of writing.fresh_writer → v ≡ w
