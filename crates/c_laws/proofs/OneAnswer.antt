@@ -1,13 +1,11 @@
--- One answer for each public call: two results that both meet its promise are equal, and so are the output slices. Each but
--- `fields-one` is `one_answer` of crate `laws`, with the way from the meaning back to the answer. Assumes nothing.
-use Prim.Native.Nat.{ℕ, ◌≤◌}
-use native.Mathlib.Omega.{arith}
-use mathlib.Core.Path.{◌≡◌, refl, sym, ap, ap₂, subst, ◌∙◌}
-use mathlib.Core.Bool.{false, cond}
+-- One answer for each public call: two results that both meet its promise are equal, and so are the output slices. Each
+-- is `one_answer` of crate `laws`, with the way from the meaning back to the answer. Assumes nothing.
+use Prim.Native.Nat.{ℕ}
+use mathlib.Core.Path.{◌≡◌, refl, ap, ap₂}
+use mathlib.Core.Bool.{cond}
 use mathlib.Core.List.{List, ◌++◌}
 use mathlib.Core.Option as math
 use mathlib.Core.Option.{none, some}
-use borrow.Author.Tests.{ne_eqb}
 use lib.Dec.{eqb}
 use Rattle.std.specs.Prelude.{Option, Some, None, Result, Ok, Err}
 use Rattle.rules.specs.Bytes.{Bytes}
@@ -22,12 +20,13 @@ use Rattle.rules.specs.Answers as rules
 use Rattle.rules.specs.Combine as combine
 use Rattle.rules.specs.Split.{split}
 use Rattle.rules.specs.Writer as writing
+use Rattle.rules.specs.Lines.{code_number}
 use Rattle.rules.specs.HandedOut.{record_at, RecordAnswer, record_answer, FieldsAnswer, fields_of_record}
 use Rattle.laws.specs.LawWords.{Left}
 use Rattle.laws.proofs.OneAnswer.{one_answer}
-use Rattle.laws_handing.proofs.FieldsTold.{fields_told}
 use Rattle.base_codes.specs.declared.Code.{Code}
 use Rattle.base_codes.specs.declared.Code.TheVariants as codes
+use Rattle.base_codes.specs.CodeMeaning as base_codes
 use Rattle.base_quantities.specs.QuantityMeanings.{units_of}
 use Rattle.name_codes.specs.declared.CodeClass.{CodeClass}
 use Rattle.name_codes.specs.declared.CodeClass.TheVariants as classes
@@ -55,7 +54,6 @@ use Rattle.part_groups.specs.PartMeaning as parts
 use Rattle.part_details.specs.DetailMeaning as details
 use Rattle.part_records.specs.declared.Record.{Record}
 use Rattle.part_details.specs.declared.Detail.{Detail}
-use Rattle.find_field.specs.declared.Spot.{Spot}
 use Rattle.part_records.specs.RecordsFound.{record_meant, Finds}
 use Rattle.find_walk.specs.declared.FieldCount.{FieldCount}
 use Rattle.part_fields.specs.FieldAnswers.{fields_meant}
@@ -218,9 +216,16 @@ c-part-one =
     one_answer part_meant (λ (m : rules.PartAnswer). record { number = m.refusal.number; place = m.refusal.place; start = m.start; length = m.len })
     (λ x. refl)
 
+abbrev told_from : outcome.Refusal → Option Refusal
+told_from why = cond (eqb why.number 0) None (Some (refusal_from why))
+
+same_told : (r : Option Refusal) → told_from (parts.refusal_told r) ≡ r
+same_told None = refl
+same_told (Some why) = rw (not_numbered_0 why.reason) (ap Some (same-refusal why))
+
 -- part_groups::group_refusal, account_refusal
-pub refusal-one : (promised : outcome.Refusal) (x y : Refusal) → refusal_meant x ≡ promised → refusal_meant y ≡ promised → x ≡ y
-refusal-one = one_answer refusal_meant refusal_from (λ x. refl)
+pub refusal-one : (promised : outcome.Refusal) (x y : Option Refusal) → parts.refusal_told x ≡ promised → parts.refusal_told y ≡ promised → x ≡ y
+refusal-one = one_answer parts.refusal_told told_from same_told
 
 -- an amount of the code from its meaning
 abbrev amount_from : Amount → amounts.Amount
@@ -239,30 +244,22 @@ same-amount (forms.WithMinus n) = refl
 pub amount-one : (promised : Amount) (x y : amounts.Amount) → amount_meant x ≡ promised → amount_meant y ≡ promised → x ≡ y
 amount-one = one_answer amount_meant amount_from same-amount
 
-abbrev detail_from : rules.DetailAnswer → DetailAnswer
+abbrev detail_from : rules.DetailAnswer → Result Detail Refusal
 detail_from m =
-    record {
-      refusal = refusal_from m.refusal;
+    result_from
+    (record {
       type_code = m.type;
       amount = amount_from m.amount;
-      text_start = record { 0 = m.text_start };
-      text_length = m.text_length;
-    }
-
-same-detail : (d : DetailAnswer) → detail_from (details.detail_meant d) ≡ d
-same-detail d =
-    ap
-    (λ (a : amounts.Amount). record {
-      refusal = d.refusal;
-      type_code = d.type_code;
-      amount = a;
-      text_start = d.text_start;
-      text_length = d.text_length;
+      text = record { start = record { 0 = m.text_start }; length = m.text_length };
     })
-    (same-amount d.amount)
+    m.refusal
+
+same-detail : (r : Result Detail Refusal) → detail_from (details.detail_meant r) ≡ r
+same-detail (Ok d) = ap (λ (a : amounts.Amount). Ok (record { type_code = d.type_code; amount = a; text = d.text })) (same-amount d.amount)
+same-detail (Err why) = same_err _ why
 
 -- part_details::detail
-pub detail-one : (promised : rules.DetailAnswer) (x y : DetailAnswer) → details.detail_meant x ≡ promised → details.detail_meant y ≡ promised → x ≡ y
+pub detail-one : (promised : rules.DetailAnswer) (x y : Result Detail Refusal) → details.detail_meant x ≡ promised → details.detail_meant y ≡ promised → x ≡ y
 detail-one = one_answer details.detail_meant detail_from same-detail
 
 -- bai2_detail_of: the figures are promised themselves
@@ -271,23 +268,24 @@ c-detail-one = one_answer (λ (x : Bai2Detail). x) (λ (x : Bai2Detail). x) (λ 
 
 -- ---- items
 
-abbrev count_from : Option ℕ → ItemCount
-count_from none = counts.NoCount
-count_from (some n) = counts.Given (record { 0 = n })
+abbrev count_from : math.Option ℕ → Option Count
+count_from none = None
+count_from (some n) = Some (record { 0 = n })
 
-same_count : (c : ItemCount) → count_from (count_meant c) ≡ c
-same_count counts.NoCount = refl
-same_count (counts.Given n) = refl
+same_count : (c : Option Count) → count_from (count_meant c) ≡ c
+same_count None = refl
+same_count (Some n) = refl
 
-abbrev item_from : rules.ItemAnswer → ItemAnswer
-item_from m = record { refusal = refusal_from m.refusal; type_code = m.type; amount = amount_from m.amount; count = count_from m.count }
+abbrev item_from : rules.ItemAnswer → Result Item Refusal
+item_from m = result_from (record { type_code = m.type; amount = amount_from m.amount; count = count_from m.count }) m.refusal
 
-same_item : (i : ItemAnswer) → item_from (item_meant i) ≡ i
-same_item i =
-    ap₂ (λ (a : amounts.Amount) (c : ItemCount). record { refusal = i.refusal; type_code = i.type_code; amount = a; count = c }) (same-amount i.amount) (same_count i.count)
+same_item : (r : Result Item Refusal) → item_from (item_meant r) ≡ r
+same_item (Ok i) =
+    ap₂ (λ (a : amounts.Amount) (c : Option Count). Ok (record { type_code = i.type_code; amount = a; count = c })) (same-amount i.amount) (same_count i.count)
+same_item (Err why) = same_err _ why
 
 -- part_items::item
-pub item-one : (promised : rules.ItemAnswer) (x y : ItemAnswer) → item_meant x ≡ promised → item_meant y ≡ promised → x ≡ y
+pub item-one : (promised : rules.ItemAnswer) (x y : Result Item Refusal) → item_meant x ≡ promised → item_meant y ≡ promised → x ≡ y
 item-one = one_answer item_meant item_from same_item
 
 -- bai2_item_of: the figures are promised themselves
@@ -305,24 +303,26 @@ code_from n =
     (cond (eqb n 16) codes.Detail
     (cond (eqb n 49) codes.AccountTrailer (cond (eqb n 98) codes.GroupTrailer (cond (eqb n 99) codes.FileTrailer codes.Continuation))))))
 
--- no code has the number 0
-abbrev found_from : RecordAnswer → Found
-found_from m = cond (eqb m.code 0) (found.Refused (refusal_from m.refusal)) (found.Record (code_from m.code) (record { 0 = m.lines }) m.len)
+same_code : (c : Code) → code_from (code_number (base_codes.code_meant c)) ≡ c
+same_code codes.FileHeader = refl
+same_code codes.GroupHeader = refl
+same_code codes.AccountHeader = refl
+same_code codes.Detail = refl
+same_code codes.AccountTrailer = refl
+same_code codes.GroupTrailer = refl
+same_code codes.FileTrailer = refl
+same_code codes.Continuation = refl
 
-same-found : (x : Found) → found_from (record_meant x) ≡ x
-same-found (found.Refused why) = refl
-same-found (found.Record codes.FileHeader n size) = refl
-same-found (found.Record codes.GroupHeader n size) = refl
-same-found (found.Record codes.AccountHeader n size) = refl
-same-found (found.Record codes.Detail n size) = refl
-same-found (found.Record codes.AccountTrailer n size) = refl
-same-found (found.Record codes.GroupTrailer n size) = refl
-same-found (found.Record codes.FileTrailer n size) = refl
-same-found (found.Record codes.Continuation n size) = refl
+abbrev record_from : RecordAnswer → Result Record Refusal
+record_from m = result_from (record { code = code_from m.code; lines = record { 0 = m.lines }; length = m.len }) m.refusal
+
+same_record : (r : Result Record Refusal) → record_from (record_meant r) ≡ r
+same_record (Ok x) = ap (λ (c : Code). Ok (record { code = c; lines = x.lines; length = x.length })) (same_code x.code)
+same_record (Err why) = same_err _ why
 
 -- part_records::record_at
-pub record-one : (file : Bytes) (start : ℕ) (x y : Found) → Finds file start x → Finds file start y → x ≡ y
-record-one file start x y p q = one_answer record_meant found_from same-found (record_answer (record_at file start)) x y p.answer q.answer
+pub record-one : (file : Bytes) (start : ℕ) (x y : Result Record Refusal) → Finds file start x → Finds file start y → x ≡ y
+record-one file start x y p q = one_answer record_meant record_from same_record (record_answer (record_at file start)) x y p.answer q.answer
 
 -- bai2_record_at
 pub c-record-one : (file : Bytes) (start : ℕ) (x y : Bai2Record)
@@ -332,28 +332,18 @@ c-record-one file start =
     (λ (m : RecordAnswer). record { number = m.refusal.number; place = m.refusal.place; code = m.code; lines = m.lines; length = m.len })
     (λ x. refl) (record_answer (record_at file start))
 
-abbrev fields_from : FieldsAnswer → Left Fields
-fields_from m = record { answer = cond (eqb m.count 0) (fields.Refused (refusal_from m.refusal)) (fields.Given (record { 0 = m.count })); slice = m.out }
+abbrev fields_from : FieldsAnswer → Left (Result FieldCount Refusal)
+fields_from m = record { answer = result_from (record { 0 = m.count }) m.refusal; slice = m.out }
 
--- its number tells whether it is refused
-abbrev Told : FieldsAnswer → Type 0
-Told m = m.refusal.number ≡ 0 → 1 ≤ m.count
-
-given_back : (n : ℕ) (out : List ℕ) → 1 ≤ n → ◌≡◌ {A = Left Fields} (fields_from (fields_meant (fields.Given (record { 0 = n })) out)) (record { answer = fields.Given (record { 0 = n }); slice = out })
-given_back n out h =
-    let some : eqb n 0 ≡ false = ne_eqb n 0 (λ e. omega arith) in
-    rw some
-
-same-fields : (r : Fields) (out : List ℕ) → Told (fields_meant r out) → ◌≡◌ {A = Left Fields} (fields_from (fields_meant r out)) (record { answer = r; slice = out })
-same-fields (fields.Refused why) out t = refl
-same-fields (fields.Given n) out t = given_back n.0 out (t refl)
+same-fields : (r : Result FieldCount Refusal) (out : List ℕ) → ◌≡◌ {A = Left (Result FieldCount Refusal)} (fields_from (fields_meant r out)) (record { answer = r; slice = out })
+same-fields (Ok n) out = refl
+same-fields (Err why) out = ap (λ (r : Result FieldCount Refusal). record { answer = r; slice = out }) (same_err _ why)
 
 -- part_fields::fields_at
-pub fields-one : (file : Bytes) (start : ℕ) (before : List ℕ) (x y : Left Fields)
+pub fields-one : (file : Bytes) (start : ℕ) (before : List ℕ) (x y : Left (Result FieldCount Refusal))
     → fields_meant x.answer x.slice ≡ fields_of_record file start before → fields_meant y.answer y.slice ≡ fields_of_record file start before → x ≡ y
-fields-one file start before x y p q =
-    let told = fields_told file start before in
-    sym (same-fields x.answer x.slice (subst Told (sym p) told)) ∙ ap fields_from (p ∙ sym q) ∙ same-fields y.answer y.slice (subst Told (sym q) told)
+fields-one file start before =
+    one_answer (λ (x : Left (Result FieldCount Refusal)). fields_meant x.answer x.slice) fields_from (λ x. same-fields x.answer x.slice) (fields_of_record file start before)
 
 -- bai2_fields_at
 pub c-fields-one : (file : Bytes) (start : ℕ) (before : List ℕ) (x y : Left Bai2Fields)

@@ -32,10 +32,10 @@ fn listed(status: u64, summary: u64, detail: u64, side: u64) -> Bai2Code
 {
     Bai2Code {
         listed: 1,
-        status: status,
-        summary: summary,
-        detail: detail,
-        side: side,
+        status,
+        summary,
+        detail,
+        side,
     }
 }
 
