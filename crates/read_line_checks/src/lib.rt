@@ -9,7 +9,7 @@ ghost use Rattle.read_line_checks.specs.LineChecks.{checked_of, place_within, Cl
 
 use base_codes::Code;
 use base_quantities::{Place, Records};
-use base_refusals::{BYTE_NOT_ALLOWED, LINE_TOO_LONG, NO_RECORD_CODE, Refusal};
+use base_refusals::{Reason, Refusal};
 
 // A line's code, and the place after the line.
 #[derive(Clone, Copy)]
@@ -35,16 +35,10 @@ fn clean_line(s: &[u8], start: Place, limit: usize) -> Result<Place, Refusal>
     let i = read_lines::scan::plain_end(s, start, b'~').0;
     let e = read_lines::body_end(s, Place(i)).0;
     if limit < e - at {
-        return Err(Refusal {
-            number: LINE_TOO_LONG,
-            place: Place(at + limit),
-        });
+        return Err(Reason::LineTooLong.at(Place(at + limit)));
     }
     if i < e {
-        return Err(Refusal {
-            number: BYTE_NOT_ALLOWED,
-            place: Place(i),
-        });
+        return Err(Reason::ByteNotAllowed.at(Place(i)));
     }
     Ok(Place(e))
 }
@@ -56,10 +50,7 @@ fn good_line(s: &[u8], start: Place, limit: usize) -> Result<GoodLine, Refusal>
 {
     let e = clean_line(s, start, limit)?;
     let Some(code) = read_lines::code_at(s, start) else {
-        return Err(Refusal {
-            number: NO_RECORD_CODE,
-            place: start,
-        });
+        return Err(Reason::NoRecordCode.at(start));
     };
     Ok(GoodLine {
         code,
@@ -105,10 +96,7 @@ pub fn none_longer(s: &[u8], limit: usize) -> Result<(), Refusal>
     while start < s.len() {
         let e = read_lines::body_end(s, Place(start)).0;
         if limit < e - start {
-            return Err(Refusal {
-                number: LINE_TOO_LONG,
-                place: Place(start + limit),
-            });
+            return Err(Reason::LineTooLong.at(Place(start + limit)));
         }
         start = e + read_lines::end_len(s, Place(e));
     }

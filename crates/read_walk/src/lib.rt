@@ -8,7 +8,7 @@ ghost use Rattle.read_walk.specs.WalkKept.{point, end_k};
 ghost use Rattle.read_walk.specs.WalkAnswers.{walked_of, Walks};
 
 use base_quantities::{Magnitude, Place};
-use base_refusals::{LINE_BADLY_ENDED, Refusal, WRONG_FIELD};
+use base_refusals::{Reason, Refusal};
 use read_kept::Kept;
 use read_wanted::want;
 use read_wanted::want::Want;
@@ -20,14 +20,7 @@ fn finish(want: Want, kept: Kept, slash: Place) -> Result<Kept, Refusal>
     if want::may_lack(want) {
         return Ok(kept);
     }
-    stop(WRONG_FIELD, slash)
-}
-
-// The walk stops at this place of the record.
-fn stop(number: u64, place: Place) -> Result<Kept, Refusal>
-    ensures { result ≡ Err (record { number = number; place = place }) }
-{
-    Err(Refusal { number, place })
+    Err(Reason::WrongField.at(slash))
 }
 
 // The walk over the record in front of rest stops at the first fault found; places are counted from the record's start. `before`: the magnitudes of the
@@ -40,27 +33,24 @@ fn walk_lines(rest: &[u8], rec: &[u8], first: Want, before: Magnitude) -> Result
     let mut kept = Kept::none(before);
     let mut slash = Place(0);
     let mut at: usize = 0;
-    'walk: loop {
-        if rec.len() <= at {
-            break 'walk finish(want, kept, slash);
-        }
+    while at < rec.len() {
         let e = read_lines::body_end_in(rest, rec.len(), Place(at)).0;
         let mut a = at + 3;
         at = e + read_lines::end_len(rec, Place(e));
         if e < a {
-            break 'walk stop(LINE_BADLY_ENDED, Place(a));
+            return Err(Reason::LineBadlyEnded.at(Place(a)));
         }
         loop {
             let text = want::is_text(want);
             let Some(n) = read_field_ends::field_extent(text, &rec[a..e]) else {
-                break 'walk stop(LINE_BADLY_ENDED, Place(e));
+                return Err(Reason::LineBadlyEnded.at(Place(e)));
             };
             let f = a + n;
             if read_kept::is_kept(want) {
                 kept = kept.keep(want, Place(a), &rec[a..f]);
             }
             match read_fields::take_detail_first(want, &rec[a..f]) {
-                Err(number) => break 'walk stop(number, Place(a)),
+                Err(reason) => return Err(reason.at(Place(a))),
                 Ok(next) => want = next,
             }
             if text {
@@ -70,13 +60,14 @@ fn walk_lines(rest: &[u8], rec: &[u8], first: Want, before: Magnitude) -> Result
             if rec[f] == b'/' {
                 let t = a + read_field_ends::blanks_len(&rec[a..e]);
                 if t < e {
-                    break 'walk stop(LINE_BADLY_ENDED, Place(t));
+                    return Err(Reason::LineBadlyEnded.at(Place(t)));
                 }
                 slash = Place(f);
                 break;
             }
         }
     }
+    finish(want, kept, slash)
 }
 
 // The walk over a record, the first `size` bytes of what is left of the file; `before`: the magnitudes of the records before.
