@@ -51,7 +51,7 @@ fn fields_of(file: &[u8], start: Place, code: Code, out: &mut [u64]) -> Result<F
                 return Ok(count);
             }
             let end = 3 * n;
-            base_slices::put_numbers(out, &held[0..end]);
+            base_slices::put(out, &held[0..end]);
             Ok(count)
         }
     }
