@@ -8,7 +8,7 @@ ghost use Rattle.read_wanted.specs.Wants.{wanted_of};
 ghost use Rattle.read_wanted.specs.TakenMeaning.{judged_of};
 
 use base_digits::{is_digits, is_signed, is_unsigned};
-use base_refusals::WRONG_FIELD;
+use base_refusals::Reason;
 use read_values::date::is_date;
 use read_values::{
     is_currency, is_empty, is_length, is_name, is_one_of, is_reference, is_time, type_class,
@@ -71,7 +71,7 @@ pub fn take_field(want: Want, f: &[u8]) -> Taken
         Want::Total => fitted(is_signed(f), Want::Count),
         Want::Count => fitted(is_digits(f, 1, 9), Want::Records),
         Want::Records => fitted(is_digits(f, 1, 9), Want::End),
-        Want::End => Err(WRONG_FIELD),
+        Want::End => Err(Reason::WrongField as u64),
     }
 }
 
