@@ -58,18 +58,10 @@ pub fn record_at(file: &[u8], start: Place) -> Result<Record, Refusal>
     let Some(code) = code_there(file, start) else {
         return Err(Reason::NoRecordCode.at(start));
     };
-    let next = read_lines::next_line(file, start);
-    if read_lines::begins(file, next, Code::Continuation) {
-        let further = read_lines::further_lines(file, next);
-        return Ok(Record {
-            code,
-            lines: Records(further.count.0 + 1),
-            length: further.end.0 - start.0,
-        });
-    }
+    let further = read_lines::further_lines(file, read_lines::next_line(file, start));
     Ok(Record {
         code,
-        lines: Records(1),
-        length: next.0 - start.0,
+        lines: Records(further.count.0 + 1),
+        length: further.end.0 - start.0,
     })
 }
