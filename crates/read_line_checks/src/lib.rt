@@ -65,6 +65,7 @@ fn scan_further(s: &[u8], limit: usize, first: GoodLine) -> Result<Option<Scanne
 {
     let mut at = first.next.0;
     let mut n: u64 = 1;
+    // No `for`: a step goes as far as the line does.
     while read_lines::begins_with(s, Place(at), b'8', b'8') {
         let e = clean_line(s, Place(at), limit)?;
         at = e.0 + read_lines::end_len(s, e);
@@ -93,6 +94,7 @@ pub fn none_longer(s: &[u8], limit: usize) -> Result<(), Refusal>
     ensures { (checked_of result ≡ none_longer 0 limit (lines_of s.now)) × place_within result (length s.now) }
 {
     let mut start: usize = 0;
+    // No `for`: a step goes as far as the line does.
     while start < s.len() {
         let e = read_lines::body_end(s, Place(start)).0;
         if limit < e - start {

@@ -49,6 +49,7 @@ pub fn body_end(s: &[u8], start: Place) -> Place
     ensures { (result.0 ≡ start.0 + body_len (drop start.0 s.now)) × (result.0 ≤ length s.now + (start.0 - length s.now)) }
 {
     let mut i = start.0;
+    // No `for`: a step goes as far as the next byte that may end a line.
     while i < s.len() {
         if 0 < end_len(s, Place(i)) {
             return Place(i);
@@ -105,7 +106,9 @@ pub fn begins(s: &[u8], start: Place, code: Code) -> bool
     begins_with(s, start, d.0, d.1)
 }
 
+// Drawn into each caller: the reader asks it of every record.
 // The code of the line that starts there, if it has one.
+#[inline(always)]
 pub fn code_at(s: &[u8], start: Place) -> Option<Code>
     ensures { code_found result ≡ code_of (first_line (drop start.0 s.now)) }
 {
@@ -142,6 +145,7 @@ pub fn further_lines(s: &[u8], start: Place) -> Lines
 {
     let mut end = start;
     let mut n: u64 = 0;
+    // No `for`: a step goes as far as the line does.
     while begins(s, end, Code::Continuation) {
         end = next_line(s, end);
         n += 1;

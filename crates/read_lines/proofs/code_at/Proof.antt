@@ -4,7 +4,7 @@ use mathlib.Core.Path.{◌≡◌, sym, ◌∙◌}
 use lib.ListN.{drop}
 use borrow.Author.Rules.{rules}
 use Rattle.rules.specs.Bytes.{Bytes}
-use Rattle.rules.specs.Lines.{Code, file_header, group_header, account_header, detail, account_trailer, group_trailer, file_trailer, continuation, all_codes, code_in, code_of}
+use Rattle.rules.specs.Lines.{file_header, group_header, account_header, detail, account_trailer, group_trailer, file_trailer, continuation, all_codes, code_in, code_of}
 use Rattle.read_lines.specs.LineLengths.{first_line}
 use Rattle.read_lines.proofs.Fronts.{code_here, code-after}
 use Rattle.read_lines.proofs.code_at.Statement.{statement}
