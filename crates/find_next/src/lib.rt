@@ -65,7 +65,7 @@ fn field_here(rec: &[u8], walk: Cursor) -> Result<FieldStep, Refusal>
     let Some(n) = read_field_ends::field_extent(text, left) else {
         return Err(Reason::LineBadlyEnded.at(Place(a + left.len())));
     };
-    let next = match read_fields::take_yielded(walk.want, &left[..n]) {
+    let next = match read_fields::take_detail_first(walk.want, &left[..n]) {
         Err(reason) => return Err(reason.at(start)),
         Ok(next) => next,
     };

@@ -76,16 +76,16 @@ inside c = let p = part_of c in in_left (rec-of p) 0 (walk_of p) (left p) (left_
 -- ---- the field is judged
 
 abbrev Judged : Type 0
-Judged = tie.After-take_yielded
+Judged = tie.After-take_detail_first
 
 abbrev field : Judged → Field
 field c = c.before.before
 
-judged-is : (c : Judged) → judged_of c.take_yielded.result ≡ take_next (wanted (part_of (field c))) (take (size (field c)) (left (part_of (field c))))
+judged-is : (c : Judged) → judged_of c.take_detail_first.result ≡ take_next (wanted (part_of (field c))) (take (size (field c)) (left (part_of (field c))))
 judged-is c =
     let g = field c in
     let lent : size g - 0 ≡ size g = omega arith in
-    c.take_yielded.ensures ∙ ap (λ (n : ℕ). take_next (wanted (part_of g)) (take n (left (part_of g)))) lent
+    c.take_detail_first.ensures ∙ ap (λ (n : ℕ). take_next (wanted (part_of g)) (take n (left (part_of g)))) lent
 
 abbrev Good : Type 0
 Good = tie.In-Next
@@ -155,8 +155,8 @@ returns c =
     let p = cut-part cut in
     λ least. open-takes (rec-of p) least (walk_of p) (left p) (left_is p) _ c.stop.ensures (sym c.in_default.is ∙ extent-is cut)
 
-part-take-yielded-end : tie.Need-slice_bounds-take_yielded-end
-part-take-yielded-end c = inside c
+part-take-detail-first-end : tie.Need-slice_bounds-take_detail_first-end
+part-take-detail-first-end c = inside c
 
 -- it is wrong
 returns-2 : tie.Need-returns-in-Refused
@@ -242,7 +242,7 @@ field_here_spec =
     returns
     (λ c. search rules)
     (λ c. search rules)
-    part-take-yielded-end
+    part-take-detail-first-end
     (λ c κs. search rules)
     (λ c. search rules)
     (λ c κs. search rules)
