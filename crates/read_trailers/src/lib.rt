@@ -29,11 +29,7 @@ fn sum_within(s: Summary, kept: Kept) -> Result<(), Refusal>
     ensures { checked_of result ≡ within_k (summary_meant s) kept }
 {
     let sum = s.total;
-    let within = if sum.0 < sum.1 {
-        sum.1 - sum.0 <= MOST
-    } else {
-        sum.0 - sum.1 <= MOST
-    };
+    let within = sum.0.abs_diff(sum.1) <= MOST;
     require(within, Reason::SumTooLarge, kept.total.at)
 }
 
@@ -52,6 +48,7 @@ fn right_total(s: Summary, kept: Kept) -> Result<(), Refusal>
 }
 
 // 12: a trailer's count of accounts or groups.
+#[tactic(auto, unfolding(crate::specs::TrailerChecks::count_k))]
 fn right_count(n: Count, kept: Kept) -> Result<(), Refusal>
     ensures { checked_of result ≡ count_k n.0 kept }
 {
@@ -59,6 +56,7 @@ fn right_count(n: Count, kept: Kept) -> Result<(), Refusal>
 }
 
 // 13: a trailer's record count.
+#[tactic(auto, unfolding(crate::specs::TrailerChecks::records_k))]
 fn right_records(s: Summary, kept: Kept) -> Result<(), Refusal>
     ensures { checked_of result ≡ records_k (summary_meant s) kept }
 {
@@ -70,6 +68,7 @@ fn right_records(s: Summary, kept: Kept) -> Result<(), Refusal>
 }
 
 // The 98 of a group with n accounts, or the 99 of a file with n groups.
+#[tactic(auto, unfolding(crate::specs::TrailerChecks::trailer_k))]
 fn right_trailer(s: Summary, n: Count, kept: Kept) -> Result<(), Refusal>
     ensures { checked_of result ≡ trailer_k (summary_meant s) n.0 kept }
 {
@@ -80,6 +79,7 @@ fn right_trailer(s: Summary, n: Count, kept: Kept) -> Result<(), Refusal>
 }
 
 // The 49 of an account.
+#[tactic(auto, unfolding(crate::specs::TrailerChecks::account_k))]
 fn right_account(s: Summary, kept: Kept) -> Result<(), Refusal>
     ensures { checked_of result ≡ account_k (summary_meant s) kept }
 {
@@ -88,6 +88,7 @@ fn right_account(s: Summary, kept: Kept) -> Result<(), Refusal>
 }
 
 // A trailer against the summaries of its account, its group and the file, itself included.
+#[tactic(auto, unfolding(crate::specs::TrailerChecks::balanced_k))]
 pub fn balance(
     code: Code,
     account: Summary,
