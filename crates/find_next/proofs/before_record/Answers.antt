@@ -1,14 +1,12 @@
--- `find_next::before_record` meets its contract. Assumes nothing.
+-- `find_next::before_record`: the walk before a record's first line stands inside it, with the whole record ahead. Assumes nothing.
 use native.Mathlib.Omega.{arith}
 use mathlib.Core.Path.{sym, ap, subst, ◌∙◌}
 use Rattle.find_next.specs.declared.Cursor.{Cursor}
 use Rattle.find_next.specs.CursorMeaning.{trace_of, Inside}
 use Rattle.find_next.proofs.CursorLaws.{trace-over}
-use borrow.Author.Rules.{rules}
-use Rattle.find_next.proofs.before_record.Statement.{statement}
-use Rattle.find_next.proofs.before_record.Tie as tie
+use Rattle.find_next.proofs.before_record.Goals as goal
 
-returns : tie.Need-returns
+pub returns : goal.returns
 returns c =
     let first = c.args.first in
     let is = c.before_line.ensures in (
@@ -18,6 +16,3 @@ returns c =
         subst (Inside rec) (sym is) (record { in-line = omega arith; in-record = omega arith; slashed = omega arith }),
       ),
     )
-
-pub before_record_spec : {M : Type 1} → statement M
-before_record_spec = tie.close (tie.spec (λ c κs. search rules) returns)
