@@ -31,8 +31,8 @@ returns-in_default c =
     let a = c.args in
     λ least. open-takes a.rec.now least a.walk c.part-left.result.now c.part-left.ensures _ c.at.ensures (rw c.is_text-text.ensures at c.in_default.ensures)
 
-pub slice_bounds-take_yielded-end : goal.slice_bounds-take_yielded-end
-slice_bounds-take_yielded-end c =
+pub slice_bounds-take_detail_first-end : goal.slice_bounds-take_detail_first-end
+slice_bounds-take_detail_first-end c =
     let a = c.args in
     sym (length-take-le c.in-Some.n c.part-left.result.now (in_left a.rec.now 0 a.walk c.part-left.result.now c.part-left.ensures c.in-Some.n (rw c.is_text-text.ensures at c.in-Some.ensures)))
 
