@@ -1,4 +1,6 @@
 // Dates: YYMMDD, years 2000 to 2099, a day that its month has.
+#![tactic(auto, unfolding(rules::specs::Numbers::digits, rules::specs::Dates::days_of, rules::specs::Dates::is_date, crate::specs::ValueMeanings::date_in))]
+
 ghost use Rattle.std.specs.Prelude.{◌≡◌};
 ghost use Rattle.rules.specs.Dates.{is_date, days_of};
 ghost use Rattle.read_values.specs.ValueMeanings.{date_in};
@@ -25,25 +27,12 @@ impl Date {
     pub fn days_in(year: u64, month: u64) -> u64
         ensures { result ≡ days_of year month }
     {
-        if month == Date::FEBRUARY {
-            if year % Date::LEAP_YEARS == 0 {
-                return 29;
-            }
-            return 28;
+        match month {
+            Date::FEBRUARY if year % Date::LEAP_YEARS == 0 => 29,
+            Date::FEBRUARY => 28,
+            4 | 6 | 9 | 11 => 30,
+            _ => 31,
         }
-        if month == 4 {
-            return 30;
-        }
-        if month == 6 {
-            return 30;
-        }
-        if month == 9 {
-            return 30;
-        }
-        if month == 11 {
-            return 30;
-        }
-        31
     }
 
     // The date that six digits give, if they give one.
@@ -56,16 +45,7 @@ impl Date {
         let year = base_digits::value(&f[0..2]);
         let month = base_digits::value(&f[2..4]);
         let day = base_digits::value(&f[4..6]);
-        if month < 1 {
-            return None;
-        }
-        if Date::MONTHS < month {
-            return None;
-        }
-        if day < 1 {
-            return None;
-        }
-        if Date::days_in(year, month) < day {
+        if month < 1 || Date::MONTHS < month || day < 1 || Date::days_in(year, month) < day {
             return None;
         }
         Some(Date { year, month, day })
