@@ -25,6 +25,7 @@ pub struct GoodFile {
 }
 
 // After the last record, which starts at `last`, of a file of this length: 6, where the 99 was not there.
+#[tactic(auto, unfolding(crate::specs::FileAnswers::at_end))]
 fn at_end(st: State, last: Place, length: usize) -> Result<GoodFile, Refusal>
     ensures { EndIs result st last.0 length }
 {

@@ -26,6 +26,7 @@ pub struct Stepped {
 }
 
 // L, where a header gives it; else the limit that held before.
+#[tactic(auto, using(base_codes::proofs::SameCodes::same_codes), unfolding(crate::specs::RecordSteps::limit_k))]
 fn limit_after(code: Code, limit: usize, kept: Kept) -> usize
     ensures { result ≡ limit_k (code_meant code) limit kept }
 {
@@ -36,6 +37,7 @@ fn limit_after(code: Code, limit: usize, kept: Kept) -> usize
 }
 
 // 3, of the header's own lines against L.
+#[tactic(auto, using(base_codes::proofs::SameCodes::same_codes), unfolding(rules::specs::Verdict::own_lines))]
 fn own_lines(code: Code, limit: usize, rec: &[u8]) -> Result<(), Refusal>
     ensures { (checked_of result ≡ own_lines (code_meant code) limit (lines_of rec.now)) × place_within result (length rec.now) }
 {
