@@ -47,14 +47,7 @@ fn in_field(b: u8) -> bool
 pub fn is_clean(f: &[u8]) -> bool
     ensures { result ≡ clean f.now }
 {
-    let mut i: usize = 0;
-    while i < f.len() {
-        if !in_field(f[i]) {
-            return false;
-        }
-        i += 1;
-    }
-    true
+    f.iter().all(|&b| in_field(b))
 }
 
 // No byte.
