@@ -13,44 +13,24 @@ use Rattle.rules.specs.Bytes.{Bytes, blank, comma, slash, trimmed, trimmed_befor
 use Rattle.rules.specs.Cells.{leading_blanks}
 use Rattle.read_field_ends.specs.FieldLengths.{until, is_mark, field_len, extent_of}
 use Rattle.std.specs.Prelude.{Some, None}
+use Rattle.std.specs.List.{position_or_len}
+use Rattle.std.proofs.lemmas.List.Recursion.{is_position_or_len}
 
 -- ---- up to the first byte that passes a test
 
-module _ (test : ℕ → Bool) (f : Bytes) (i : ℕ) (left : i + until test (drop i f) ≡ until test f) where
-  pub until_stop : i < length f → test (get_or f i 0) ≡ true → i ≡ until test f
-  unfolding until
-  until_stop h e = let z = rw (drop-cons f i 0 h, e) at left in omega arith
+one_more : (t : Bool) (n : ℕ) → cond t 0 (suc n) ≡ cond t 0 (1 + n)
+one_more true n = refl
+one_more false n = omega arith
 
-  pub until-on : i < length f → test (get_or f i 0) ≡ false → i + 1 + until test (drop (i + 1) f) ≡ until test f
-  unfolding until
-  until-on h e = let z = rw (drop-cons f i 0 h, e) at left in rw (add-one i) (omega arith)
-
-  pub until_end : length f ≤ i → i ≡ until test f
-  unfolding until
-  until_end h = let z = rw (drop_of_length-le f h) at left in omega arith
-
--- ---- a comma or slash
-
-pub mark-comma : (b : ℕ) → b ≡ comma → is_mark b ≡ true
-mark-comma b e = rw e
-
-pub mark-slash : (b : ℕ) → b ≡ slash → is_mark b ≡ true
-mark-slash b e = rw e
-
-pub mark-none : (b : ℕ) → (b ≡ comma → ⊥) → (b ≡ slash → ⊥) → is_mark b ≡ false
-mark-none b h k = rw (ne_eqb b comma h, ne_eqb b slash k)
+pub until-position : (test : ℕ → Bool) (f : Bytes) → until test f ≡ position_or_len test f
+unfolding until
+until-position test f = is_position_or_len (until test) test refl (λ b bs. one_more (test b) (until test bs)) f
 
 -- ---- blanks in front
 
 -- a byte that is no blank
 abbrev pub no_blank : ℕ → Bool
 no_blank b = not (eqb b blank)
-
-pub blank_none : (b : ℕ) → (b ≡ blank → ⊥) → no_blank b ≡ true
-blank_none b h = rw (ne_eqb b blank h)
-
-pub blank-here : (b : ℕ) → b ≡ blank → no_blank b ≡ false
-blank-here b e = rw e
 
 pub blanks-until : (f : Bytes) → until no_blank f ≡ leading_blanks f
 unfolding until leading_blanks
@@ -117,21 +97,7 @@ unfolding trimmed
 trim-front [] = refl
 trim-front (b ∷ s) = trim-front-step b s (trimmed s) refl (trim-front s)
 
--- ---- how far a field goes, case by case, and what a caller knows of it
-
-module _ (s : Bytes) (n : ℕ) where
-  pub text-extent : n ≡ length (trimmed s) → Some n ≡ extent_of true s
-  unfolding extent_of
-  text-extent e = rw e
-
-  module _ (e : n ≡ field_len s) where
-    pub field-extent : n < length s → Some n ≡ extent_of false s
-    unfolding extent_of
-    field-extent h = rw (← e, lt-ltb n (length s) h)
-
-    pub open-extent : length s ≤ n → None ≡ extent_of false s
-    unfolding extent_of
-    open-extent h = rw (← e, le-ltb n (length s) h)
+-- ---- what a caller knows of how far a field goes
 
 cond-field : (t : Bool) (n m : ℕ) → Some n ≡ cond t (Some m) None → (t ≡ true) × (n ≡ m)
 cond-field true n m e = (refl, cc)

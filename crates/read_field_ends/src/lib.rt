@@ -1,28 +1,11 @@
 // How long a field is in what is left of a line: up to a comma or slash, or, of a text, up to its trailing blanks.
 
-#![tactic(auto)]
+#![tactic(auto, unfolding(crate::specs::FieldLengths::extent_of))]
 
 ghost use Rattle.std.specs.Prelude.{◌≡◌, ◌≤◌, length};
 ghost use Rattle.rules.specs.Bytes.{trimmed};
 ghost use Rattle.rules.specs.Cells.{leading_blanks};
-ghost use Rattle.read_field_ends.specs.FieldLengths.{field_len, extent_of};
-
-// How many bytes stand before the first comma or slash.
-fn field_len(f: &[u8]) -> usize
-    ensures { (result ≡ field_len f.now) × (result ≤ length f.now) }
-{
-    let mut i: usize = 0;
-    while i < f.len() {
-        if f[i] == b',' {
-            return i;
-        }
-        if f[i] == b'/' {
-            return i;
-        }
-        i += 1;
-    }
-    i
-}
+ghost use Rattle.read_field_ends.specs.FieldLengths.{extent_of};
 
 // How many blanks stand in front.
 pub fn blanks_len(f: &[u8]) -> usize
@@ -59,9 +42,5 @@ pub fn field_extent(text: bool, rest: &[u8]) -> Option<usize>
     if text {
         return Some(trimmed_len(rest));
     }
-    let n = field_len(rest);
-    if n < rest.len() {
-        return Some(n);
-    }
-    None
+    rest.iter().position(|&b| b == b',' || b == b'/')
 }
