@@ -1,5 +1,5 @@
 -- Bytes up to a comma or slash, blanks in front, and trailing blanks, as the loops over a field's bytes meet them. Assumes nothing.
-use Prim.Native.Nat.{ℕ, zero, suc, ◌+◌, ◌-◌, ◌≤◌, ◌<◌}
+use Prim.Native.Nat.{ℕ, zero, suc, ◌+◌, ◌-◌, ◌≤◌, ◌<◌, zero-le}
 use mathlib.Core.Path.{◌≡◌, refl, sym, ap, ◌∙◌}
 use mathlib.Core.Bool.{Bool, true, false, cond, not}
 use mathlib.Core.List.{[], ◌∷◌, ◌++◌}
@@ -25,6 +25,15 @@ one_more false n = omega arith
 pub until-position : (test : ℕ → Bool) (f : Bytes) → until test f ≡ position_or_len test f
 unfolding until
 until-position test f = is_position_or_len (until test) test refl (λ b bs. one_more (test b) (until test bs)) f
+
+pub until-within : (test : ℕ → Bool) (f : Bytes) → until test f ≤ length f
+unfolding until
+until-within test [] = zero-le
+until-within test (b ∷ f) = go (test b) (until-within test f)
+  where
+    go : (t : Bool) → until test f ≤ length f → cond t 0 (suc (until test f)) ≤ suc (length f)
+    go true h = zero-le
+    go false h = omega arith
 
 -- ---- blanks in front
 

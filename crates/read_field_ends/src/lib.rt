@@ -11,14 +11,7 @@ ghost use Rattle.read_field_ends.specs.FieldLengths.{extent_of};
 pub fn blanks_len(f: &[u8]) -> usize
     ensures { (result ≡ leading_blanks f.now) × (result ≤ length f.now) }
 {
-    let mut i: usize = 0;
-    while i < f.len() {
-        if f[i] != b' ' {
-            return i;
-        }
-        i += 1;
-    }
-    i
+    f.iter().position(|&b| b != b' ').unwrap_or(f.len())
 }
 
 // How many bytes are left without the trailing blanks.
