@@ -83,19 +83,7 @@ pub fn begins_with(s: &[u8], start: Place, x: u8, y: u8) -> bool
     ensures { result ≡ same_bytes (x ∷ y ∷ comma ∷ []) (take 3 (drop start.0 s.now)) }
 {
     let at = start.0;
-    if s.len() < 3 {
-        return false;
-    }
-    if s.len() - 3 < at {
-        return false;
-    }
-    if s[at] != x {
-        return false;
-    }
-    if s[at + 1] != y {
-        return false;
-    }
-    s[at + 2] == b','
+    at < s.len() && 2 < s.len() - at && s[at] == x && s[at + 1] == y && s[at + 2] == b','
 }
 
 // A line of this code starts there.
