@@ -94,35 +94,28 @@ pub fn begins(s: &[u8], start: Place, code: Code) -> bool
     begins_with(s, start, d.0, d.1)
 }
 
+// The codes, in the order of their numbers.
+const CODES: [Code; 8] = [
+    Code::FileHeader,
+    Code::GroupHeader,
+    Code::AccountHeader,
+    Code::Detail,
+    Code::AccountTrailer,
+    Code::GroupTrailer,
+    Code::FileTrailer,
+    Code::Continuation,
+];
+
 // Drawn into each caller: the reader asks it of every record.
 // The code of the line that starts there, if it has one.
 #[inline(always)]
 pub fn code_at(s: &[u8], start: Place) -> Option<Code>
     ensures { code_found result ≡ code_of (first_line (drop start.0 s.now)) }
 {
-    if begins(s, start, Code::FileHeader) {
-        return Some(Code::FileHeader);
-    }
-    if begins(s, start, Code::GroupHeader) {
-        return Some(Code::GroupHeader);
-    }
-    if begins(s, start, Code::AccountHeader) {
-        return Some(Code::AccountHeader);
-    }
-    if begins(s, start, Code::Detail) {
-        return Some(Code::Detail);
-    }
-    if begins(s, start, Code::AccountTrailer) {
-        return Some(Code::AccountTrailer);
-    }
-    if begins(s, start, Code::GroupTrailer) {
-        return Some(Code::GroupTrailer);
-    }
-    if begins(s, start, Code::FileTrailer) {
-        return Some(Code::FileTrailer);
-    }
-    if begins(s, start, Code::Continuation) {
-        return Some(Code::Continuation);
+    for code in CODES {
+        if begins(s, start, code) {
+            return Some(code);
+        }
     }
     None
 }
