@@ -171,7 +171,8 @@ def crates():
 @check
 def header():
     """include/bai2.h has the library's names and numbers of refusals, its limits, and the rules' kinds of fields, of which first_type is TYPE there."""
-    named = {name: int(number) for name, number in re.findall(r"const (\w+): u64 = (\d+);", text_of("crates/base_refusals/src/lib.rt"))}
+    reasons = re.findall(r"^    (\w+) = (\d+),$", text_of("crates/base_refusals/src/lib.rt"), re.M)
+    named = {re.sub(r"(?<!^)(?=[A-Z])", "_", name).upper(): int(number) for name, number in reasons}
     limits = {name: int(n.replace("_", "")) for name, n in re.findall(r"const (LONGEST_\w+): usize = ([\d_]+);", text_of("crates/base_limits/src/lib.rt"))}
     told = {name: int(number) for name, number in re.findall(r"\bBAI2_(\w+) = (\d+)", text_of("include/bai2.h"))}
     if sorted(named.values()) != list(range(1, 21)):

@@ -47,16 +47,6 @@ impl Reason {
         self as u64
     }
 
-    // A refusal for this reason that no byte shows: its place is 0.
-    pub fn nowhere(self) -> Refusal
-        ensures { result ≡ record { reason = self; place = record { 0 = 0 } } }
-    {
-        Refusal {
-            reason: self,
-            place: Place(0),
-        }
-    }
-
     // A refusal for this reason that the byte at this place shows.
     pub fn at(self, place: Place) -> Refusal
         ensures { result ≡ record { reason = self; place = place } }
@@ -65,5 +55,12 @@ impl Reason {
             reason: self,
             place,
         }
+    }
+
+    // A refusal for this reason that no byte shows: its place is 0.
+    pub fn nowhere(self) -> Refusal
+        ensures { result ≡ record { reason = self; place = record { 0 = 0 } } }
+    {
+        self.at(Place(0))
     }
 }
