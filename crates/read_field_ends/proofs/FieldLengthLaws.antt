@@ -1,19 +1,19 @@
 -- Bytes up to a comma or slash, blanks in front, and trailing blanks, as the loops over a field's bytes meet them. Assumes nothing.
-use Prim.Native.Nat.{ℕ, zero, suc, ◌+◌, ◌-◌, ◌≤◌, ◌<◌, zero-le}
+use Prim.Native.Nat.{ℕ, suc, ◌+◌, ◌≤◌, ◌<◌, zero-le}
 use mathlib.Core.Path.{◌≡◌, refl, sym, ap, ◌∙◌}
 use mathlib.Core.Bool.{Bool, true, false, cond, not}
-use mathlib.Core.List.{[], ◌∷◌, ◌++◌}
-use native.Mathlib.Numerals.{add-one}
+use mathlib.Core.List.{[], ◌∷◌, ◌++◌, reverse, reverse-cons, reverse-reverse}
 use native.Mathlib.Omega.{arith}
 use lib.Dec.{eqb, ltb}
-use lib.ListN.{length, get_or, take, drop, drop_of_length-le, length-take}
-use lib.Seq.{drop-cons, take_all, take-suc, length-take-le}
-use borrow.Author.Tests.{ne_eqb, ltb-true, ltb-false, lt-ltb, le-ltb}
-use Rattle.rules.specs.Bytes.{Bytes, blank, comma, slash, trimmed, trimmed_before}
+use lib.ListN.{length, take, length-take, length-append, length-reverse}
+use borrow.Author.Tests.{ne_eqb, eq-eqb, eqb-true, ltb-true, ltb-false}
+use Rattle.rules.specs.Bytes.{Bytes, blank, trimmed, trimmed_before}
+use Rattle.rules.proofs.Tests.{Known, holds, fails, known}
 use Rattle.rules.specs.Cells.{leading_blanks}
-use Rattle.read_field_ends.specs.FieldLengths.{until, is_mark, field_len, extent_of}
+use Rattle.read_field_ends.specs.FieldLengths.{until, field_len, extent_of}
 use Rattle.std.specs.Prelude.{Some, None}
 use Rattle.std.specs.List.{position_or_len}
+use Rattle.std.proofs.lemmas.Bool.{false≢true}
 use Rattle.std.proofs.lemmas.List.Recursion.{is_position_or_len}
 
 -- ---- up to the first byte that passes a test
@@ -67,29 +67,21 @@ unfolding trimmed trimmed_before
 other_last [] b h = rw (ne_eqb b blank h)
 other_last (c ∷ s) b h = ap (trimmed_before c) (other_last s b h) ∙ before-some c b s
 
-module _ (s : Bytes) (n : ℕ) (some : 0 < n) (long : n ≤ length s) (left : trimmed (take n s) ≡ trimmed s) where
-  last_of : take n s ≡ take (n - 1) s ++ (get_or s (n - 1) 0 ∷ [])
-  last_of =
-      let e : n ≡ suc (n - 1) = omega arith in
-      ap (λ (k : ℕ). take k s) e ∙ take-suc s (n - 1) 0 (omega arith)
+-- so many blanks stand behind: in front of the bytes in reverse
+trimmed-behind : (r : Bytes) → length (trimmed (reverse r)) + until no_blank r ≡ length r
+unfolding until trimmed
+trimmed-behind [] = refl
+trimmed-behind (b ∷ r) = rw (reverse-cons b r) (go (known (eqb b blank)) (trimmed-behind r))
+  where
+    go : Known (eqb b blank) → length (trimmed (reverse r)) + until no_blank r ≡ length r
+        → length (trimmed (reverse r ++ (b ∷ []))) + cond (not (eqb b blank)) 0 (suc (until no_blank r)) ≡ suc (length r)
+    go (holds e) ih = rw (e, eqb-true b blank e, blank-last (reverse r)) (omega arith)
+    go (fails e) ih =
+        rw (e, other_last (reverse r) b (λ h. absurd (false≢true (sym e ∙ eq-eqb b blank h))), length-append (reverse r) (b ∷ []), length-reverse r)
+        (omega arith)
 
-  -- the last byte is no blank: here it ends
-  pub trim-stop : (get_or s (n - 1) 0 ≡ blank → ⊥) → n ≡ length (trimmed s)
-  trim-stop h =
-      let e : take n s ≡ trimmed s = last_of ∙ sym (other_last (take (n - 1) s) (get_or s (n - 1) 0) h) ∙ ap trimmed (sym last_of) ∙ left in
-      sym (length-take-le n s long) ∙ ap length e
-
-  pub trim-on : get_or s (n - 1) 0 ≡ blank → trimmed (take (n - 1) s) ≡ trimmed s
-  trim-on h =
-      sym (blank-last (take (n - 1) s)) ∙ ap (λ (b : ℕ). trimmed (take (n - 1) s ++ (b ∷ []))) (sym h) ∙ ap trimmed (sym last_of) ∙ left
-
-pub trim_start : (s : Bytes) → trimmed (take (length s) s) ≡ trimmed s
-trim_start s = ap trimmed (take_all (length s) s (omega arith))
-
-pub trim-none : (s : Bytes) (n : ℕ) → n ≤ 0 → trimmed (take n s) ≡ trimmed s → n ≡ length (trimmed s)
-unfolding trimmed
-trim-none s zero h e = ap length e
-trim-none s (suc n) h e = absurd (omega arith)
+pub trimmed-rest : (s : Bytes) → length (trimmed s) + until no_blank (reverse s) ≡ length s
+trimmed-rest s = rw (reverse-reverse s, length-reverse s) at (trimmed-behind (reverse s))
 
 -- what is left is the front
 trim-front-step : (b : ℕ) (s t : Bytes) → t ≡ trimmed s → take (length t) s ≡ t → take (length (trimmed_before b t)) (b ∷ s) ≡ trimmed_before b t

@@ -18,14 +18,7 @@ pub fn blanks_len(f: &[u8]) -> usize
 fn trimmed_len(f: &[u8]) -> usize
     ensures { result ≡ length (trimmed f.now) }
 {
-    let mut n = f.len();
-    while 0 < n {
-        if f[n - 1] != b' ' {
-            return n;
-        }
-        n -= 1;
-    }
-    n
+    f.len() - f.iter().rev().position(|&b| b != b' ').unwrap_or(f.len())
 }
 
 // How long the first field is of what is left of a line, unless the line ends before a comma or slash; a text takes all of it, less trailing blanks.
