@@ -25,15 +25,10 @@ const ZEROS_PASSED: usize = 8;
 pub fn all_between(s: &[u8], lo: u8, hi: u8) -> bool
     ensures { result ≡ all (between lo hi) s.now }
 {
-    let mut i: usize = 0;
-    while i < s.len() {
-        if s[i] < lo {
+    for &b in s {
+        if b < lo || hi < b {
             return false;
         }
-        if hi < s[i] {
-            return false;
-        }
-        i += 1;
     }
     true
 }
@@ -42,10 +37,7 @@ pub fn all_between(s: &[u8], lo: u8, hi: u8) -> bool
 pub fn is_digits(s: &[u8], lo: usize, hi: usize) -> bool
     ensures { result ≡ digits lo hi s.now }
 {
-    if s.len() < lo {
-        return false;
-    }
-    if hi < s.len() {
+    if s.len() < lo || hi < s.len() {
         return false;
     }
     all_between(s, b'0', b'9')
@@ -89,23 +81,14 @@ pub fn value(s: &[u8]) -> u64
 pub fn is_negative(f: &[u8]) -> bool
     ensures { result ≡ starts_with minus f.now }
 {
-    if f.len() == 0 {
-        return false;
-    }
-    f[0] == b'-'
+    0 < f.len() && f[0] == b'-'
 }
 
 // The bytes less a plus or minus in front.
 pub fn without_sign(f: &[u8]) -> &[u8]
     ensures { result.now ≡ without_sign f.now }
 {
-    if f.len() == 0 {
-        return f;
-    }
-    if f[0] == b'+' {
-        return &f[1..];
-    }
-    if f[0] == b'-' {
+    if 0 < f.len() && (f[0] == b'+' || f[0] == b'-') {
         return &f[1..];
     }
     f
@@ -122,8 +105,5 @@ pub fn is_signed(f: &[u8]) -> bool
 pub fn is_unsigned(f: &[u8]) -> bool
     ensures { result ≡ is_unsigned f.now }
 {
-    if is_negative(f) {
-        return false;
-    }
-    is_signed(f)
+    !is_negative(f) && is_signed(f)
 }
