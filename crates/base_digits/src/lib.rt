@@ -43,34 +43,26 @@ pub fn is_digits(s: &[u8], lo: usize, hi: usize) -> bool
     all_between(s, b'0', b'9')
 }
 
-// A byte as a wider number.
-fn wide(x: u8) -> u64
-    ensures { result ≡ x }
-{
-    x as u64
-}
-
 // The number that up to 18 digits stand for; 0 for anything else. One test tells a digit: a byte below '0' wraps to more than 9.
 pub fn value(s: &[u8]) -> u64
     ensures { (result ≡ value_of s.now) × (result ≤ most) }
 {
-    let mut v: u64 = 0;
-    let mut i: usize = 0;
+    let mut rest = s;
     if LONG_NUMBER <= s.len() {
         if MOST_DIGITS < s.len() {
             return 0;
         }
-        if all_between(&s[0..ZEROS_PASSED], b'0', b'0') {
-            i = ZEROS_PASSED;
+        if all_between(&s[..ZEROS_PASSED], b'0', b'0') {
+            rest = &s[ZEROS_PASSED..];
         }
     }
-    while i < s.len() {
-        let d = std::num::wrapping_sub_u8(s[i], b'0');
+    let mut v: u64 = 0;
+    for &b in rest {
+        let d = std::num::wrapping_sub_u8(b, b'0');
         if 9 < d {
             return 0;
         }
-        v = v * 10 + wide(d);
-        i += 1;
+        v = v * 10 + u64::from(d);
     }
     v
 }
