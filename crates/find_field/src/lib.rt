@@ -17,15 +17,16 @@ use base_codes::Code;
 use base_quantities::Place;
 use find_walk::Reached;
 
-// The kinds of field that can be sought: a detail's type, its amount, and its first text piece; a group's receiver; a trailer's total and its number of records.
+// The kinds of field that can be sought, by their numbers: a detail's type, its amount, and its first text piece; a group's receiver; a trailer's total and its
+// number of records.
 #[derive(Clone, Copy)]
 pub enum Sought {
-    Type,
-    Amount,
-    Text,
-    Receiver,
-    Total,
-    Records,
+    Type = 20,
+    Amount = 17,
+    Text = 21,
+    Receiver = 3,
+    Total = 27,
+    Records = 29,
 }
 
 // Where a field starts, and its length.
@@ -39,26 +40,18 @@ pub struct Spot {
 fn kind_sought(sought: Sought) -> u64
     ensures { result ≡ kind_number (kind_meant sought) }
 {
-    match sought {
-        Sought::Type => 20,
-        Sought::Amount => 17,
-        Sought::Text => 21,
-        Sought::Receiver => 3,
-        Sought::Total => 27,
-        Sought::Records => 29,
-    }
+    sought as u64
 }
 
 // The field sought in a record of this code; none where the walk ends, or is refused, before one is met.
 pub fn seek(rec: &[u8], code: Code, sought: Sought) -> Option<Spot>
     ensures { Spots rec.now (code_meant code) sought result }
 {
-    let mut none = [0u64; 1];
     let kind = kind_sought(sought);
-    match find_walk::walk_to(rec, Place(0), rec.len(), code, kind, &mut none) {
-        Err(_) => None,
-        Ok(Reached::Over(_)) => None,
+    match find_walk::walk_to(rec, Place(0), rec.len(), code, kind, &mut []) {
         Ok(Reached::Field(start, length)) => Some(Spot { start, length }),
+        Ok(Reached::Over(_)) => None,
+        Err(_) => None,
     }
 }
 

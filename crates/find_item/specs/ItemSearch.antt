@@ -1,6 +1,6 @@
 -- An item of a 03, sought among the fields that the walk over it yields. Assumes nothing.
 use Rattle.std.specs.Prelude as prelude
-use Rattle.std.specs.Prelude.{ℕ, zero, suc, ◌+◌, ◌≤◌, ◌≡◌, Bool, true, false, cond, List, [], ◌∷◌, length, take, drop}
+use Rattle.std.specs.Prelude.{ℕ, zero, suc, ◌+◌, ◌≤◌, ◌<◌, ◌≡◌, Bool, true, false, cond, List, [], ◌∷◌, length, take, drop}
 use Rattle.std.proofs.Math.Option.{Option, none, some}
 use Rattle.rules.specs.Bytes.{Bytes}
 use Rattle.rules.specs.Outcome.{Outcome, refuse, fine}
@@ -10,8 +10,9 @@ use Rattle.rules.specs.Records.{Field}
 use Rattle.rules.specs.Items.{AccountItem, begins_item, first_bytes, second_bytes, item_from}
 use Rattle.base_digits.specs.NumbersRead.{value_of}
 use Rattle.base_amounts.specs.AmountsRead.{amount_meant, amount_read}
-use Rattle.find_next.specs.FieldTrace.{Trace, stops, ends, yields, trace_lines}
-use Rattle.find_next.specs.CursorMeaning.{own_lines, trace_of, Inside}
+use Rattle.read_wanted.specs.Wants.{wanted_of}
+use Rattle.find_next.specs.FieldTrace.{Trace, stops, ends, yields, field_at, trace_lines}
+use Rattle.find_next.specs.CursorMeaning.{own_lines, trace_of, Inside, left_of}
 use Rattle.base_quantities.specs.declared.Count.{Count}
 use Rattle.find_next.specs.declared.Cursor.{Cursor}
 use Rattle.find_next.specs.declared.FieldStep.{FieldStep}
@@ -67,6 +68,13 @@ ahead rec c = yielded (trace_of rec 1 c)
 -- a field's bytes
 abbrev pub bytes_in : Bytes → FieldStep → Bytes
 bytes_in rec t = take t.length (drop t.start.0 rec)
+
+-- the next field of a walk that stands inside the record, and nearer to its end after it; or none is ahead
+abbrev pub Follows : Bytes → Cursor → prelude.Option FieldStep → Type 0
+Follows rec c prelude.None = ahead rec c ≡ []
+Follows rec c (prelude.Some t) =
+    (ahead rec c ≡ field_at (wanted_of c.want) t.start.0 (bytes_in rec t) ∷ ahead rec t.after)
+    × (Inside rec c → (t.start.0 + t.length ≤ length rec) × Inside rec t.after × (left_of rec t.after < left_of rec c))
 
 -- it stands in the record, and so does the walk after it
 pub record Stands (rec : Bytes) (t : FieldStep) : Type 0 where

@@ -4,7 +4,7 @@
 
 ghost use Rattle.std.specs.Prelude.{◌≡◌, not, ◌&&◌, ◌||◌, ◌+◌, ◌≤◌, eqb, length, take, drop};
 ghost use Rattle.find_next.specs.CursorMeaning.{Inside};
-ghost use Rattle.find_item.specs.ItemSearch.{item_sought, count_meant, count_read, found_meant, met_by, Takes, Seeks};
+ghost use Rattle.find_item.specs.ItemSearch.{item_sought, count_meant, count_read, found_meant, met_by, Follows, Takes, Seeks};
 
 use base_amounts::Amount;
 use base_codes::Code;
@@ -29,26 +29,25 @@ pub struct Item {
 fn begins_item(kind: u64, size: usize) -> bool
     ensures { result ≡ ((eqb 14 kind || eqb 15 kind) && not (eqb size 0)) }
 {
-    if size == 0 {
-        return false;
-    }
-    if kind == FIRST_TYPE {
-        return true;
-    }
-    kind == FURTHER_TYPE
+    size != 0 && (kind == FIRST_TYPE || kind == FURTHER_TYPE)
 }
 
 // How many items are still to be passed after a field, by whether it begins one, where so many are before it; none where it begins the one sought.
+#[tactic(auto, unfolding(crate::specs::ItemSearch::met_by))]
 fn meet(begins: bool, left: u64) -> Option<u64>
     ensures { result ≡ met_by begins left }
 {
-    if !begins {
-        return Some(left);
+    if begins {
+        return left.checked_sub(1);
     }
-    if left == 0 {
-        return None;
-    }
-    Some(left - 1)
+    Some(left)
+}
+
+// The next field of the 03 in front of these bytes; none where it is over or refused.
+fn next_of(rec: &[u8], walk: Cursor) -> Option<FieldStep>
+    ensures { Follows rec.now walk result }
+{
+    find_next::next_field(rec, 1, walk).unwrap_or(None)
 }
 
 // The type of the item of this number in the 03 in front of these bytes.
@@ -58,16 +57,12 @@ fn seek_type(rec: &[u8], n: u64) -> Option<FieldStep>
     let mut walk = find_next::before_record(want::first_want(Code::AccountHeader));
     let mut left = n;
     loop {
-        let step = match find_next::next_field(rec, 1, walk) {
-            Err(_) => return None,
-            Ok(None) => return None,
-            Ok(Some(step)) => step,
-        };
+        let step = next_of(rec, walk)?;
         let begins = begins_item(read_kinds::kind_number(walk.want), step.length);
-        match meet(begins, left) {
-            None => return Some(step),
-            Some(more) => left = more,
-        }
+        let Some(more) = meet(begins, left) else {
+            return Some(step);
+        };
+        left = more;
         walk = step.after;
     }
 }
@@ -77,15 +72,13 @@ fn take_next(rec: &[u8], walk: Cursor) -> FieldStep
     requires { Inside rec.now walk }
     ensures { Takes rec.now walk result }
 {
-    let none = FieldStep {
-        start: Place(0),
-        length: 0,
-        after: walk,
-    };
-    match find_next::next_field(rec, 1, walk) {
-        Err(_) => none,
-        Ok(None) => none,
-        Ok(Some(step)) => step,
+    match next_of(rec, walk) {
+        Some(step) => step,
+        None => FieldStep {
+            start: Place(0),
+            length: 0,
+            after: walk,
+        },
     }
 }
 
@@ -99,13 +92,14 @@ fn bytes_of(rec: &[u8], field: FieldStep) -> &[u8]
 }
 
 // The item count in a field.
+#[tactic(auto, unfolding(crate::specs::ItemSearch::count_read))]
 fn count_in(f: &[u8]) -> Option<Count>
     ensures { count_meant result ≡ count_read f.now }
 {
-    if f.len() == 0 {
-        return None;
+    match f {
+        [] => None,
+        _ => Some(Count(base_digits::value(f))),
     }
-    Some(Count(base_digits::value(f)))
 }
 
 // The item of this number in the 03 in front of these bytes: a type, then its amount and its item count.
