@@ -16,7 +16,7 @@ returns c =
     let m = c.args.kept.total.magnitude.0 in
     c.require.ensures
     ∙ elim c.if-kept.branch [
-      then-kept+then-sum w ↦ rw (w.right-is, w.if-kept.true) (told _ (minus_right s.0 s.1 m w.if-sum.true))
+      | then-kept+then-sum w ↦ rw (w.right-is, w.if-kept.true) (told _ (minus_right s.0 s.1 m w.if-sum.true))
       | then-kept+else-sum w ↦ rw (w.right-is, w.if-kept.true) (told _ (minus_wrong s.0 s.1 m w.if-sum.false))
       | else-kept+then-sum-2 w ↦ rw (w.right-is, w.if-kept.false) (told _ (plus_right s.0 s.1 m w.if-sum-2.true))
       | else-kept+else-sum-2 w ↦ rw (w.right-is, w.if-kept.false) (told _ (plus_wrong s.0 s.1 m w.if-sum-2.false))

@@ -11,6 +11,6 @@ unfolding limit_k
 returns c =
     let e = c.eq.ensures ∙ same_codes c.args.code FileHeader in
     elim c.else-eq.branch [
-      else-eq-via-then-eq+else-kept w ↦ sym (rw (sym e ∙ w.if-eq.true) (rw w.if-kept.false))
+      | else-eq-via-then-eq+else-kept w ↦ sym (rw (sym e ∙ w.if-eq.true) (rw w.if-kept.false))
       | else-eq-via-else-eq w ↦ sym (rw (sym e ∙ w.if-eq.false))
     ]
