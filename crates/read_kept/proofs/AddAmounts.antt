@@ -1,10 +1,9 @@
 -- What is kept, by the cases of the code. Assumes nothing.
-use Prim.Native.Nat.{ℕ, ◌+◌, ◌-◌, ◌≤◌, ◌<◌}
+use Prim.Native.Nat.{ℕ, ◌+◌, ◌≤◌, ◌<◌}
 use mathlib.Core.Path.{◌≡◌, refl, ap, sym, ◌∙◌}
-use mathlib.Core.Bool.{Bool, true, false, not}
+use mathlib.Core.Bool.{true, false, not}
 use native.Mathlib.Omega.{arith}
-use borrow.Author.Tests.{le-leb, lt-leb, lt-ltb, le-ltb, ltb-true, ltb-false}
-use lib.Dec.{ltb}
+use borrow.Author.Tests.{le-leb, lt-leb}
 use Rattle.rules.specs.Bytes.{Bytes}
 use Rattle.rules.specs.Numbers.{Sum, ◌⊕◌, magnitudes}
 use Rattle.rules.specs.Amounts.{Amount, empty, unsigned, with_plus, with_minus, magnitude_of, amount_adds}
@@ -15,20 +14,6 @@ use Rattle.base_quantities.proofs.UnitsLaws.{sum-not-wrapped}
 use Rattle.read_wanted.specs.Wants.{Purpose, for_amount, for_total, for_count, for_records, for_length, for_nothing, same_purpose}
 use Rattle.read_kept.specs.declared.Kept.{Kept}
 use Rattle.read_kept.specs.KeepFields.{place, Amounts, add_to, keep_with, keep_read}
-
--- ---- the largest
-
-module _ (m a b n : ℕ) where
-  pub pass : most < m + (a + b) + n → true ≡ ltb most (m + (a + b) + n)
-  pass h = sym (lt-ltb most (m + (a + b) + n) h)
-
-  -- by what is left below it
-  pub pass-left : m + (a + b) ≤ most → ltb (most - m - a - b) n ≡ ltb most (m + (a + b) + n)
-  pass-left h = go (ltb (most - m - a - b) n) refl
-    where
-      go : (t : Bool) → ltb (most - m - a - b) n ≡ t → t ≡ ltb most (m + (a + b) + n)
-      go true e = let z = ltb-true (most - m - a - b) n e in sym (lt-ltb most (m + (a + b) + n) (omega arith))
-      go false e = let z = ltb-false (most - m - a - b) n e in sym (le-ltb most (m + (a + b) + n) (omega arith))
 
 -- ---- an amount
 

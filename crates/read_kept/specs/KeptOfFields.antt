@@ -12,13 +12,13 @@ use Rattle.read_kept.specs.declared.Kept.{Kept}
 
 -- what is kept of a trailer's total: its place and its sum; of its count and its record count; and of L: whether it was given, and its number
 abbrev pub kept_total : Kept → ℕ × Sum
-kept_total k = (k.total.at.0, as_sum (record { negative = k.total_negative; magnitude = k.total.magnitude.0 }))
+kept_total k = (k.total.at.0, as_sum (record { negative = k.total_negative; magnitude = k.total.value.0 }))
 
 abbrev pub kept_count : Kept → ℕ × ℕ
-kept_count k = (k.count.at.0, k.count.count.0)
+kept_count k = (k.count.at.0, k.count.value.0)
 
 abbrev pub kept_records : Kept → ℕ × ℕ
-kept_records k = (k.records.at.0, k.records.records.0)
+kept_records k = (k.records.at.0, k.records.value.0)
 
 abbrev pub kept_length : Kept → Bool × ℕ
 kept_length k = (k.length_given, k.length)

@@ -1,6 +1,6 @@
 // What a walk keeps of a record's fields for the checks that come after it: 10, a trailer's 11 to 14, and L.
 
-#![tactic(auto)]
+#![tactic(auto, unfolding(crate::specs::KeepFields::keep_read, crate::specs::KeepFields::keep_with))]
 
 ghost use Rattle.std.specs.Prelude.{◌≡◌, not, ◌+◌, ltb};
 ghost use Rattle.rules.specs.Numbers.{magnitudes};
@@ -15,25 +15,11 @@ use base_limits::MOST;
 use base_quantities::{Count, Magnitude, Place, Records, Units};
 use read_wanted::want::{Keep, Want};
 
-// A trailer's total, less its sign, and where it stands.
+// What a trailer states, and where it stands: its total less its sign, its count of accounts or groups, or its record count.
 #[derive(Clone, Copy)]
-pub struct StatedTotal {
+pub struct Stated<T> {
     pub at: Place,
-    pub magnitude: Magnitude,
-}
-
-// A trailer's count of accounts or groups, and where it stands.
-#[derive(Clone, Copy)]
-pub struct StatedCount {
-    pub at: Place,
-    pub count: Count,
-}
-
-// A trailer's record count, and where it stands.
-#[derive(Clone, Copy)]
-pub struct StatedRecords {
-    pub at: Place,
-    pub records: Records,
+    pub value: T,
 }
 
 // before: the magnitudes of the records before; sum: of this record's amounts; over: one of them passed the largest, the first at `past`; length: L.
@@ -43,9 +29,9 @@ pub struct Kept {
     pub before: Magnitude,
     pub sum: Units,
     pub past: Place,
-    pub total: StatedTotal,
-    pub count: StatedCount,
-    pub records: StatedRecords,
+    pub total: Stated<Magnitude>,
+    pub count: Stated<Count>,
+    pub records: Stated<Records>,
     pub length: usize,
     pub over: bool,
     pub total_seen: bool,
@@ -60,14 +46,7 @@ pub struct Kept {
 pub fn is_kept(want: Want) -> bool
     ensures { result ≡ not (same_purpose for_nothing (purpose (next_kind (wanted_of want)))) }
 {
-    match read_wanted::want::kept_for(want) {
-        Keep::Amount => true,
-        Keep::Total => true,
-        Keep::Count => true,
-        Keep::Records => true,
-        Keep::Length => true,
-        Keep::Nothing => false,
-    }
+    !matches!(read_wanted::want::kept_for(want), Keep::Nothing)
 }
 
 impl Kept {
@@ -79,17 +58,17 @@ impl Kept {
             before,
             sum: Units(0, 0),
             past: Place(0),
-            total: StatedTotal {
+            total: Stated {
                 at: Place(0),
-                magnitude: Magnitude(0),
+                value: Magnitude(0),
             },
-            count: StatedCount {
+            count: Stated {
                 at: Place(0),
-                count: Count(0),
+                value: Count(0),
             },
-            records: StatedRecords {
+            records: Stated {
                 at: Place(0),
-                records: Records(0),
+                value: Records(0),
             },
             length: 0,
             over: false,
@@ -107,18 +86,11 @@ impl Kept {
         ensures { result ≡ ltb most (self.before.0 + magnitudes (sum_meant self.sum) + n.0) }
     {
         let sum = self.sum;
-        let before = self.before;
-        if MOST < before.0 {
+        if MOST < self.before.0 {
             return true;
         }
-        let room = MOST - before.0;
-        if room < sum.0 {
-            return true;
-        }
-        if room - sum.0 < sum.1 {
-            return true;
-        }
-        room - sum.0 - sum.1 < n.0
+        let room = MOST - self.before.0;
+        room < sum.0 || room - sum.0 < sum.1 || room - sum.0 - sum.1 < n.0
     }
 
     // With an amount more, unless it or one before it passes the largest.
@@ -135,9 +107,7 @@ impl Kept {
             kept.past = at;
             return kept;
         }
-        let sum = self.sum;
-        let more = sum.add(base_amounts::adds(a));
-        kept.sum = more;
+        kept.sum = self.sum.add(base_amounts::adds(a));
         kept
     }
 
@@ -150,9 +120,10 @@ impl Kept {
         }
         let mut kept = self;
         let a = base_amounts::amount_in(f);
-        let magnitude = base_amounts::magnitude_of(a);
-        let total = StatedTotal { at, magnitude };
-        kept.total = total;
+        kept.total = Stated {
+            at,
+            value: base_amounts::magnitude_of(a),
+        };
         kept.total_negative = base_amounts::is_minus(a);
         kept.total_seen = true;
         kept
@@ -166,12 +137,10 @@ impl Kept {
             return self;
         }
         let mut kept = self;
-        let n = base_digits::value(f);
-        let count = StatedCount {
+        kept.count = Stated {
             at,
-            count: Count(n),
+            value: Count(base_digits::value(f)),
         };
-        kept.count = count;
         kept.count_seen = true;
         kept
     }
@@ -184,12 +153,10 @@ impl Kept {
             return self;
         }
         let mut kept = self;
-        let n = base_digits::value(f);
-        let records = StatedRecords {
+        kept.records = Stated {
             at,
-            records: Records(n),
+            value: Records(base_digits::value(f)),
         };
-        kept.records = records;
         kept.records_seen = true;
         kept
     }

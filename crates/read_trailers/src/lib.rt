@@ -38,7 +38,7 @@ fn right_total(s: Summary, kept: Kept) -> Result<(), Refusal>
     ensures { checked_of result ≡ total_k (summary_meant s) kept }
 {
     let sum = s.total;
-    let magnitude = kept.total.magnitude;
+    let magnitude = kept.total.value;
     let right = if kept.total_negative {
         sum.0 <= sum.1 && sum.1 - sum.0 == magnitude.0
     } else {
@@ -52,7 +52,7 @@ fn right_total(s: Summary, kept: Kept) -> Result<(), Refusal>
 fn right_count(n: Count, kept: Kept) -> Result<(), Refusal>
     ensures { checked_of result ≡ count_k n.0 kept }
 {
-    require(n.0 == kept.count.count.0, Reason::WrongCount, kept.count.at)
+    require(n.0 == kept.count.value.0, Reason::WrongCount, kept.count.at)
 }
 
 // 13: a trailer's record count.
@@ -61,7 +61,7 @@ fn right_records(s: Summary, kept: Kept) -> Result<(), Refusal>
     ensures { checked_of result ≡ records_k (summary_meant s) kept }
 {
     require(
-        s.records.0 == kept.records.records.0,
+        s.records.0 == kept.records.value.0,
         Reason::WrongRecordCount,
         kept.records.at,
     )

@@ -13,7 +13,7 @@ pub returns : goal.returns
 unfolding total_k
 returns c =
     let s = c.args.s.total in
-    let m = c.args.kept.total.magnitude.0 in
+    let m = c.args.kept.total.value.0 in
     c.require.ensures
     ∙ elim c.if-kept.branch [
       | then-kept+then-sum w ↦ rw (w.right-is, w.if-kept.true) (told _ (minus_right s.0 s.1 m w.if-sum.true))
