@@ -71,7 +71,7 @@ pub fn take_field(want: Want, f: &[u8]) -> Taken
         Want::Total => fitted(is_signed(f), Want::Count),
         Want::Count => fitted(is_digits(f, 1, 9), Want::Records),
         Want::Records => fitted(is_digits(f, 1, 9), Want::End),
-        Want::End => Err(Reason::WrongField as u64),
+        Want::End => Err(Reason::WrongField),
     }
 }
 

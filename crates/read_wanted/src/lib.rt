@@ -15,8 +15,8 @@ use want::{After, Want};
 
 pub mod want;
 
-// A field was good, and this is wanted next; or it is refused by this number.
-pub type Taken = Result<Want, u64>;
+// A field was good, and this is wanted next; or it is refused for this reason.
+pub type Taken = Result<Want, Reason>;
 
 // A field that must be as this test says, with this wanted after it.
 pub fn fitted(ok: bool, next: Want) -> Taken
@@ -25,7 +25,7 @@ pub fn fitted(ok: bool, next: Want) -> Taken
     if ok {
         Ok(next)
     } else {
-        Err(Reason::WrongField as u64)
+        Err(Reason::WrongField)
     }
 }
 
@@ -42,7 +42,7 @@ pub fn take_version(f: &[u8]) -> Taken
 {
     match f {
         [b'2'] => Ok(Want::End),
-        _ => Err(Reason::WrongVersion as u64),
+        _ => Err(Reason::WrongVersion),
     }
 }
 
@@ -53,7 +53,7 @@ pub fn item(class: Class) -> Taken
     match class {
         Class::Status => Ok(Want::StatusAmount),
         Class::SummaryOnly | Class::SummaryOrDetail => Ok(Want::ItemAmount),
-        Class::NonMonetary | Class::Unknown => Err(Reason::WrongField as u64),
+        Class::NonMonetary | Class::Unknown => Err(Reason::WrongField),
     }
 }
 
@@ -64,7 +64,7 @@ pub fn detail(class: Class) -> Taken
     match class {
         Class::SummaryOrDetail => Ok(Want::DetailAmount),
         Class::NonMonetary => Ok(Want::NoAmount),
-        Class::Status | Class::SummaryOnly | Class::Unknown => Err(Reason::WrongField as u64),
+        Class::Status | Class::SummaryOnly | Class::Unknown => Err(Reason::WrongField),
     }
 }
 
@@ -87,7 +87,7 @@ pub fn take_funds(f: &[u8], after: After) -> Taken
         [b'S'] => Ok(Want::SplitAmount(after, 2)),
         [b'V'] => Ok(Want::ValueDate(after)),
         [b'D'] => Ok(Want::PairCount(after)),
-        _ => Err(Reason::WrongField as u64),
+        _ => Err(Reason::WrongField),
     }
 }
 
@@ -96,11 +96,11 @@ pub fn take_pair_count(f: &[u8], after: After) -> Taken
     ensures { judged_of result ≡ and_then (judged pair_count f.now) (wanted_after after) }
 {
     if !base_digits::is_digits(f, 1, 3) {
-        return Err(Reason::WrongField as u64);
+        return Err(Reason::WrongField);
     }
     let n = base_digits::value(f);
     if n < 1 {
-        return Err(Reason::WrongField as u64);
+        return Err(Reason::WrongField);
     }
     Ok(want::next_pair(after, n))
 }
@@ -110,7 +110,7 @@ pub fn take_piece(f: &[u8]) -> Taken
     ensures { judged_of result ≡ and_then (piece_of f.now) [] }
 {
     match f {
-        [] | [b'/', ..] => Err(Reason::LineBadlyEnded as u64),
+        [] | [b'/', ..] => Err(Reason::LineBadlyEnded),
         _ => Ok(Want::FurtherText),
     }
 }
