@@ -32,16 +32,10 @@ pub fn end_len(s: &[u8], start: Place) -> usize
     if s[at] == b'\n' {
         return 1;
     }
-    if s[at] != b'\r' {
-        return 0;
+    if s[at] == b'\r' && 1 < s.len() - at && s[at + 1] == b'\n' {
+        return 2;
     }
-    if s.len() - at < 2 {
-        return 0;
-    }
-    if s[at + 1] != b'\n' {
-        return 0;
-    }
-    2
+    0
 }
 
 // Where the line that starts there ends, without its end.
