@@ -2,7 +2,7 @@
 -- the fields for `kinds_after` and `with_commas`, joined by `chain-is` (proofs/FieldChains.antt); the text for `good_text_or_none` and `line_rest`, joined by
 -- `with-text` (write_calls/proofs/CallLaws.antt). Assumes nothing.
 use Rattle.std.specs.Prelude as prelude
-use Rattle.std.specs.Prelude.{ℕ, ◌+◌, cond, ◌&&◌, List, [], ◌∷◌, ◌++◌, leb, length, take, Some, None, Ok}
+use Rattle.std.specs.Prelude.{ℕ, ◌+◌, cond, ◌&&◌, List, [], ◌∷◌, ◌++◌, leb, length, take, Some, None}
 use Rattle.std.proofs.Math.Option.{Option, none, some}
 use Rattle.rules.specs.Bytes.{Bytes, comma, slash, is_empty, clean}
 use Rattle.rules.specs.Numbers.{Signed}
@@ -14,7 +14,6 @@ use Rattle.rules.specs.Writer.{or_twenty, good_text}
 use Rattle.base_quantities.specs.QuantityMeanings.{signed_meant}
 use Rattle.base_quantities.specs.declared.Signed as given
 use Rattle.read_wanted.specs.TakenMeaning.{judged_of}
-use Rattle.read_wanted.specs.declared.want.Want.{Want}
 use Rattle.write_line.specs.declared.Draft.{Draft}
 use Rattle.write_line.specs.declared.Items.{Items}
 
@@ -23,13 +22,9 @@ pub record Sofar : Type 0 where
   pub kinds : List Kind
   pub bytes : Bytes
 
--- what a draft says of the space that holds its line
-unfoldable pub draft_of : Bytes → Draft → Outcome Sofar
-draft_of line d = or_twenty (judged_of d.taken) >>= λ ks. fine (record { kinds = ks; bytes = take d.len line })
-
--- a draft of so many bytes that wants this next
-abbrev pub wanting : Want → ℕ → Draft
-wanting want len = record { taken = Ok want; len = len }
+-- what a draft says of the line in its space
+unfoldable pub draft_of : Draft → Outcome Sofar
+draft_of d = or_twenty (judged_of d.taken) >>= λ ks. fine (record { kinds = ks; bytes = take d.len d.line })
 
 -- the bytes of the space in which a line is drafted
 abbrev pub line_space : ℕ
