@@ -12,7 +12,7 @@ ghost use Rattle.write_calls.specs.ItemMeaning.{item_meant, given_item};
 use base_codes::Code;
 use base_quantities::{Signed, Units};
 use base_refusals::Refusal;
-use write_line::{Items, LINE_SPACE};
+use write_line::Items;
 use write_state::{Writer, Written};
 
 // An account with an item, which may be empty.
@@ -29,11 +29,10 @@ fn open_account(
         (rules.write_account number.now currency.now (given_item true type_code.now amount count))
         out.old }
 {
-    let mut space = [0u8; LINE_SPACE];
-    let d = write_records::account(&mut space, number, currency, type_code, amount, count);
+    let line = write_records::account(number, currency, type_code, amount, count);
     let sum = write_line::sum_given(amount);
     let items = !read_values::is_empty(type_code);
-    write_commit::commit(w, Code::AccountHeader, &space, d, sum, items, out)
+    write_commit::commit(w, Code::AccountHeader, &line, sum, items, out)
 }
 
 // The line 01.
@@ -50,9 +49,8 @@ pub fn header(
         (rules.write_header sender.now receiver.now date.now time.now file_number.now)
         out.old }
 {
-    let mut space = [0u8; LINE_SPACE];
-    let d = write_records::header(&mut space, sender, receiver, date, time, file_number);
-    write_commit::commit(w, Code::FileHeader, &space, d, Units::none(), false, out)
+    let line = write_records::header(sender, receiver, date, time, file_number);
+    write_commit::commit(w, Code::FileHeader, &line, Units::none(), false, out)
 }
 
 // The line 02.
@@ -71,11 +69,8 @@ pub fn group(
         (rules.write_group receiver.now originator.now status.now date.now time.now currency.now modifier.now)
         out.old }
 {
-    let mut space = [0u8; LINE_SPACE];
-    let d = write_records::group(
-        &mut space, receiver, originator, status, date, time, currency, modifier,
-    );
-    write_commit::commit(w, Code::GroupHeader, &space, d, Units::none(), false, out)
+    let line = write_records::group(receiver, originator, status, date, time, currency, modifier);
+    write_commit::commit(w, Code::GroupHeader, &line, Units::none(), false, out)
 }
 
 // The line 03, with an item or without one.
@@ -112,10 +107,9 @@ pub fn item(
         (rules.write_item (item_meant type_code.now amount count))
         out.old }
 {
-    let mut space = [0u8; LINE_SPACE];
-    let d = write_records::item(&mut space, type_code, amount, count);
+    let line = write_records::item(type_code, amount, count);
     let sum = write_line::sum_given(amount);
-    write_commit::commit(w, Code::Continuation, &space, d, sum, true, out)
+    write_commit::commit(w, Code::Continuation, &line, sum, true, out)
 }
 
 // The line 16.
@@ -132,15 +126,7 @@ pub fn detail(
         (rules.write_detail type_code.now (amount_given amount) bank_reference.now customer_reference.now text.now)
         out.old }
 {
-    let mut space = [0u8; LINE_SPACE];
-    let d = write_records::detail(
-        &mut space,
-        type_code,
-        amount,
-        bank_reference,
-        customer_reference,
-        text,
-    );
+    let line = write_records::detail(type_code, amount, bank_reference, customer_reference, text);
     let sum = write_line::sum_given(amount);
-    write_commit::commit(w, Code::Detail, &space, d, sum, false, out)
+    write_commit::commit(w, Code::Detail, &line, sum, false, out)
 }

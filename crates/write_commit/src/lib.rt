@@ -18,10 +18,11 @@ use base_codes::Code;
 use base_limits::LONGEST_FILE;
 use base_quantities::{Place, Records, Units};
 use base_refusals::{Reason, Refusal};
-use write_line::{Draft, LINE_SPACE};
+use write_line::Draft;
 use write_state::{Writer, Written};
 
 // 10, 18 or 15 where a line of n bytes that adds this sum has no room.
+#[tactic(auto, using(crate::proofs::CommitLaws::room_is))]
 fn line_fits(w: Writer, sum: Units, n: usize, room: usize) -> Result<(), Refusal>
     ensures { outcome_of (λ u. u) result ≡ room_for (writer_meant w) (sum_meant sum) n room }
 {
@@ -70,24 +71,23 @@ fn after_line(w: Writer, code: Code, sum: Units, items: bool, n: usize) -> Write
 pub fn commit(
     w: Writer,
     code: Code,
-    line: &[u8; LINE_SPACE],
-    d: Draft,
+    line: &Draft,
     sum: Units,
     items: bool,
     out: &mut [u8],
 ) -> Result<Written, Refusal>
     ensures { written_meant w result out.new ≡ written_by (writer_meant w)
-        (committed (writer_meant w) (code_meant code) (draft_of line.now d) (sum_meant sum) items (length out.old))
+        (committed (writer_meant w) (code_meant code) (draft_of line.now) (sum_meant sum) items (length out.old))
         out.old }
 {
     let size = w.size;
     if !write_state::is_sound(w) || !write_state::in_turn(code, w.phase, w.items) {
         return Err(Reason::OutOfTurn.nowhere());
     }
-    if d.taken.is_err() {
+    if line.taken.is_err() {
         return Err(Reason::WrongFieldGiven.nowhere());
     }
-    let body = base_slices::front(line, d.len);
+    let body = base_slices::front(&line.line, line.len);
     let n = body.len() + 1;
     line_fits(w, sum, n, out.len())?;
     write_line::put_at(out, size, body);

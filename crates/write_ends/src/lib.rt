@@ -14,7 +14,6 @@ use base_codes::Code;
 use base_quantities::{Count, Records, Units};
 use base_refusals::Refusal;
 use base_totals::Summary;
-use write_line::LINE_SPACE;
 use write_state::{Writer, Written};
 
 // The line 49.
@@ -23,17 +22,8 @@ pub fn end_account(w: Writer, out: &mut [u8]) -> Result<Written, Refusal>
 {
     let account = w.account;
     let records = account.records.add(Records(1));
-    let mut space = [0u8; LINE_SPACE];
-    let d = write_records::account_end(&mut space, account.total, records);
-    write_commit::commit(
-        w,
-        Code::AccountTrailer,
-        &space,
-        d,
-        Units::none(),
-        false,
-        out,
-    )
+    let line = write_records::account_end(account.total, records);
+    write_commit::commit(w, Code::AccountTrailer, &line, Units::none(), false, out)
 }
 
 // The line 98 or 99: the total, this count, and the records with itself.
@@ -47,9 +37,8 @@ fn end(
     ensures { written_meant w result out.new ≡ ended (writer_meant w) (code_meant code) (summary_meant summary) count.0 out.old }
 {
     let records = summary.records.add(Records(1));
-    let mut space = [0u8; LINE_SPACE];
-    let d = write_records::trailer(&mut space, code, summary.total, count, records);
-    write_commit::commit(w, code, &space, d, Units::none(), false, out)
+    let line = write_records::trailer(code, summary.total, count, records);
+    write_commit::commit(w, code, &line, Units::none(), false, out)
 }
 
 // The line 98.

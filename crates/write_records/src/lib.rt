@@ -17,34 +17,27 @@ use base_codes::Code;
 use base_quantities::{Count, Records, Signed, Units};
 use read_wanted::want;
 use read_wanted::want::Want;
-use write_line::{Draft, Items, LINE_SPACE};
+use write_line::{Draft, Items};
 
 // The line 01: L and block size stay empty, and the version is 2.
-pub fn header(
-    line: &mut [u8; LINE_SPACE],
-    sender: &[u8],
-    receiver: &[u8],
-    date: &[u8],
-    time: &[u8],
-    file_number: &[u8],
-) -> Draft
-    ensures { drawn_of line.new result ≡ line_drawn lines.file_header (fields_of lines.file_header)
-        (sender.now ∷ receiver.now ∷ date.now ∷ time.now ∷ file_number.now ∷ [] ∷ [] ∷ (50 ∷ []) ∷ []) 47 line.old }
+pub fn header(sender: &[u8], receiver: &[u8], date: &[u8], time: &[u8], file_number: &[u8]) -> Draft
+    ensures { drawn_of result ≡ line_drawn lines.file_header (fields_of lines.file_header)
+        (sender.now ∷ receiver.now ∷ date.now ∷ time.now ∷ file_number.now ∷ [] ∷ [] ∷ (50 ∷ []) ∷ []) 47 }
 {
-    let d = write_line::begin(line, Code::FileHeader, want::first_want(Code::FileHeader));
-    let d = write_line::add(line, d, sender, b',');
-    let d = write_line::add(line, d, receiver, b',');
-    let d = write_line::add(line, d, date, b',');
-    let d = write_line::add(line, d, time, b',');
-    let d = write_line::add(line, d, file_number, b',');
-    let d = write_line::add_empty(line, d, b',');
-    let d = write_line::add_empty(line, d, b',');
-    write_line::add_version(line, d)
+    let mut line = Draft::begin(Code::FileHeader, want::first_want(Code::FileHeader));
+    line.add(sender, b',');
+    line.add(receiver, b',');
+    line.add(date, b',');
+    line.add(time, b',');
+    line.add(file_number, b',');
+    line.add_empty(b',');
+    line.add_empty(b',');
+    line.add(b"2", b'/');
+    line
 }
 
 // The line 02.
 pub fn group(
-    line: &mut [u8; LINE_SPACE],
     receiver: &[u8],
     originator: &[u8],
     status: &[u8],
@@ -53,107 +46,93 @@ pub fn group(
     currency: &[u8],
     modifier: &[u8],
 ) -> Draft
-    ensures { drawn_of line.new result ≡ line_drawn lines.group_header (fields_of lines.group_header)
-        (receiver.now ∷ originator.now ∷ status.now ∷ date.now ∷ time.now ∷ currency.now ∷ modifier.now ∷ []) 47 line.old }
+    ensures { drawn_of result ≡ line_drawn lines.group_header (fields_of lines.group_header)
+        (receiver.now ∷ originator.now ∷ status.now ∷ date.now ∷ time.now ∷ currency.now ∷ modifier.now ∷ []) 47 }
 {
-    let d = write_line::begin(line, Code::GroupHeader, want::first_want(Code::GroupHeader));
-    let d = write_line::add(line, d, receiver, b',');
-    let d = write_line::add(line, d, originator, b',');
-    let d = write_line::add(line, d, status, b',');
-    let d = write_line::add(line, d, date, b',');
-    let d = write_line::add(line, d, time, b',');
-    let d = write_line::add(line, d, currency, b',');
-    write_line::add(line, d, modifier, b'/')
+    let mut line = Draft::begin(Code::GroupHeader, want::first_want(Code::GroupHeader));
+    line.add(receiver, b',');
+    line.add(originator, b',');
+    line.add(status, b',');
+    line.add(date, b',');
+    line.add(time, b',');
+    line.add(currency, b',');
+    line.add(modifier, b'/');
+    line
 }
 
 // The line 03: its funds stay empty.
 pub fn account(
-    line: &mut [u8; LINE_SPACE],
     number: &[u8],
     currency: &[u8],
     type_code: &[u8],
     amount: Option<Signed>,
     count: Option<Items>,
 ) -> Draft
-    ensures { drawn_of line.new result ≡ line_drawn lines.account_header (fields_of lines.account_header)
-        (number.now ∷ currency.now ∷ type_code.now ∷ amount_bytes (amount_given amount) ∷ item_count_bytes (items_given count) ∷ [] ∷ []) 47 line.old }
+    ensures { drawn_of result ≡ line_drawn lines.account_header (fields_of lines.account_header)
+        (number.now ∷ currency.now ∷ type_code.now ∷ amount_bytes (amount_given amount) ∷ item_count_bytes (items_given count) ∷ [] ∷ []) 47 }
 {
-    let d = write_line::begin(
-        line,
-        Code::AccountHeader,
-        want::first_want(Code::AccountHeader),
-    );
-    let d = write_line::add(line, d, number, b',');
-    let d = write_line::add(line, d, currency, b',');
-    let d = write_line::add(line, d, type_code, b',');
-    let d = write_line::add_amount(line, d, amount, b',');
-    let d = write_line::add_items(line, d, count, b',');
-    write_line::add_empty(line, d, b'/')
+    let mut line = Draft::begin(Code::AccountHeader, want::first_want(Code::AccountHeader));
+    line.add(number, b',');
+    line.add(currency, b',');
+    line.add(type_code, b',');
+    line.add_amount(amount, b',');
+    line.add_items(count, b',');
+    line.add_empty(b'/');
+    line
 }
 
 // A further item's line 88.
-pub fn item(
-    line: &mut [u8; LINE_SPACE],
-    type_code: &[u8],
-    amount: Option<Signed>,
-    count: Option<Items>,
-) -> Draft
-    ensures { drawn_of line.new result ≡ line_drawn lines.continuation (further_type ∷ [])
-        (type_code.now ∷ amount_bytes (amount_given amount) ∷ item_count_bytes (items_given count) ∷ [] ∷ []) 47 line.old }
+#[tactic(auto, unfolding(read_wanted::specs::Wants::wanted_of))]
+pub fn item(type_code: &[u8], amount: Option<Signed>, count: Option<Items>) -> Draft
+    ensures { drawn_of result ≡ line_drawn lines.continuation (further_type ∷ [])
+        (type_code.now ∷ amount_bytes (amount_given amount) ∷ item_count_bytes (items_given count) ∷ [] ∷ []) 47 }
 {
-    let d = write_line::begin(line, Code::Continuation, Want::FurtherType);
-    let d = write_line::add(line, d, type_code, b',');
-    let d = write_line::add_amount(line, d, amount, b',');
-    let d = write_line::add_items(line, d, count, b',');
-    write_line::add_empty(line, d, b'/')
+    let mut line = Draft::begin(Code::Continuation, Want::FurtherType);
+    line.add(type_code, b',');
+    line.add_amount(amount, b',');
+    line.add_items(count, b',');
+    line.add_empty(b'/');
+    line
 }
 
 // The line 16: its funds stay empty, and an empty text is "/".
 pub fn detail(
-    line: &mut [u8; LINE_SPACE],
     type_code: &[u8],
     amount: Option<Signed>,
     bank_reference: &[u8],
     customer_reference: &[u8],
     text: &[u8],
 ) -> Draft
-    ensures { drawn_of line.new result ≡ text_drawn text.now (line_drawn lines.detail (fields_of lines.detail)
-        (type_code.now ∷ amount_bytes (amount_given amount) ∷ [] ∷ bank_reference.now ∷ customer_reference.now ∷ []) 44 line.old) }
+    ensures { drawn_of result ≡ text_drawn text.now (line_drawn lines.detail (fields_of lines.detail)
+        (type_code.now ∷ amount_bytes (amount_given amount) ∷ [] ∷ bank_reference.now ∷ customer_reference.now ∷ []) 44) }
 {
-    let d = write_line::begin(line, Code::Detail, want::first_want(Code::Detail));
-    let d = write_line::add(line, d, type_code, b',');
-    let d = write_line::add_amount(line, d, amount, b',');
-    let d = write_line::add_empty(line, d, b',');
-    let d = write_line::add(line, d, bank_reference, b',');
-    let d = write_line::add(line, d, customer_reference, b',');
-    write_line::add_text(line, d, text)
+    let mut line = Draft::begin(Code::Detail, want::first_want(Code::Detail));
+    line.add(type_code, b',');
+    line.add_amount(amount, b',');
+    line.add_empty(b',');
+    line.add(bank_reference, b',');
+    line.add(customer_reference, b',');
+    line.add_text(text);
+    line
 }
 
 // The line 49: total and records.
-pub fn account_end(line: &mut [u8; LINE_SPACE], total: Units, records: Records) -> Draft
-    ensures { drawn_of line.new result ≡ line_drawn lines.account_trailer (fields_of lines.account_trailer) (total_bytes (sum_meant total) ∷ decimal records.0 ∷ []) 47 line.old }
+pub fn account_end(total: Units, records: Records) -> Draft
+    ensures { drawn_of result ≡ line_drawn lines.account_trailer (fields_of lines.account_trailer) (total_bytes (sum_meant total) ∷ decimal records.0 ∷ []) 47 }
 {
-    let d = write_line::begin(
-        line,
-        Code::AccountTrailer,
-        want::first_want(Code::AccountTrailer),
-    );
-    let d = write_line::add_total(line, d, total, b',');
-    write_line::add_records(line, d, records, b'/')
+    let mut line = Draft::begin(Code::AccountTrailer, want::first_want(Code::AccountTrailer));
+    line.add_total(total, b',');
+    line.add_records(records, b'/');
+    line
 }
 
 // The line 98 or 99: total, accounts or groups, and records.
-pub fn trailer(
-    line: &mut [u8; LINE_SPACE],
-    code: Code,
-    total: Units,
-    count: Count,
-    records: Records,
-) -> Draft
-    ensures { drawn_of line.new result ≡ line_drawn (code_meant code) (fields_of (code_meant code)) (total_bytes (sum_meant total) ∷ decimal count.0 ∷ decimal records.0 ∷ []) 47 line.old }
+pub fn trailer(code: Code, total: Units, count: Count, records: Records) -> Draft
+    ensures { drawn_of result ≡ line_drawn (code_meant code) (fields_of (code_meant code)) (total_bytes (sum_meant total) ∷ decimal count.0 ∷ decimal records.0 ∷ []) 47 }
 {
-    let d = write_line::begin(line, code, want::first_want(code));
-    let d = write_line::add_total(line, d, total, b',');
-    let d = write_line::add_count(line, d, count, b',');
-    write_line::add_records(line, d, records, b'/')
+    let mut line = Draft::begin(code, want::first_want(code));
+    line.add_total(total, b',');
+    line.add_count(count, b',');
+    line.add_records(records, b'/');
+    line
 }
