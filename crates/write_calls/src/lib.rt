@@ -21,14 +21,8 @@ pub fn header(w: Writer, header: Header, out: &mut [u8]) -> Result<Written, Refu
         (rules.write_header header.entry.sender.now header.entry.receiver.now header.entry.date.now header.entry.time.now header.entry.file_number.now)
         out.old }
 {
-    write_commit::commit(
-        w,
-        Code::FileHeader,
-        &header.draft(),
-        Units::none(),
-        false,
-        out,
-    )
+    let line = header.draft();
+    write_commit::commit(w, Code::FileHeader, &line, Units::none(), false, out)
 }
 
 // The line 02.
@@ -38,14 +32,8 @@ pub fn group(w: Writer, group: Group, out: &mut [u8]) -> Result<Written, Refusal
         group.entry.currency.now group.entry.modifier.now)
         out.old }
 {
-    write_commit::commit(
-        w,
-        Code::GroupHeader,
-        &group.draft(),
-        Units::none(),
-        false,
-        out,
-    )
+    let line = group.draft();
+    write_commit::commit(w, Code::GroupHeader, &line, Units::none(), false, out)
 }
 
 // The line 03, with an item or without one.

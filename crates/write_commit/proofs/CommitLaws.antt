@@ -20,6 +20,7 @@ use Rattle.rules.proofs.Tests.{Known, holds, fails, known}
 use Rattle.laws_writer.proofs.Placing.{placed-more}
 use Rattle.read_wanted.specs.Wants.{wanted_of}
 use Rattle.read_wanted.specs.TakenMeaning.{judged_of}
+use Rattle.base_refusals.specs.declared.Reason.{Reason}
 use Rattle.read_wanted.specs.declared.want.Want.{Want}
 use Rattle.base_refusals.specs.RefusalMeaning.{refusal_meant, outcome_of}
 use Rattle.base_refusals.specs.declared.Refusal.{Refusal}
@@ -34,7 +35,7 @@ use Rattle.write_commit.specs.Commit.{state_after, room_for, committed}
 
 -- ---- the draft
 
-abbrev pub kinds_of : Result Want ℕ → List Kind
+abbrev pub kinds_of : Result Want Reason → List Kind
 kinds_of (Ok want) = wanted_of want
 kinds_of (Err why) = []
 
@@ -43,7 +44,7 @@ module _ (d : Draft) where
   unfolding draft_of judged_of
   draft-refused h = by-taken d.taken refl h
     where
-      by-taken : (r : Result Want ℕ) → d.taken ≡ r → is_err r ≡ true → draft_of d ≡ refuse 20 0
+      by-taken : (r : Result Want Reason) → d.taken ≡ r → is_err r ≡ true → draft_of d ≡ refuse 20 0
       by-taken (Ok want) e z = absurd (false≢true z)
       by-taken (Err why) e z = rw e
 
@@ -51,7 +52,7 @@ module _ (d : Draft) where
   unfolding draft_of judged_of
   draft-good body h b = by-taken d.taken refl h
     where
-      by-taken : (r : Result Want ℕ) → d.taken ≡ r → is_err r ≡ false → draft_of d ≡ fine (record { kinds = kinds_of d.taken; bytes = body })
+      by-taken : (r : Result Want Reason) → d.taken ≡ r → is_err r ≡ false → draft_of d ≡ fine (record { kinds = kinds_of d.taken; bytes = body })
       by-taken (Ok want) e z = rw (e, b)
       by-taken (Err why) e z = absurd (false≢true (sym z))
 

@@ -28,6 +28,7 @@ use Rattle.laws_writer.proofs.Placing.{placed-more}
 use Rattle.read_wanted.specs.Wants.{wanted_of}
 use Rattle.read_wanted.specs.TakenMeaning.{judged_of}
 use Rattle.std.specs.Prelude.{Result, Ok, Err, is_err}
+use Rattle.base_refusals.specs.declared.Reason.{Reason}
 use Rattle.read_wanted.specs.declared.want.Want.{Want}
 use Rattle.write_line.specs.DrawnLine.{Drawn, drawn_of, new_space, room_after, refused_in, code_drawn, bytes_drawn, field_drawn, text_drawn}
 use Rattle.write_line.specs.declared.Draft.{Draft}
@@ -63,7 +64,7 @@ text-short t h = leb-true (length t) 76 (and_left (leb (length t) 76) _ h)
 
 -- a refused draft stays
 module _ (d : Draft) where
-  pub refused-stays : (why : ℕ) → d.taken ≡ Err why → (f : Bytes) (mark : ℕ) → drawn_of d ≡ field_drawn f mark (drawn_of d)
+  pub refused-stays : (why : Reason) → d.taken ≡ Err why → (f : Bytes) (mark : ℕ) → drawn_of d ≡ field_drawn f mark (drawn_of d)
   unfolding drawn_of judged_of field_drawn
   refused-stays why e f mark = rw e
 
@@ -71,7 +72,7 @@ module _ (d : Draft) where
   unfolding drawn_of judged_of text_drawn
   refused-text bad t = by-taken d.taken refl bad
     where
-      by-taken : (r : Result Want ℕ) → d.taken ≡ r → is_err r ≡ true → drawn_of d ≡ text_drawn t (drawn_of d)
+      by-taken : (r : Result Want Reason) → d.taken ≡ r → is_err r ≡ true → drawn_of d ≡ text_drawn t (drawn_of d)
       by-taken (Ok want) e h = absurd (false≢true h)
       by-taken (Err why) e h = rw e
 
@@ -82,7 +83,7 @@ module _ (d : Draft) (want : Want) (is : d.taken ≡ Ok want) where
   field-refused f mark e bad = rw (is, bad) e
 
   module _ (size : length d.line ≡ 640) (room : room_after d.len ≡ true) where
-    pub field-put : (f : Bytes) (mark : ℕ) (t : Result Want ℕ) {put : Bytes} → length f ≤ 76 → clean f ≡ true → judged_of t ≡ take_next (wanted_of want) f
+    pub field-put : (f : Bytes) (mark : ℕ) (t : Result Want Reason) {put : Bytes} → length f ≤ 76 → clean f ≡ true → judged_of t ≡ take_next (wanted_of want) f
         → put ≡ cond (leb (d.len + length f) (length d.line)) (placed d.len f d.line) d.line
         → drawn_of (record { line = set put (d.len + length f) mark; len = d.len + (length f + 1); taken = t }) ≡ field_drawn f mark (drawn_of d)
     unfolding drawn_of judged_of field_drawn
@@ -100,7 +101,7 @@ module _ (d : Draft) where
   unfolding drawn_of judged_of text_drawn
   text-said t ok = by-taken d.taken refl ok
     where
-      by-taken : (r : Result Want ℕ) → d.taken ≡ r → is_err r ≡ false
+      by-taken : (r : Result Want Reason) → d.taken ≡ r → is_err r ≡ false
           → text_drawn t (drawn_of d) ≡ bytes_drawn (room_after d.len && good_text t) (cond (is_empty t) (slash ∷ []) t) (judged_of d.taken) (drawn_of d)
       by-taken (Ok want) e h = rw e
       by-taken (Err why) e h = absurd (false≢true (sym h))

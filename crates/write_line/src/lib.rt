@@ -94,7 +94,7 @@ impl Draft {
         ensures { drawn_of self.new ≡ refused_in self.old.line }
     {
         self.len = 0;
-        self.taken = Err(Reason::WrongFieldGiven as u64);
+        self.taken = Err(Reason::WrongFieldGiven);
     }
 
     // A field more, and the mark after it.
