@@ -8,7 +8,7 @@ ghost use Rattle.rules.specs.Parts as rules;
 ghost use Rattle.rules.specs.Answers.{part_answer, group_part, account_part};
 ghost use Rattle.base_codes.specs.CodeMeaning.{code_meant};
 ghost use Rattle.part_groups.specs.PartMeaning.{part_meant, refusal_told, Inside, bytes_at};
-ghost use Rattle.part_groups.specs.PartsEnclosed.{Finds, FindsWithin};
+ghost use Rattle.part_groups.specs.PartsEnclosed.{EndsAt, Finds, FindsWithin};
 
 use base_codes::Code;
 use base_quantities::Place;
@@ -28,31 +28,35 @@ impl Part {
         ensures { result.now ≡ take self.length (drop self.start.0 file.now) }
     {
         let from = self.start.0;
-        let to = from + self.length;
-        &file[from..to]
+        &file[from..from + self.length]
     }
 }
 
-// The part of this number in an envelope: parts open with one code, up to the next or to the envelope's last record, of the other code.
+// Where the part that opens there ends: where the next one opens, or the envelope's last record begins, of the other code; 17 where none opens there.
+fn part_end(s: &[u8], start: Place, opening: Code, closing: Code) -> Result<Place, Refusal>
+    requires { start.0 ≤ length s.now }
+    ensures { EndsAt (code_meant opening) (code_meant closing) s.now start.0 result }
+{
+    if !read_lines::begins(s, start, opening) {
+        return Err(Reason::NoSuchPart.nowhere());
+    }
+    let first_end = read_lines::record_end(s, start);
+    Ok(find_lines::next_line_of(s, first_end, opening, closing))
+}
+
+// The part of this number in an envelope: after its first record, so many parts are passed.
 fn nth_part(s: &[u8], opening: Code, closing: Code, n: u64) -> Result<Part, Refusal>
     ensures { Finds (code_meant opening) (code_meant closing) s.now n (part_meant result) }
 {
-    let mut at = read_lines::record_end(s, Place(0)).0;
-    let mut left = n;
-    while read_lines::begins(s, Place(at), opening) {
-        let after = read_lines::record_end(s, Place(at));
-        let e = find_lines::next_line_of(s, after, opening, closing).0;
-        if left == 0 {
-            let length = e - at;
-            return Ok(Part {
-                start: Place(at),
-                length,
-            });
-        }
-        left -= 1;
-        at = e;
+    let mut start = read_lines::record_end(s, Place(0));
+    for _ in 0..n {
+        start = part_end(s, start, opening, closing)?;
     }
-    Err(Reason::NoSuchPart.nowhere())
+    let end = part_end(s, start, opening, closing)?;
+    Ok(Part {
+        start,
+        length: end.0 - start.0,
+    })
 }
 
 // The same in a part of the file: the middle of the file is handed on, and the place answered there is counted from the file's start.
@@ -87,8 +91,13 @@ pub fn find_account(file: &[u8], g: u64, n: u64) -> Result<Part, Refusal>
     ensures found { part_meant result ≡ account_part file.now g n }
     ensures inside { Inside file.now (part_meant result) }
 {
-    let group = find_group(file, g)?;
-    part_within(file, group, Code::AccountHeader, Code::GroupTrailer, n)
+    part_within(
+        file,
+        find_group(file, g)?,
+        Code::AccountHeader,
+        Code::GroupTrailer,
+        n,
+    )
 }
 
 // Where the detail of this number in that account stands: its 16, to the end of its last line.
@@ -96,8 +105,13 @@ pub fn find_detail(file: &[u8], g: u64, a: u64, n: u64) -> Result<Part, Refusal>
     ensures found { part_meant result ≡ part_answer (rules.detail_part_at file.now g a n) }
     ensures inside { Inside file.now (part_meant result) }
 {
-    let account = find_account(file, g, a)?;
-    part_within(file, account, Code::Detail, Code::AccountTrailer, n)
+    part_within(
+        file,
+        find_account(file, g, a)?,
+        Code::Detail,
+        Code::AccountTrailer,
+        n,
+    )
 }
 
 // The bytes of the part that a call found in the file; none where it is refused.
@@ -107,7 +121,7 @@ fn bytes_of(file: &[u8], found: Result<Part, Refusal>) -> &[u8]
 {
     match found {
         Ok(part) => part.bytes(file),
-        Err(_) => &file[0..0],
+        Err(_) => &file[..0],
     }
 }
 
