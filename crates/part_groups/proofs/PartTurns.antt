@@ -1,5 +1,5 @@
 -- One turn of the search for a part of an envelope, at the places that the code reaches. Assumes nothing.
-use Prim.Native.Nat.{ℕ, zero, suc, ◌+◌, ◌-◌, ◌≤◌, ◌<◌}
+use Prim.Native.Nat.{ℕ, suc, ◌+◌, ◌-◌, ◌≤◌, ◌<◌}
 use native.Mathlib.Omega.{arith}
 use mathlib.Core.Path.{◌≡◌, refl, sym, ap, subst, ◌∙◌}
 use mathlib.Core.Bool.{Bool, true, false, ◌||◌}
@@ -12,7 +12,7 @@ use Rattle.rules.specs.Outcome.{Outcome, not_refused}
 use Rattle.rules.specs.Lines.{lines_of, Code, file_header, group_header, account_header, detail, account_trailer, group_trailer, file_trailer, continuation, code_bytes, Record, record_size, record_bytes, file_records}
 use Rattle.rules.specs.Parts.{heads, cut_at, Placed, Parts, part_from, part_in, part_bytes, size_of_all}
 use Rattle.rules.specs.Combine.{concat}
-use Rattle.rules.specs.Answers.{PartAnswer, part_answer}
+use Rattle.rules.specs.Answers.{part_answer}
 use Rattle.rules.proofs.Tests.{is_true}
 use Rattle.read_lines.specs.LineLengths.{first_record}
 use Rattle.read_lines.proofs.LineLengthLaws.{first_of, line-some}
