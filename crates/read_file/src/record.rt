@@ -30,8 +30,8 @@ pub struct Stepped {
 fn limit_after(code: Code, limit: usize, kept: Kept) -> usize
     ensures { result ≡ limit_k (code_meant code) limit kept }
 {
-    if code == Code::FileHeader && kept.length_given {
-        return kept.length;
+    if code == Code::FileHeader {
+        return kept.length.unwrap_or(limit);
     }
     limit
 }
@@ -67,8 +67,8 @@ fn settle(st: State, rec: &[u8], code: Code, records: Records, kept: Kept) -> Re
 {
     let limit = limit_after(code, st.limit, kept);
     own_lines(code, limit, rec)?;
-    if kept.over {
-        return Err(Reason::AmountsTooLarge.at(kept.past));
+    if let Some(past) = kept.past {
+        return Err(Reason::AmountsTooLarge.at(past));
     }
     let this = base_totals::adding(code, kept.sum, records);
     let file = base_totals::add(st.file, this);

@@ -22,24 +22,22 @@ pub struct Stated<T> {
     pub value: T,
 }
 
-// before: the magnitudes of the records before; sum: of this record's amounts; over: one of them passed the largest, the first at `past`; length: L.
-// seen: the field was there; given: it was not empty. The flags stand together and last, for speed: copies have no gaps.
+// before: the magnitudes of the records before; sum: of this record's amounts; past: where the first of them passed the largest; length: L, where it is given.
+// seen: the field was there. A figure that wasn't there is 0 at place 0, as it is in the rules, and no check asks for it. The flags stand together and last, for speed.
 #[derive(Clone, Copy)]
 pub struct Kept {
     pub before: Magnitude,
     pub sum: Units,
-    pub past: Place,
+    pub past: Option<Place>,
     pub total: Stated<Magnitude>,
     pub count: Stated<Count>,
     pub records: Stated<Records>,
-    pub length: usize,
-    pub over: bool,
+    pub length: Option<usize>,
     pub total_seen: bool,
     pub total_negative: bool,
     pub count_seen: bool,
     pub records_seen: bool,
     pub length_seen: bool,
-    pub length_given: bool,
 }
 
 // The next field is kept for something.
@@ -57,7 +55,7 @@ impl Kept {
         Kept {
             before,
             sum: Units(0, 0),
-            past: Place(0),
+            past: None,
             total: Stated {
                 at: Place(0),
                 value: Magnitude(0),
@@ -70,14 +68,12 @@ impl Kept {
                 at: Place(0),
                 value: Records(0),
             },
-            length: 0,
-            over: false,
+            length: None,
             total_seen: false,
             total_negative: false,
             count_seen: false,
             records_seen: false,
             length_seen: false,
-            length_given: false,
         }
     }
 
@@ -97,14 +93,13 @@ impl Kept {
     fn add_amount(self, at: Place, f: &[u8]) -> Kept
         ensures { result ≡ added_to self at.0 (amount_read f.now) }
     {
-        if self.over {
+        if self.past.is_some() {
             return self;
         }
         let mut kept = self;
         let a = base_amounts::amount_in(f);
         if self.passes(base_amounts::magnitude_of(a)) {
-            kept.over = true;
-            kept.past = at;
+            kept.past = Some(at);
             return kept;
         }
         kept.sum = self.sum.add(base_amounts::adds(a));
@@ -169,8 +164,11 @@ impl Kept {
             return self;
         }
         let mut kept = self;
-        kept.length = base_digits::value(f) as usize;
-        kept.length_given = !read_values::is_empty(f);
+        kept.length = if read_values::is_empty(f) {
+            None
+        } else {
+            Some(base_digits::value(f) as usize)
+        };
         kept.length_seen = true;
         kept
     }

@@ -4,13 +4,9 @@ use Rattle.base_codes.specs.declared.Code.TheVariants.{FileHeader}
 use Rattle.base_codes.proofs.SameCodes.{same_codes}
 use Rattle.read_file.specs.RecordSteps.{limit_k}
 use Rattle.read_file.proofs.record.limit_after.Goals as goal
-use Rattle.read_file.proofs.record.limit_after.Goals.{else-eq-via-then-eq+else-kept, else-eq-via-else-eq}
 
 pub returns : goal.returns
 unfolding limit_k
 returns c =
     let e = c.eq.ensures ∙ same_codes c.args.code FileHeader in
-    elim c.else-eq.branch [
-      | else-eq-via-then-eq+else-kept w ↦ sym (rw (sym e ∙ w.if-eq.true) (rw w.if-kept.false))
-      | else-eq-via-else-eq w ↦ sym (rw (sym e ∙ w.if-eq.false))
-    ]
+    sym (rw (sym e ∙ c.if-eq.false))

@@ -1,6 +1,6 @@
 -- `read_file::record::settle` meets its contract. Assumes nothing.
-use Rattle.std.proofs.Common.{◌≡◌, ℕ, false, length, ap, sym, ◌∙◌, arith}
-use Rattle.std.specs.Prelude.{Ok, Err}
+use Rattle.std.proofs.Common.{◌≡◌, ℕ, length, ap, sym, ◌∙◌, arith}
+use Rattle.std.specs.Prelude.{Ok, Err, None, IfSome}
 use Rattle.std.proofs.lemmas.Result.{err_from_is_err_and}
 use Rattle.rules.specs.Bytes.{Bytes}
 use Rattle.rules.specs.Outcome.{Outcome, refused, fine}
@@ -33,7 +33,7 @@ module _ (s : State) (xs : Bytes) (c : Code) (n : ℕ) (k : Kept) (q : Settling 
   own e = sym (e ∙ ap (λ (m : ℕ). own_lines c m (lines_of xs)) limit_is)
 
   -- what it adds, and the summaries with it
-  module _ (fits : fine tt ≡ own_lines c limit (lines_of xs)) (few : k.over ≡ false) (this file group account : Summary) (adds : summary_meant this ≡ adding c (sum_meant k.sum) n)
+  module _ (fits : fine tt ≡ own_lines c limit (lines_of xs)) (few : k.past ≡ None) (this file group account : Summary) (adds : summary_meant this ≡ adding c (sum_meant k.sum) n)
       (in_file : summary_meant file ≡ wrapped_summary (summary_meant s.file ⊞ summary_meant this))
       (in_group : summary_meant group ≡ wrapped_summary (summary_meant s.group ⊞ summary_meant this))
       (in_account : summary_meant account ≡ wrapped_summary (summary_meant s.account ⊞ summary_meant this)) where
@@ -84,13 +84,13 @@ returns-in_err-own_lines c =
       e.1,
     )
 
-pub returns-then-kept : goal.returns-then-kept
-returns-then-kept c =
+pub returns-in-Some : goal.returns-in-Some
+returns-in-Some c =
     let a = c.args in
     rw c.at.ensures (
       settle-over (state_meant a.st) (lines_of a.rec.now) (code_meant a.code) a.kept
-          (own a.st a.rec.now _ _ a.kept c.requires _ c.limit_after-limit.ensures c.in_ok-own_lines.ensures.0) c.if-kept.true,
-      c.requires.kept.past,
+          (own a.st a.rec.now _ _ a.kept c.requires _ c.limit_after-limit.ensures c.in_ok-own_lines.ensures.0) c.in-Some.past c.in-Some.is,
+      rw c.in-Some.is at c.requires.kept.past,
     )
 
 pub returns-in_err-balance : goal.returns-in_err-balance
@@ -98,11 +98,11 @@ returns-in_err-balance c =
     let a = c.args in
     let p = err_from_is_err_and c.from_residual-in_err-balance.result c.from_residual-in_err-balance.ensures.1 in
     rw (p.1, p.2)
-    (settled_wrong a.st a.rec.now _ _ a.kept c.requires _ c.limit_after-limit.ensures c.in_ok-own_lines.ensures.0 c.if-kept.false _ _ _ _
+    (settled_wrong a.st a.rec.now _ _ a.kept c.requires _ c.limit_after-limit.ensures c.in_ok-own_lines.ensures.0 c.in_default.is _ _ _ _
     c.adding-this.ensures c.add-file.ensures c.add-group.ensures c.add-account.ensures _ c.in_err-balance.ensures)
 
 pub returns : goal.returns
 returns c =
     let a = c.args in
-    settled_next a.st a.rec.now _ _ a.kept c.requires _ c.limit_after-limit.ensures c.in_ok-own_lines.ensures.0 c.if-kept.false _ _ _ _
+    settled_next a.st a.rec.now _ _ a.kept c.requires _ c.limit_after-limit.ensures c.in_ok-own_lines.ensures.0 c.in_default.is _ _ _ _
     c.adding-this.ensures c.add-file.ensures c.add-group.ensures c.add-account.ensures c.in_ok-balance.ensures _ c.next_state.ensures

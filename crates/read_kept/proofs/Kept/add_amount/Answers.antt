@@ -10,15 +10,15 @@ use Rattle.read_kept.specs.KeepFields.{amounts_of, with_amounts, added_to}
 use Rattle.read_kept.proofs.AddAmounts.{add-over, add-past, add-more}
 use Rattle.read_kept.proofs.Kept.add_amount.Goals as goal
 
-pub returns-then-self : goal.returns-then-self
-returns-then-self c = let k = c.args.self in ap (with_amounts k) (add-over _ (amounts_of k) _ _ c.if-self.true)
+pub returns-then-is_some : goal.returns-then-is_some
+returns-then-is_some c = let k = c.args.self in ap (with_amounts k) (add-over _ (amounts_of k) _ _ (sym c.is_some.ensures ∙ c.if-is_some.true))
 
 pub returns-then-passes : goal.returns-then-passes
 returns-then-passes c =
     let x = c.args in
     let a = amount_meant c.amount_in-a.result in
     let size = λ (n : ℕ). ltb most (x.self.before.0 + (x.self.sum.0 + x.self.sum.1) + n) in
-    ap (with_amounts x.self) (add-past _ (amounts_of x.self) x.at.0 a c.if-self.false (ltb-true most _ (sym (c.passes.ensures ∙ ap size c.magnitude_of.ensures) ∙ c.if-passes.true)))
+    ap (with_amounts x.self) (add-past _ (amounts_of x.self) x.at.0 a (sym c.is_some.ensures ∙ c.if-is_some.false) (ltb-true most _ (sym (c.passes.ensures ∙ ap size c.magnitude_of.ensures) ∙ c.if-passes.true)))
     ∙ ap (λ (b : Amount). added_to x.self x.at.0 b) c.amount_in-a.ensures
 
 pub returns : goal.returns
@@ -27,6 +27,6 @@ returns c =
     let a = amount_meant c.amount_in-a.result in
     let size = λ (n : ℕ). ltb most (x.self.before.0 + (x.self.sum.0 + x.self.sum.1) + n) in
     ap (with_amounts x.self)
-    (add-more _ (amounts_of x.self) x.at.0 a c.if-self.false (ltb-false most _ (sym (c.passes.ensures ∙ ap size c.magnitude_of.ensures) ∙ c.if-passes.false))
+    (add-more _ (amounts_of x.self) x.at.0 a (sym c.is_some.ensures ∙ c.if-is_some.false) (ltb-false most _ (sym (c.passes.ensures ∙ ap size c.magnitude_of.ensures) ∙ c.if-passes.false))
     c.add-kept.result c.adds.result c.adds.ensures c.add-kept.ensures)
     ∙ ap (λ (b : Amount). added_to x.self x.at.0 b) c.amount_in-a.ensures
