@@ -105,13 +105,7 @@ fn field_here(rec: &[u8], walk: Cursor) -> Result<FieldStep, Refusal>
 fn is_own(rec: &[u8], least: usize, start: Place) -> bool
     ensures { result ≡ own_line least start.0 (drop start.0 rec.now) }
 {
-    if rec.len() <= start.0 {
-        return false;
-    }
-    if start.0 < least {
-        return true;
-    }
-    read_lines::begins(rec, start, Code::Continuation)
+    start.0 < rec.len() && (start.0 < least || read_lines::begins(rec, start, Code::Continuation))
 }
 
 // What is wanted may be missing where the record has no further line; or it is refused.
