@@ -1,3 +1,4 @@
+-- The goals of `one`. Assumes nothing.
 use Rattle.std.proofs.Common.{sym, ◌∙◌}
 use Rattle.base_codes.proofs.SameCodes.{same_codes}
 use Rattle.base_totals.proofs.one.Goals as goal
