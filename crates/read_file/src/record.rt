@@ -12,10 +12,11 @@ ghost use Rattle.read_file.specs.FileMeanings.{Held};
 
 use crate::state::State;
 use base_codes::Code;
-use base_quantities::{Magnitude, Records};
+use base_quantities::Magnitude;
 use base_refusals::{Reason, Refusal};
 use base_totals::Summary;
 use read_kept::Kept;
+use read_line_checks::Scanned;
 use read_wanted::want;
 
 // The state after a record, and how many bytes it has.
@@ -61,16 +62,17 @@ fn next_state(code: Code, limit: usize, file: Summary, group: Summary, account: 
 }
 
 // After the fields of a record with so many lines: its header's own lines, 10, then a trailer's 14, 11, 12, 13.
-fn settle(st: State, rec: &[u8], code: Code, records: Records, kept: Kept) -> Result<State, Refusal>
-    requires { Settling st rec.now records.0 kept }
-    ensures { SettledIs result st rec.now (code_meant code) records.0 kept }
+fn settle(st: State, rec: &[u8], scanned: Scanned, kept: Kept) -> Result<State, Refusal>
+    requires { Settling st rec.now scanned.records.0 kept }
+    ensures { SettledIs result st rec.now (code_meant scanned.code) scanned.records.0 kept }
 {
+    let code = scanned.code;
     let limit = limit_after(code, st.limit, kept);
     own_lines(code, limit, rec)?;
     if let Some(past) = kept.past {
         return Err(Reason::AmountsTooLarge.at(past));
     }
-    let this = base_totals::adding(code, kept.sum, records);
+    let this = base_totals::adding(code, kept.sum, scanned.records);
     let file = base_totals::add(st.file, this);
     let group = base_totals::add(st.group, this);
     let account = base_totals::add(st.account, this);
@@ -93,7 +95,7 @@ pub(crate) fn step(st: State, rest: &[u8]) -> Result<Option<Stepped>, Refusal>
     let before = Magnitude(total.0 + total.1);
     let kept = read_walk::walk_record(rest, scanned.size, want::first_want(scanned.code), before)?;
     let rec = &rest[..scanned.size];
-    let state = settle(st, rec, scanned.code, scanned.records, kept)?;
+    let state = settle(st, rec, scanned, kept)?;
     Ok(Some(Stepped {
         state,
         size: scanned.size,

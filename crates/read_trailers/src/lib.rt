@@ -25,6 +25,7 @@ fn require(holds: bool, reason: Reason, place: Place) -> Result<(), Refusal>
 }
 
 // 14: a group's or file's sum, at the total.
+#[tactic(auto, using(crate::proofs::TrailerLaws::within_diff), unfolding(crate::specs::TrailerChecks::within_k))]
 fn sum_within(s: Summary, kept: Kept) -> Result<(), Refusal>
     ensures { checked_of result ≡ within_k (summary_meant s) kept }
 {
@@ -34,6 +35,7 @@ fn sum_within(s: Summary, kept: Kept) -> Result<(), Refusal>
 }
 
 // 11: a trailer's total.
+#[tactic(auto, using(crate::proofs::TrailerLaws::minus_right, crate::proofs::TrailerLaws::minus_wrong, crate::proofs::TrailerLaws::plus_right, crate::proofs::TrailerLaws::plus_wrong), unfolding(crate::specs::TrailerChecks::total_k))]
 fn right_total(s: Summary, kept: Kept) -> Result<(), Refusal>
     ensures { checked_of result ≡ total_k (summary_meant s) kept }
 {

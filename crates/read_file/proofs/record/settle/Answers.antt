@@ -80,7 +80,7 @@ returns-in_err-own_lines c =
     let p = err_from_is_err_and c.from_residual.result c.from_residual.ensures.1 in
     let e = c.in_err-own_lines.ensures in
     rw (p.1, p.2) (
-      settle-long (state_meant a.st) (lines_of a.rec.now) (code_meant a.code) a.kept _ (own a.st a.rec.now _ _ a.kept c.requires _ c.limit_after-limit.ensures e.0),
+      settle-long (state_meant a.st) (lines_of a.rec.now) (code_meant a.scanned.code) a.kept _ (own a.st a.rec.now _ _ a.kept c.requires _ c.limit_after-limit.ensures e.0),
       e.1,
     )
 
@@ -88,7 +88,7 @@ pub returns-in-Some : goal.returns-in-Some
 returns-in-Some c =
     let a = c.args in
     rw c.at.ensures (
-      settle-over (state_meant a.st) (lines_of a.rec.now) (code_meant a.code) a.kept
+      settle-over (state_meant a.st) (lines_of a.rec.now) (code_meant a.scanned.code) a.kept
           (own a.st a.rec.now _ _ a.kept c.requires _ c.limit_after-limit.ensures c.in_ok-own_lines.ensures.0) c.in-Some.past c.in-Some.is,
       rw c.in-Some.is at c.requires.kept.past,
     )
