@@ -1,4 +1,4 @@
--- Bytes up to a comma or slash, blanks in front, and trailing blanks, as the loops over a field's bytes meet them. Assumes nothing.
+-- Bytes up to a comma or slash, blanks in front, and trailing blanks. Assumes nothing.
 use Prim.Native.Nat.{ℕ, suc, ◌+◌, ◌≤◌, ◌<◌, zero-le}
 use mathlib.Core.Path.{◌≡◌, refl, sym, ap, ◌∙◌}
 use mathlib.Core.Bool.{Bool, true, false, cond, not}

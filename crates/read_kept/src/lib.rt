@@ -2,14 +2,14 @@
 
 #![tactic(auto, unfolding(crate::specs::KeepFields::keep_read, crate::specs::KeepFields::keep_with))]
 
-ghost use Rattle.std.specs.Prelude.{◌≡◌, not, ◌+◌, ltb};
+ghost use Rattle.std.specs.Prelude.{◌≡◌, true, not, ◌+◌, ltb};
 ghost use Rattle.rules.specs.Numbers.{magnitudes};
 ghost use Rattle.rules.specs.Limits.{most};
 ghost use Rattle.rules.specs.Grammar.{next_kind};
 ghost use Rattle.base_quantities.specs.QuantityMeanings.{sum_meant};
 ghost use Rattle.base_amounts.specs.AmountsRead.{amount_read};
 ghost use Rattle.read_wanted.specs.Wants.{wanted_of, for_total, for_count, for_records, for_length, for_nothing, same_purpose, purpose};
-ghost use Rattle.read_kept.specs.KeepFields.{nothing_kept, added_to, keep_read};
+ghost use Rattle.read_kept.specs.KeepFields.{first_of, nothing_kept, added_to, keep_read};
 
 use base_limits::MOST;
 use base_quantities::{Count, Magnitude, Place, Records, Units};
@@ -23,7 +23,7 @@ pub struct Stated<T> {
 }
 
 // before: the magnitudes of the records before; sum: of this record's amounts; past: where the first of them passed the largest; length: L, where it is given.
-// seen: the field was there. A figure that wasn't there is 0 at place 0, as it is in the rules, and no check asks for it. The flags stand together and last, for speed.
+// seen: the field was there. A figure that wasn't there is 0 at place 0, as in the rules, so only `keep` asks whether it was. The flags stand together and last, for speed.
 #[derive(Clone, Copy)]
 pub struct Kept {
     pub before: Magnitude,
@@ -38,6 +38,13 @@ pub struct Kept {
     pub count_seen: bool,
     pub records_seen: bool,
     pub length_seen: bool,
+}
+
+// The figure that was stated first: the old one where one was seen, else the new one.
+fn first<T: Copy>(seen: bool, old: Stated<T>, new: Stated<T>) -> Stated<T>
+    ensures { result ≡ first_of true seen old new }
+{
+    if seen { old } else { new }
 }
 
 // The next field is kept for something.
@@ -128,14 +135,9 @@ impl Kept {
     fn keep_count(self, at: Place, f: &[u8]) -> Kept
         ensures { result ≡ keep_read for_count self at.0 f.now }
     {
-        if self.count_seen {
-            return self;
-        }
+        let value = Count(base_digits::value(f));
         let mut kept = self;
-        kept.count = Stated {
-            at,
-            value: Count(base_digits::value(f)),
-        };
+        kept.count = first(self.count_seen, self.count, Stated { at, value });
         kept.count_seen = true;
         kept
     }
@@ -144,14 +146,9 @@ impl Kept {
     fn keep_records(self, at: Place, f: &[u8]) -> Kept
         ensures { result ≡ keep_read for_records self at.0 f.now }
     {
-        if self.records_seen {
-            return self;
-        }
+        let value = Records(base_digits::value(f));
         let mut kept = self;
-        kept.records = Stated {
-            at,
-            value: Records(base_digits::value(f)),
-        };
+        kept.records = first(self.records_seen, self.records, Stated { at, value });
         kept.records_seen = true;
         kept
     }
