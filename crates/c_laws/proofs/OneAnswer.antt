@@ -53,7 +53,7 @@ use Rattle.part_items.specs.ItemMeaning.{item_meant}
 use Rattle.part_groups.specs.PartMeaning as parts
 use Rattle.part_details.specs.DetailMeaning as details
 use Rattle.part_records.specs.declared.Record.{Record}
-use Rattle.part_details.specs.declared.Detail.{Detail}
+use Rattle.part_details.specs.declared.DetailAnswer.{DetailAnswer}
 use Rattle.part_records.specs.RecordsFound.{record_meant, Finds}
 use Rattle.find_walk.specs.declared.FieldCount.{FieldCount}
 use Rattle.part_fields.specs.FieldAnswers.{fields_meant}
@@ -244,7 +244,7 @@ same-amount (forms.WithMinus n) = refl
 pub amount-one : (promised : Amount) (x y : amounts.Amount) → amount_meant x ≡ promised → amount_meant y ≡ promised → x ≡ y
 amount-one = one_answer amount_meant amount_from same-amount
 
-abbrev detail_from : rules.DetailAnswer → Result Detail Refusal
+abbrev detail_from : rules.DetailAnswer → Result DetailAnswer Refusal
 detail_from m =
     result_from
     (record {
@@ -254,12 +254,12 @@ detail_from m =
     })
     m.refusal
 
-same-detail : (r : Result Detail Refusal) → detail_from (details.detail_meant r) ≡ r
+same-detail : (r : Result DetailAnswer Refusal) → detail_from (details.detail_meant r) ≡ r
 same-detail (Ok d) = ap (λ (a : amounts.Amount). Ok (record { type_code = d.type_code; amount = a; text = d.text })) (same-amount d.amount)
 same-detail (Err why) = same_err _ why
 
 -- part_details::detail
-pub detail-one : (promised : rules.DetailAnswer) (x y : Result Detail Refusal) → details.detail_meant x ≡ promised → details.detail_meant y ≡ promised → x ≡ y
+pub detail-one : (promised : rules.DetailAnswer) (x y : Result DetailAnswer Refusal) → details.detail_meant x ≡ promised → details.detail_meant y ≡ promised → x ≡ y
 detail-one = one_answer details.detail_meant detail_from same-detail
 
 -- bai2_detail_of: the figures are promised themselves

@@ -7,11 +7,11 @@ use Rattle.rules.specs.Answers as rules
 use Rattle.base_refusals.specs.declared.Refusal.{Refusal}
 use Rattle.base_refusals.specs.RefusalMeaning.{refusal_meant}
 use Rattle.base_amounts.specs.AmountsRead.{amount_meant}
-use Rattle.find_field.specs.declared.Spot.{Spot}
-use Rattle.part_details.specs.declared.Detail.{Detail}
+use Rattle.part_groups.specs.declared.Part.{Part}
+use Rattle.part_details.specs.declared.DetailAnswer.{DetailAnswer}
 
 -- a detail: its figures; or its refusal
-abbrev pub detail_meant : Result Detail Refusal → rules.DetailAnswer
+abbrev pub detail_meant : Result DetailAnswer Refusal → rules.DetailAnswer
 detail_meant (Ok d) =
     record {
       refusal = not_refused;
@@ -23,11 +23,11 @@ detail_meant (Ok d) =
 detail_meant (Err why) = record { refusal = refusal_meant why; type = 0; amount = empty; text_start = 0; text_length = 0 }
 
 -- where its text stands; an empty one, at 0, where it is refused
-abbrev pub text_of : Result Detail Refusal → Spot
+abbrev pub text_of : Result DetailAnswer Refusal → Part
 text_of (Ok d) = d.text
 text_of (Err why) = record { start = record { 0 = 0 }; length = 0 }
 
 -- its text stands in the file where it says
-pub record TextStands (file : Bytes) (r : Result Detail Refusal) (text : Bytes) : Type 0 where
+pub record TextStands (file : Bytes) (r : Result DetailAnswer Refusal) (text : Bytes) : Type 0 where
   pub bytes : take (text_of r).length (drop (text_of r).start.0 file) ≡ text
   pub inside : (text_of r).start.0 + (text_of r).length ≤ length file

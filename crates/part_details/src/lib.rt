@@ -13,25 +13,25 @@ use base_amounts::Amount;
 use base_codes::Code;
 use base_quantities::Place;
 use base_refusals::Refusal;
-use find_field::{Sought, Spot};
+use find_field::Sought;
 use part_groups::Part;
 
 // A detail's type, its amount as it was given, and where its first text piece stands in the file: an empty one, at 0, where there is none.
 #[derive(Clone, Copy)]
-pub struct Detail {
+pub struct DetailAnswer {
     pub type_code: u64,
     pub amount: Amount,
-    pub text: Spot,
+    pub text: Part,
 }
 
 // Where the first text piece of the detail that is this part stands in the file; an empty one, at 0, where there is none.
-fn text_in(file: &[u8], part: Part) -> Spot
+fn text_in(file: &[u8], part: Part) -> Part
     requires { part.start.0 + part.length ≤ length file.now }
     ensures { TextIs file.now part.start.0 part.length result }
 {
     let rec = part.bytes(file);
     match find_field::seek(rec, Code::Detail, Sought::Text) {
-        None => Spot {
+        None => Part {
             start: part.start,
             length: 0,
         },
@@ -39,12 +39,12 @@ fn text_in(file: &[u8], part: Part) -> Spot
             let start = text.start.0;
             let end = start + text.length;
             if read_values::is_one_of(&rec[start..end], b'/', b'/') {
-                return Spot {
+                return Part {
                     start: Place(0),
                     length: 0,
                 };
             }
-            Spot {
+            Part {
                 start: Place(part.start.0 + start),
                 length: text.length,
             }
@@ -53,13 +53,13 @@ fn text_in(file: &[u8], part: Part) -> Spot
 }
 
 // The detail of this number in that account: reader's refusal, 17.
-pub fn detail(file: &[u8], g: u64, a: u64, n: u64) -> Result<Detail, Refusal>
+pub fn detail(file: &[u8], g: u64, a: u64, n: u64) -> Result<DetailAnswer, Refusal>
     ensures told { detail_meant result ≡ detail_of_file file.now g a n }
     ensures text { TextStands file.now result (or_else (rules.detail_at file.now g a n) no_detail).text_bytes }
 {
     let part = part_groups::find_detail(file, g, a, n)?;
     let rec = part.bytes(file);
-    Ok(Detail {
+    Ok(DetailAnswer {
         type_code: find_field::type_of(rec),
         amount: find_field::amount_of(rec),
         text: text_in(file, part),
@@ -71,11 +71,7 @@ pub fn detail_text(file: &[u8], g: u64, a: u64, n: u64) -> &[u8]
     ensures { result.now ≡ (or_else (rules.detail_at file.now g a n) no_detail).text_bytes }
 {
     match detail(file, g, a, n) {
-        Err(_) => &file[0..0],
-        Ok(found) => {
-            let from = found.text.start.0;
-            let to = from + found.text.length;
-            &file[from..to]
-        }
+        Ok(found) => found.text.bytes(file),
+        Err(_) => &file[..0],
     }
 }
