@@ -14,17 +14,17 @@ use base_limits::LONGEST_FILE;
 use base_quantities::{Count, Place, Records, Units};
 use base_refusals::{Reason, Refusal};
 
-// A fresh 99: its bytes, zeros after them, and how many they are. An array, since nothing here allocates.
+// A fresh 99: its bytes, zeros after them, and how many they are; in an array, since no memory is allocated here.
 #[derive(Clone, Copy)]
 pub struct Trailer {
-    bytes: [u8; 80],
-    length: usize,
-    ghost within: { length ≤ 80 },
+    pub bytes: [u8; 80],
+    pub length: usize,
 }
 
 impl Trailer {
     // The line's bytes.
     pub fn line(&self) -> &[u8]
+        requires { self.now.length ≤ 80 }
         ensures { result.now ≡ take self.now.length self.now.bytes }
     {
         &self.bytes[..self.length]
@@ -53,7 +53,7 @@ pub fn fresh_trailer(total: Units, groups: Count, records: Records) -> Trailer
     Trailer { bytes, length }
 }
 
-// How many lines stand in these bytes.
+// How many lines stand in these bytes. By a place, since lines have no iterator here.
 pub fn count_lines(s: &[u8]) -> Records
     ensures { (result.0 ≡ length (lines_of s.now)) × (result.0 ≤ length s.now) }
 {
