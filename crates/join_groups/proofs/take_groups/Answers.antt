@@ -21,7 +21,6 @@ loop-at-init c =
     let all = groups_taken a.name.now (drop a.from.0 a.file.now) in
     record {
       room = omega arith;
-      same_room = refl;
       few = omega arith;
       short = omega arith;
       inside = omega arith;
@@ -66,7 +65,6 @@ loop-at-preserved-then-is_for c =
     let lines = c.add-tally-then-is_for.ensures ∙ ap (λ (n : ℕ). min (l.tally.records.0 + n) most_records) (read.1 ∙ ap (λ (r : Record). stated_records r) turn.trailer) in
     record {
       room = omega (arith, within-rest l.o _ l.out _ _ l.invariant.room c.put-o.ensures);
-      same_room = ?;
       few = omega arith;
       short = omega arith;
       inside = omega arith;
@@ -85,7 +83,6 @@ loop-at-preserved c =
     let all = groups_taken c.args.name.now (drop c.args.from.0 file) in
     record {
       room = l.invariant.room;
-      same_room = l.invariant.same_room;
       few = omega arith;
       short = omega arith;
       inside = omega arith;

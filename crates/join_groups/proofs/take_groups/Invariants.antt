@@ -11,7 +11,6 @@ abbrev pub invariant-loop-at : goal.invariant-loop-at
 invariant-loop-at l =
     record {
       room : l.o ≤ length l.out;
-      same_room : length l.out ≡ length l.initial.out;
       few : l.tally.groups.0 + l.initial.at.0 ≤ l.at.0;
       short : l.tally.bytes + l.initial.at.0 ≤ l.at.0;
       inside : l.at.0 ≤ length l.file + (l.initial.at.0 - length l.file);
