@@ -1,7 +1,7 @@
 -- What split's answers say in document 01's terms. Assumes nothing.
-use Rattle.std.specs.Prelude.{ℕ, ◌+◌, ◌≤◌, ◌≡◌, ◌++◌, length, take, drop, Result, Ok, Err}
+use Rattle.std.specs.Prelude.{ℕ, ◌+◌, ◌≤◌, ◌≡◌, Bool, true, false, ◌++◌, length, take, drop, Result, Ok, Err}
 use Rattle.rules.specs.Bytes.{Bytes}
-use Rattle.rules.specs.Outcome.{not_refused, fine}
+use Rattle.rules.specs.Outcome.{not_refused, Outcome, refused, fine}
 use Rattle.rules.specs.Lines.{lines_of, record_size, record_bytes}
 use Rattle.rules.specs.Totals.{Summary}
 use Rattle.rules.specs.Verdict.{judge}
@@ -21,8 +21,12 @@ answer_meant (Ok n) out = record { refusal = not_refused; which = 0; len = n; ou
 answer_meant (Err why) out = record { refusal = refusal_meant why; which = 0; len = 0; output = out }
 
 -- the reader accepts the file
+abbrev pub is_fine : Outcome Summary → Bool
+is_fine (refused why) = false
+is_fine (fine s) = true
+
 abbrev pub Accepts : Bytes → Type 0
-Accepts file = (s : Summary) × (judge file ≡ fine s)
+Accepts file = is_fine (judge file) ≡ true
 
 -- so many bytes of an accepted file are its header; stands for `header_in` (rules/specs/Parts.antt), joined by `opened` (join_groups/proofs/GroupOpens.antt)
 abbrev pub Opens : Bytes → ℕ → Type 0

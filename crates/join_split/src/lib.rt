@@ -42,8 +42,8 @@ fn is_asked(name: &[u8]) -> bool
 
 impl Asked<'_> {
     // The groups for the name at the front of out, where it has room for them, and the 99 after them.
-    fn take_rest(self, out: &mut [u8]) -> Rest
-        ensures { RestIs self.name.now self.file.now out.old result.bytes result.last out.new }
+    fn take_rest(&self, out: &mut [u8]) -> Rest
+        ensures { RestIs self.now.name.now self.now.file.now out.old result.bytes result.last out.new }
     {
         let tally = join_groups::take_groups(self.name, self.file, Place(self.header), out);
         let records = join_trailer::count_lines(&self.file[..self.header]).add(tally.records);
@@ -54,28 +54,28 @@ impl Asked<'_> {
     }
 
     // How many bytes the split has.
-    fn length(self) -> usize
-        ensures { result ≡ length (split_result self.name.now self.file.now) }
+    fn size(&self) -> usize
+        ensures { result ≡ length (split_result self.now.name.now self.now.file.now) }
     {
         let rest = self.take_rest(&mut []);
         self.header + rest.bytes + rest.last.length
     }
 
     // Refused where the split is too long, or longer than this room. Where even the whole file and a 99 fit, nothing is measured.
-    fn fits(self, room: usize) -> Result<(), Refusal>
-        ensures { outcome_of (λ done. done) result ≡ has_room (length (split_result self.name.now self.file.now)) room }
+    fn fits(&self, room: usize) -> Result<(), Refusal>
+        ensures { outcome_of (λ done. done) result ≡ has_room (length (split_result self.now.name.now self.now.file.now)) room }
     {
         let most = self.file.len() + MOST_LAST;
         if most <= room && most <= LONGEST_FILE {
             return Ok(());
         }
-        join_trailer::fits(self.length(), room)
+        join_trailer::fits(self.size(), room)
     }
 
     // The split at the front of out: how many bytes.
-    fn write(self, out: &mut [u8]) -> usize
-        requires { length (split_result self.name.now self.file.now) ≤ length out.old }
-        ensures { Put (split_result self.name.now self.file.now) out.old result out.new }
+    fn write(&self, out: &mut [u8]) -> usize
+        requires { length (split_result self.now.name.now self.now.file.now) ≤ length out.old }
+        ensures { Put (split_result self.now.name.now self.now.file.now) out.old result out.new }
     {
         let mut o = base_slices::put(out, &self.file[..self.header]);
         let rest = self.take_rest(&mut out[o..]);

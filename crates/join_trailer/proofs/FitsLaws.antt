@@ -26,6 +26,9 @@ module _ (result before : Bytes) (which : ℕ) where
   written h k r after p = rw (le-leb (length result) longest_file h, le-leb (length result) (length before) k, put_count p k, put-bytes p k)
 
 -- what it says that a result has room
+pub has-room : (n room : ℕ) → n ≤ longest_file → n ≤ room → fine tt ≡ has_room n room
+has-room n room h k = rw (le-leb n longest_file h, le-leb n room k)
+
 pub room-says : (n room : ℕ) → fine tt ≡ has_room n room → (n ≤ longest_file) × (n ≤ room)
 room-says n room e =
     let long = check (leb n longest_file) 18 0 in
