@@ -13,7 +13,7 @@ ghost use Rattle.base_numerals.specs.PutBytes.{Put};
 ghost use Rattle.read_lines.specs.LineLengths.{first_record};
 ghost use Rattle.base_totals.specs.SummaryMeaning.{summary_meant};
 ghost use Rattle.read_file.specs.FileAnswers.{IsGood};
-ghost use Rattle.join_combine.specs.CombineAnswers.{combined_meant, AcceptedIs, combined_accepted, combined_fitting};
+ghost use Rattle.join_combine.specs.CombineAnswers.{combined_meant, combined_accepted, combined_fitting};
 
 use base_quantities::{Count, Place, Records, Units};
 use base_refusals::{Reason, Refusal};
@@ -34,31 +34,13 @@ struct Accepted<'a> {
     ghost is_good: { IsGood good bytes.now },
 }
 
-// Neither file shows this refusal alone.
-fn by_both(refusal: Refusal) -> Refused
-    ensures { result ≡ record { refusal = refusal; file = 0 } }
-{
-    Refused { refusal, file: 0 }
-}
+impl From<Refusal> for Refused {
+    ghost from_gives = { λ refusal e. e ≡ record { refusal = refusal; file = 0 } };
 
-// The count without some of it; none is left where these are more.
-fn less(all: Records, some: Records) -> Records
-    ensures { result.0 ≡ all.0 - some.0 }
-{
-    let a = all.0;
-    let b = some.0;
-    if a < b {
-        return Records(0);
+    // Neither file shows it alone.
+    fn from(refusal: Refusal) -> Refused {
+        Refused { refusal, file: 0 }
     }
-    Records(a - b)
-}
-
-// The groups of two files together.
-fn both(a: Count, b: Count) -> Count
-    requires { (a.0 ≤ longest_file) × (b.0 ≤ longest_file) }
-    ensures { result.0 ≡ a.0 + b.0 }
-{
-    Count(a.0 + b.0)
 }
 
 // No line is over the limit, of lines none of which is over `known`.
@@ -77,7 +59,7 @@ fn records_left(m: Records, n: Records, x: &[u8], y: &[u8], z: &[u8]) -> Records
     let gone = join_trailer::count_lines(x)
         .add(join_trailer::count_lines(y))
         .add(join_trailer::count_lines(z));
-    less(m.add(n), gone)
+    Records(m.add(n).0.saturating_sub(gone.0))
 }
 
 // These three parts in a row at the front of out: how many bytes.
@@ -93,65 +75,60 @@ fn put_three(x: &[u8], y: &[u8], z: &[u8], out: &mut [u8]) -> usize
 
 // A up to its 99, B from after its header up to its 99, and a fresh 99 with this total: 18, 15.
 fn combine_fitting(
-    a: Accepted,
-    b: Accepted,
+    a: &Accepted,
+    b: &Accepted,
     header: usize,
     total: Units,
     out: &mut [u8],
 ) -> Result<usize, Refused>
-    requires { (header ≡ record_size (first_record (lines_of b.bytes.now))) × (sum_meant total ≡ sum_meant a.good.summary.total ⊕ sum_meant b.good.summary.total) }
-    ensures { combined_meant result out.new ≡ combined_fitting a.bytes.now b.bytes.now out.old }
+    requires { (header ≡ record_size (first_record (lines_of b.now.bytes.now))) × (sum_meant total ≡ sum_meant a.now.good.summary.total ⊕ sum_meant b.now.good.summary.total) }
+    ensures { combined_meant result out.new ≡ combined_fitting a.now.bytes.now b.now.bytes.now out.old }
 {
+    let s = a.good.summary;
+    let t = b.good.summary;
     let a99 = a.good.last.0;
     let b99 = b.good.last.0;
+    let groups = Count(s.groups.0 + t.groups.0);
     let records = records_left(
-        a.good.summary.records,
-        b.good.summary.records,
+        s.records,
+        t.records,
         &a.bytes[a99..],
         &b.bytes[..header],
         &b.bytes[b99..],
     );
-    let last = join_trailer::fresh_trailer(
-        total,
-        both(a.good.summary.groups, b.good.summary.groups),
-        records.add(Records(1)),
-    );
+    let last = join_trailer::fresh_trailer(total, groups, records.add(Records(1)));
     let last = last.line();
-    let length = a99 + (b99 - header) + last.len();
-    if let Err(why) = join_trailer::fits(length, out.len()) {
-        return Err(by_both(why));
-    }
+    join_trailer::fits(a99 + (b99 - header) + last.len(), out.len())?;
     Ok(put_three(&a.bytes[..a99], &b.bytes[header..b99], last, out))
 }
 
 // Two accepted files: 10, 18, 15.
-fn combine_accepted(a: Accepted, b: Accepted, out: &mut [u8]) -> Result<usize, Refused>
-    ensures { combined_meant result out.new ≡ combined_accepted (summary_meant a.good.summary) (summary_meant b.good.summary) a.bytes.now b.bytes.now out.old }
+fn combine_accepted(a: &Accepted, b: &Accepted, out: &mut [u8]) -> Result<usize, Refused>
+    ensures { combined_meant result out.new ≡ combined_accepted (summary_meant a.now.good.summary) (summary_meant b.now.good.summary) a.now.bytes.now b.now.bytes.now out.old }
 {
-    let Some(total) = a.good.summary.total.join(b.good.summary.total) else {
-        return Err(by_both(Reason::AmountsTooLarge.nowhere()));
-    };
+    let sum = a.good.summary.total.join(b.good.summary.total);
+    let total = sum.ok_or(Reason::AmountsTooLarge.nowhere())?;
     let header = read_lines::record_end(b.bytes, Place(0)).0;
     let groups = &b.bytes[header..b.good.last.0];
     if !within(groups, b.good.limit, a.good.limit) {
-        return Err(by_both(Reason::ResultTooLong.nowhere()));
+        return Err(Reason::ResultTooLong.nowhere().into());
     }
     combine_fitting(a, b, header, total, out)
-}
-
-// The file as the reader accepts it; or refused, with the number by which combine names it.
-fn accepted(bytes: &[u8], file: u64) -> Result<Accepted<'_>, Refused>
-    ensures { AcceptedIs result bytes.now file }
-{
-    match read_file::judge_file(bytes) {
-        Ok(good) => Ok(Accepted { bytes, good }),
-        Err(refusal) => Err(Refused { refusal, file }),
-    }
 }
 
 // Both files in one: A's refusal, B's, 10, 18, 15.
 pub fn combine(a: &[u8], b: &[u8], out: &mut [u8]) -> Result<usize, Refused>
     ensures { combined_meant result out.new ≡ rules.combine a.now b.now out.old }
 {
-    combine_accepted(accepted(a, 1)?, accepted(b, 2)?, out)
+    let first = read_file::judge_file(a).map_err(|refusal| Refused { refusal, file: 1 })?;
+    let second = read_file::judge_file(b).map_err(|refusal| Refused { refusal, file: 2 })?;
+    let a = Accepted {
+        bytes: a,
+        good: first,
+    };
+    let b = Accepted {
+        bytes: b,
+        good: second,
+    };
+    combine_accepted(&a, &b, out)
 }
