@@ -13,7 +13,7 @@ ghost use Rattle.base_numerals.specs.PutBytes.{Put};
 ghost use Rattle.read_lines.specs.LineLengths.{first_record};
 ghost use Rattle.base_totals.specs.SummaryMeaning.{summary_meant};
 ghost use Rattle.read_file.specs.FileAnswers.{IsGood};
-ghost use Rattle.join_combine.specs.CombineAnswers.{combined_meant, combined_accepted, combined_fitting};
+ghost use Rattle.join_combine.specs.CombineAnswers.{combined_meant, JudgedAs, combined_accepted, combined_fitting};
 
 use base_quantities::{Count, Place, Records, Units};
 use base_refusals::{Reason, Refusal};
@@ -116,19 +116,27 @@ fn combine_accepted(a: &Accepted, b: &Accepted, out: &mut [u8]) -> Result<usize,
     combine_fitting(a, b, header, total, out)
 }
 
+// What the reader tells of an accepted file; or why it refuses the file, and the number by which combine names it.
+fn judge(bytes: &[u8], file: u64) -> Result<GoodFile, Refused>
+    ensures { JudgedAs result bytes.now file }
+{
+    match read_file::judge_file(bytes) {
+        Ok(good) => Ok(good),
+        Err(refusal) => Err(Refused { refusal, file }),
+    }
+}
+
 // Both files in one: A's refusal, B's, 10, 18, 15.
 pub fn combine(a: &[u8], b: &[u8], out: &mut [u8]) -> Result<usize, Refused>
     ensures { combined_meant result out.new ≡ rules.combine a.now b.now out.old }
 {
-    let first = read_file::judge_file(a).map_err(|refusal| Refused { refusal, file: 1 })?;
-    let second = read_file::judge_file(b).map_err(|refusal| Refused { refusal, file: 2 })?;
     let a = Accepted {
         bytes: a,
-        good: first,
+        good: judge(a, 1)?,
     };
     let b = Accepted {
         bytes: b,
-        good: second,
+        good: judge(b, 2)?,
     };
     combine_accepted(&a, &b, out)
 }

@@ -1,30 +1,33 @@
 -- `join_combine::combine` meets its contract. Assumes nothing.
-use mathlib.Core.Path.{◌≡◌, refl, sym, ◌∙◌}
-use Rattle.std.specs.Prelude.{Result, Ok, Err, MatchResult, IsErrAnd}
+use Prim.Native.Nat.{ℕ}
+use mathlib.Core.Path.{◌≡◌, ap, ◌∙◌}
 use Rattle.std.proofs.lemmas.Result.{err_from_is_err_and}
-use Rattle.base_refusals.specs.declared.Refusal.{Refusal}
-use Rattle.read_file.specs.declared.GoodFile.{GoodFile}
-use Rattle.join_combine.specs.declared.Refused.{Refused}
+use Rattle.rules.specs.Outcome.{refused}
+use Rattle.rules.specs.Combine.{answered}
+use Rattle.base_refusals.specs.RefusalMeaning.{refusal_meant}
 use Rattle.join_combine.proofs.CombineLaws.{refused-told, first-refused, second-refused, both-accepted}
 use Rattle.join_combine.proofs.combine.Goals as goal
 
--- what a refusal was before the file's number came to it, and that an answer stays
-was_err : (r : Result GoodFile Refusal) (m : Result GoodFile Refused) (Q : Refusal → Refused → Type 0) → MatchResult r (λ x. m ≡ Ok x) (λ e. IsErrAnd m (Q e))
-    → (d : Refused) → m ≡ Err d → (e : Refusal) × (r ≡ Err e) × Q e d
-was_err (Ok x) m Q h d e = absurd ?
-was_err (Err x) m Q h d e = ?
-
-pub returns-in_err-first : goal.returns-in_err-first
-returns-in_err-first c =
-    let h = c.map_err.ensures.cases in
+pub returns-in_err-judge : goal.returns-in_err-judge
+returns-in_err-judge c =
+    let a = c.args in
+    let why = c.in_err-judge.field-0.0 in
     let p = err_from_is_err_and c.from_residual.result c.from_residual.ensures.1 in
-    let u = p.2 in
-    ?
+    let q = c.in_err-judge.ensures in
+    rw (p.1, p.2)
+    (refused-told why a.out.now ∙ ap (λ (n : ℕ). answered (refused (refusal_meant why.refusal)) n a.out.now) q.1 ∙ first-refused a.a.now a.b.now a.out.now _ q.0)
 
-pub returns-in_err-second : goal.returns-in_err-second
-returns-in_err-second c = ?
+pub returns-in_err-judge-2 : goal.returns-in_err-judge-2
+returns-in_err-judge-2 c =
+    let a = c.args in
+    let why = c.in_err-judge-2.field-0.0 in
+    let p = err_from_is_err_and c.from_residual-in_err-judge-2.result c.from_residual-in_err-judge-2.ensures.1 in
+    let q = c.in_err-judge-2.ensures in
+    rw (p.1, p.2)
+    (refused-told why a.out.now ∙ ap (λ (n : ℕ). answered (refused (refusal_meant why.refusal)) n a.out.now) q.1
+    ∙ second-refused a.a.now a.b.now a.out.now _ c.in_ok-judge.ensures.accepts _ q.0)
 
 pub returns : goal.returns
 returns c =
-    let h = c.map_err.ensures.cases in
-    ?
+    let a = c.args in
+    c.combine_accepted.ensures ∙ both-accepted a.a.now a.b.now a.out.now _ c.in_ok-judge.ensures.accepts _ c.in_ok-judge-2.ensures.accepts

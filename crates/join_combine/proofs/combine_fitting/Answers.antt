@@ -25,7 +25,7 @@ use Rattle.join_combine.proofs.combine_fitting.Goals as goal
 module _ (a b : Bytes) (x y : GoodFile) (p : IsGood x a) (q : IsGood y b) (h : ℕ) (e : h ≡ record_size (first_record (lines_of b)))
     (total : Sum) (adds : total ≡ sum_meant x.summary.total ⊕ sum_meant y.summary.total) (n m : ℕ)
     (left : n ≡ (x.summary.records.0 + y.summary.records.0)
-        - (length (lines_of (take (length a - x.last.0) (drop x.last.0 a))) + length (lines_of (take h b)) + length (lines_of (take (length b - y.last.0) (drop y.last.0 b)))))
+    - (length (lines_of (take (length a - x.last.0) (drop x.last.0 a))) + length (lines_of (take h b)) + length (lines_of (take (length b - y.last.0) (drop y.last.0 b)))))
     (more : m ≡ min (n + 1) most_records) (last : Bytes) (is : last ≡ last_line total (x.summary.groups.0 + y.summary.groups.0) m) where
   whole : take x.last.0 a ++ (take (y.last.0 - h) (drop h b) ++ last) ≡ combined_result a b
   whole =
