@@ -4,6 +4,7 @@ use crate::printing::{after, print_answer, print_file};
 use base_quantities::Signed;
 use std::io;
 use write_line::Items;
+use write_records::{Detail, Group, Header, Item};
 use write_state::Writer;
 
 // A writer after a header, a group and an account without an item.
@@ -12,18 +13,36 @@ fn in_account(rt: &impl Print, out: &mut [u8]) -> io::Result<Writer> {
     let w = after(
         rt,
         w,
-        write_calls::header(w, b"A", b"B", b"240229", b"0000", b"0", out),
+        write_calls::header(
+            w,
+            Header {
+                sender: b"A",
+                receiver: b"B",
+                date: b"240229",
+                time: b"0000",
+                file_number: b"0",
+            },
+            out,
+        ),
     )?;
     let w = after(
         rt,
         w,
-        write_calls::group(w, b"B", b"A", b"1", b"240229", b"", b"", b"", out),
+        write_calls::group(
+            w,
+            Group {
+                receiver: b"B",
+                originator: b"A",
+                status: b"1",
+                date: b"240229",
+                time: b"",
+                currency: b"",
+                modifier: b"",
+            },
+            out,
+        ),
     )?;
-    after(
-        rt,
-        w,
-        write_calls::account(w, b"7", b"", false, b"", None, None, out),
-    )
+    after(rt, w, write_calls::account(w, b"7", b"", None, out))
 }
 
 // Prints what a header answers.
@@ -39,7 +58,17 @@ fn try_header(
         rt,
         tried,
         w,
-        write_calls::header(w, sender, b"B", date, b"0000", b"0", out),
+        write_calls::header(
+            w,
+            Header {
+                sender,
+                receiver: b"B",
+                date,
+                time: b"0000",
+                file_number: b"0",
+            },
+            out,
+        ),
     )
 }
 
@@ -49,7 +78,15 @@ fn try_item(rt: &impl Print, tried: &[u8], w: Writer, out: &mut [u8]) -> io::Res
         rt,
         tried,
         w,
-        write_calls::item(w, b"010", plus(1), None, out),
+        write_calls::item(
+            w,
+            Item {
+                type_code: b"010",
+                amount: plus(1),
+                count: None,
+            },
+            out,
+        ),
     )
 }
 
@@ -67,7 +104,17 @@ fn try_detail(
         rt,
         tried,
         w,
-        write_calls::detail(w, type_code, amount, b"", b"", text, out),
+        write_calls::detail(
+            w,
+            Detail {
+                type_code,
+                amount,
+                bank_reference: b"",
+                customer_reference: b"",
+                text,
+            },
+            out,
+        ),
     )
 }
 
@@ -82,7 +129,17 @@ fn short_detail(
     after(
         rt,
         w,
-        write_calls::detail(w, type_code, amount, b"", b"", b"", out),
+        write_calls::detail(
+            w,
+            Detail {
+                type_code,
+                amount,
+                bank_reference: b"",
+                customer_reference: b"",
+                text: b"",
+            },
+            out,
+        ),
     )
 }
 
@@ -155,7 +212,17 @@ fn counted_status(rt: &impl Print, w: Writer, out: &mut [u8]) -> io::Result<()> 
         rt,
         b"count of a customised status",
         w,
-        write_calls::account(w, b"8", b"", true, b"905", minus(1), Some(Items(1)), out),
+        write_calls::account(
+            w,
+            b"8",
+            b"",
+            Some(Item {
+                type_code: b"905",
+                amount: minus(1),
+                count: Some(Items(1)),
+            }),
+            out,
+        ),
     )
 }
 

@@ -5,4 +5,4 @@ use Rattle.write_calls.proofs.CallLaws.{header-written}
 use Rattle.write_calls.proofs.header.Goals as goal
 
 pub returns : goal.returns
-returns c = c.commit.ensures ∙ header-written (writer_meant c.args.w) c.args.out.now _ _ _ _ _ _ _ c.none.ensures c.draft.ensures
+returns c = c.commit.ensures ∙ header-written (writer_meant c.args.w) c.args.out.now _ _ _ _ _ _ _ c.none.ensures c.draft-line.ensures
