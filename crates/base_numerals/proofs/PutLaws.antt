@@ -97,6 +97,25 @@ module _ (n : ℕ) (out₀ out : Bytes) (m i : ℕ) (w : Writing n out₀ out m 
       let small : m < 10 = one-digit m (omega (arith, w.left)) in
       stored out 0 (48 + m) (omega (arith, w.inside)) ∙ rw (e, decimal-small m small) at w.bytes
 
+-- i digits are still to be put, those of m; or none, and all stand
+pub record Left (n : ℕ) (out₀ out : Bytes) (m i : ℕ) : Type 0 where
+  pub more : 0 < i → Writing n out₀ out m i
+  pub none : i ≡ 0 → out ≡ decimal n ++ drop (length (decimal n)) out₀
+
+pub all-left : (n : ℕ) (out : Bytes) (k : ℕ) → k ≡ length (decimal n) → k ≤ length out → Left n out out n k
+all-left n out k e h = record { more = λ _. start n out k e h; none = λ z. absurd (omega (arith, decimal-some n)) }
+
+pub one-put : (n : ℕ) (out₀ out : Bytes) (m i : ℕ) → Left n out₀ out m i → 0 < i → Left n out₀ (set out (i - 1) (48 + m % 10)) (m / 10) (i - 1)
+one-put n out₀ out m i w h =
+    let v : Writing n out₀ out m i = w.more h in
+    record {
+      more = λ g. turn n out₀ out m i v (omega arith);
+      none = λ z.
+          let small : m < 10 = one-digit m (omega (arith, v.left)) in
+          let digit : m % 10 ≡ m = omega arith in
+          rw (z, digit) (last n out₀ out m i v (omega arith));
+    }
+
 -- ---- the rest of a slice, lent and given back: what `&mut out[a..]` lends, and what `out` is once it is back
 
 pub rest-is : (a : ℕ) (xs : Bytes) → mid_of a (length xs - a) xs ≡ drop a xs

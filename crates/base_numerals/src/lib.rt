@@ -31,13 +31,10 @@ pub fn put_digits(out: &mut [u8], n: u64) -> usize
         return 0;
     }
     let mut m = n;
-    let mut i = k;
-    while 1 < i {
-        i -= 1;
+    for i in (0..k).rev() {
         out[i] = b'0' + (m % 10) as u8;
         m /= 10;
     }
-    out[0] = b'0' + m as u8;
     k
 }
 
