@@ -22,16 +22,7 @@ const HELD: usize = 16;
 fn has_room(fields: usize, room: usize) -> bool
     ensures { result ≡ leb (3 * fields) room }
 {
-    if room < fields {
-        return false;
-    }
-    if room - fields < fields {
-        return false;
-    }
-    if room - fields - fields < fields {
-        return false;
-    }
-    true
+    fields <= room / 3
 }
 
 // The fields of the record of this code that starts there, put into the slice at once; or, first, why not.
@@ -39,22 +30,19 @@ fn fields_of(file: &[u8], start: Place, code: Code, out: &mut [u64]) -> Result<F
     ensures { Gives (drop start.0 file.now) start.0 (code_meant code) out.old out.new result }
 {
     let mut held = [0u64; 48];
-    match find_walk::walk_to(file, start, 1, code, NO_KIND, &mut held)? {
-        Reached::Field(_, _) => Err(Reason::NoRoom.nowhere()), // never: there is no such kind
-        Reached::Over(count) => {
-            let n = count.0 as usize;
-            if !has_room(n, out.len()) {
-                return Err(Reason::NoRoom.nowhere());
-            }
-            if HELD < n {
-                find_walk::walk_to(file, start, 1, code, NO_KIND, out)?;
-                return Ok(count);
-            }
-            let end = 3 * n;
-            base_slices::put(out, &held[0..end]);
-            Ok(count)
-        }
+    let Reached::Over(count) = find_walk::walk_to(file, start, 1, code, NO_KIND, &mut held)? else {
+        return Err(Reason::NoRoom.nowhere()); // never: there is no such kind
+    };
+    let n = count.0 as usize;
+    if !has_room(n, out.len()) {
+        return Err(Reason::NoRoom.nowhere());
     }
+    if n <= HELD {
+        base_slices::put(out, &held[..3 * n]);
+        return Ok(count);
+    }
+    find_walk::walk_to(file, start, 1, code, NO_KIND, out)?;
+    Ok(count)
 }
 
 // The fields of the record that begins there: their numbers at the front of the slice, three a field.

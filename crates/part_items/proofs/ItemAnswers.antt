@@ -40,7 +40,6 @@ use Rattle.part_items.proofs.ItemsRead.{items-read}
 abbrev no_such_part : Refusal
 no_such_part = record { reason = NoSuchPart; place = record { 0 = 0 } }
 
-
 -- ---- an account that stands
 
 module _ (file : Bytes) (x : Placed) (s : AccountStands file x) where
