@@ -1,12 +1,12 @@
 -- Three numbers put into a slice, as long as they find room; and the length that is handed out of a field. Assumes nothing.
-use Prim.Native.Nat.{ℕ, zero, suc, ◌+◌, ◌≤◌, ◌<◌}
+use Prim.Native.Nat.{ℕ, suc, ◌+◌, ◌≤◌, ◌<◌}
 use native.Mathlib.Omega.{arith}
 use mathlib.Core.Path.{◌≡◌, refl, sym, ap, ◌∙◌}
-use mathlib.Core.Bool.{Bool, cond, ◌&&◌}
+use mathlib.Core.Bool.{cond, ◌&&◌}
 use mathlib.Core.List.{List, [], ◌∷◌, ◌++◌, append_assoc}
-use borrow.Author.Tests.{ne_eqb, leb-true, leb-false}
+use borrow.Author.Tests.{leb-true, leb-false}
 use lib.Dec.{eqb, leb}
-use lib.ListN.{length, set, take, drop, get_or, take-append-drop, length-append, length-drop}
+use lib.ListN.{length, take, drop, get_or, take-append-drop, length-append, length-drop}
 use lib.Seq.{take_at, drop_at, drop-cons, length-take-le}
 use Rattle.rules.specs.Bytes.{Bytes, slash, just}
 use Rattle.rules.specs.Grammar.{Kind, kind_number, next_kind}

@@ -17,7 +17,7 @@ use Rattle.base_refusals.specs.declared.Refusal.{Refusal}
 use Rattle.read_wanted.specs.Wants.{wanted_of}
 use Rattle.find_next.specs.declared.Cursor.{Cursor}
 use Rattle.find_next.specs.declared.FieldStep.{FieldStep}
-use Rattle.find_next.specs.FieldTrace.{Trace, yields, field_at}
+use Rattle.find_next.specs.FieldTrace.{Trace, field_at}
 use Rattle.find_next.specs.CursorMeaning.{trace_of, Inside, Near, left_from, left_of, Steps}
 use Rattle.find_walk.specs.declared.Reached.{Reached}
 use Rattle.find_walk.specs.declared.Reached.TheVariants as reached

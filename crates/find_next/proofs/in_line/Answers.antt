@@ -1,7 +1,7 @@
 -- `find_next::in_line`: the record's end, and its next line. Assumes nothing.
-use Prim.Native.Nat.{ℕ, ◌+◌, ◌-◌, ◌≤◌, ◌<◌}
+use Prim.Native.Nat.{ℕ, ◌+◌}
 use native.Mathlib.Omega.{arith}
-use mathlib.Core.Path.{◌≡◌, refl, sym, ap, ◌∙◌}
+use mathlib.Core.Path.{refl, sym, ap, ◌∙◌}
 use Rattle.std.proofs.lemmas.Result.{err_from_is_err_and}
 use Rattle.read_lines.proofs.LineLaws.{next-is, next-within}
 use Rattle.find_next.proofs.OwnLines.{flip, own-some}
