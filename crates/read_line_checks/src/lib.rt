@@ -66,7 +66,7 @@ fn scan_further(s: &[u8], limit: usize, first: GoodLine) -> Result<Option<Scanne
     let mut at = first.next.0;
     let mut n: u64 = 1;
     // No `for`: a step goes as far as the line does.
-    while read_lines::begins_with(s, Place(at), b'8', b'8') {
+    while read_lines::begins(s, Place(at), Code::Continuation) {
         let e = clean_line(s, Place(at), limit)?;
         at = e.0 + read_lines::end_len(s, e);
         n += 1;

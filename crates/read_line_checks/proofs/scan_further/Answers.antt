@@ -17,13 +17,13 @@ loop-at-init c =
     (omega arith, omega arith, omega arith, omega arith, first-go a.limit a.s.now p.0 (code_meant a.first.code) a.first.next.0 p.1.0 (omega arith))
 
 pub clean_line-requires : goal.clean_line-requires
-clean_line-requires c = further-some c.args.s.now c.loop-at.at (sym c.begins_with.ensures ∙ c.loop-at-test.true)
+clean_line-requires c = further-some c.args.s.now c.loop-at.at (sym c.begins.ensures ∙ c.loop-at-test.true)
 
 pub returns-in_err-e : goal.returns-in_err-e
 returns-in_err-e c =
     let a = c.args in
     let at = c.loop-at.at in
-    let t = sym c.begins_with.ensures ∙ c.loop-at-test.true in
+    let t = sym c.begins.ensures ∙ c.loop-at-test.true in
     let l = length-drop at a.s.now in
     let g = rw c.in_err-e.was at c.clean_line.ensures in
     let p = err_from_is_err_and c.from_residual.result c.from_residual.ensures.1 in
@@ -32,7 +32,7 @@ returns-in_err-e c =
 pub loop-at-smaller : goal.loop-at-smaller
 loop-at-smaller c =
     let s = c.args.s.now in let at = c.loop-at.at in
-    let t = sym c.begins_with.ensures ∙ c.loop-at-test.true in
+    let t = sym c.begins.ensures ∙ c.loop-at-test.true in
     let g = rw c.in_ok-e.was at c.clean_line.ensures in
     let n = next-is s at c.in_ok-e.e.0 (c.in_ok-e.e.0 + c.end_len.result) g.1 (rw c.end_len.ensures) in
     let l = length-drop at s in let h = further-some s at t in
@@ -42,7 +42,7 @@ loop-at-smaller c =
 pub loop-at-preserved : goal.loop-at-preserved
 loop-at-preserved c =
     let a = c.args in let s = c.args.s.now in let at = c.loop-at.at in let next = c.in_ok-e.e.0 + c.end_len.result in
-    let t = sym c.begins_with.ensures ∙ c.loop-at-test.true in
+    let t = sym c.begins.ensures ∙ c.loop-at-test.true in
     let g = rw c.in_ok-e.was at c.clean_line.ensures in
     let n = next-is s at c.in_ok-e.e.0 next g.1 (rw c.end_len.ensures) in
     let l = length-drop at s in let h = further-some s at t in
@@ -59,7 +59,7 @@ pub returns : goal.returns
 unfolding good_lines record_size
 returns c =
     let a = c.args in let at = c.loop-at.at in
-    let e = further-end a.s.now at a.limit (first_record (lines_of a.s.now)) c.loop-at.n (sym c.begins_with.ensures ∙ c.loop-at-test.false) c.loop-at.invariant.4 in
+    let e = further-end a.s.now at a.limit (first_record (lines_of a.s.now)) c.loop-at.n (sym c.begins.ensures ∙ c.loop-at-test.false) c.loop-at.invariant.4 in
     record {
       good = e.checks;
       code = good-code 0 a.limit (first_line a.s.now) (code_meant a.first.code) c.requires.1.0;
