@@ -418,7 +418,7 @@ same_writer w =
 pub new-one : (v w : Writer) → writer_meant v ≡ writing.fresh_writer → writer_meant w ≡ writing.fresh_writer → v ≡ w
 new-one = one_answer writer_meant writer_of same_writer writing.fresh_writer
 
-written-back : writing.Written → Left (Result Written Refusal)
+abbrev written-back : writing.Written → Left (Result Written Refusal)
 written-back m = record { answer = result_from (record { length = m.len; writer = writer_of m.writer }) m.refusal; slice = m.output }
 
 same-written : (state : Writer) (r : Result Written Refusal) (out : Bytes)
