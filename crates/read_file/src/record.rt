@@ -12,7 +12,7 @@ ghost use Rattle.read_file.specs.FileMeanings.{Held};
 
 use crate::state::State;
 use base_codes::Code;
-use base_quantities::Magnitude;
+use base_quantities::{Magnitude, Place};
 use base_refusals::{Reason, Refusal};
 use base_totals::Summary;
 use read_kept::Kept;
@@ -89,7 +89,7 @@ pub(crate) fn step(st: State, rest: &[u8]) -> Result<Option<Stepped>, Refusal>
         return Ok(None);
     };
     if !read_order::allows(st.expected, scanned.code) {
-        return Err(Reason::RecordOutOfOrder.nowhere());
+        return Err(Reason::RecordOutOfOrder.at(Place(0)));
     }
     let total = st.file.total;
     let before = Magnitude(total.0 + total.1);

@@ -122,7 +122,7 @@ pub returns-then-not-allows : goal.returns-then-not-allows
 returns-then-not-allows c =
     let a = c.args in
     let w = rw (c.in_ok-scanned.was, c.in-Some.is) at c.scan_record.ensures in
-    rw c.nowhere.ensures (out_of_order a.st a.rest.now c.requires.0 _ _ _ w (sym c.allows.ensures ∙ c.if-not-allows.true))
+    rw c.at.ensures (out_of_order a.st a.rest.now c.requires.0 _ _ _ w (sym c.allows.ensures ∙ c.if-not-allows.true))
 
 pub returns-in_err-kept : goal.returns-in_err-kept
 returns-in_err-kept c =
