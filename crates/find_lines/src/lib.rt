@@ -72,11 +72,9 @@ fn block_ends(s: &[u8], start: Place) -> bool
     ensures { result ≡ false → NoEnd s.now start.0 128 }
 {
     let at = start.0;
-    let mut lowest: u8 = 255;
-    let mut i: usize = 0;
-    while i < BLOCK {
+    let mut lowest = 255;
+    for i in 0..BLOCK {
         lowest = base_slices::smaller(lowest, s[at + i]);
-        i += 1;
     }
     lowest <= b'\n'
 }
