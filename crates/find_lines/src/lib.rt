@@ -56,12 +56,10 @@ fn block_meets(s: &[u8], start: Place, x: Digits, y: Digits) -> bool
     ensures { result ≡ false → Quiet (bytes_meant x) (bytes_meant y) s.now start.0 128 }
 {
     let at = start.0;
-    let mut found: u8 = 0;
-    let mut i: usize = 0;
-    while i < BLOCK {
+    let mut found = 0;
+    for i in 0..BLOCK {
         let k = at + i;
         found = meets(found, s[k], s[k + 1], x.0, y.0);
-        i += 1;
     }
     found != 0
 }

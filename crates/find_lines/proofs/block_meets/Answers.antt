@@ -2,7 +2,6 @@
 use Prim.Native.Nat.{◌+◌}
 use native.Mathlib.Omega.{arith}
 use borrow.Author.Count.{below_more}
-use borrow.Author.Rules.{rules}
 use Rattle.find_lines.proofs.LineSearch.{quiet-byte}
 use Rattle.find_lines.proofs.block_meets.Goals as goal
 
@@ -11,4 +10,4 @@ loop-i-preserved c =
     let a = c.args in
     let l = c.loop-i in
     let k = a.start.0 + l.i in
-    (search rules, λ e. below_more _ _ (l.invariant.1 (c.meets-found.ensures e).0) (quiet-byte a.x a.y a.s.now k (omega arith) (c.meets-found.ensures e).1))
+    λ e. below_more _ _ (l.invariant (c.meets-found.ensures e).0) (quiet-byte a.x a.y a.s.now k (omega arith) (c.meets-found.ensures e).1)
