@@ -98,7 +98,8 @@ fn combine_fitting(
     );
     let last = join_trailer::fresh_trailer(total, groups, records.add(Records(1)));
     let last = last.line();
-    join_trailer::fits(a99 + (b99 - header) + last.len(), out.len())?;
+    let length = a99 + (b99 - header) + last.len();
+    join_trailer::fits(length, out.len())?;
     Ok(put_three(&a.bytes[..a99], &b.bytes[header..b99], last, out))
 }
 

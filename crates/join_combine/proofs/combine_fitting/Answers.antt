@@ -70,17 +70,17 @@ records_left-records-requires c =
 
 -- ---- the length
 
-pub overflow_sub-b99 : goal.overflow_sub-b99
-overflow_sub-b99 c = let b = c.args.b.now in header-first b.bytes.now b.good b.is_good c.args.header c.requires.0
+pub overflow_sub-length : goal.overflow_sub-length
+overflow_sub-length c = let b = c.args.b.now in header-first b.bytes.now b.good b.is_good c.args.header c.requires.0
 
-pub overflow_add-a99 : goal.overflow_add-a99
-overflow_add-a99 c =
+pub overflow_add-length : goal.overflow_add-length
+overflow_add-length c =
     let a = c.args.a.now in
     let b = c.args.b.now in
     omega (arith, last-inside a.bytes.now a.good a.is_good, last-inside b.bytes.now b.good b.is_good, short a.bytes.now a.good a.is_good, short b.bytes.now b.good b.is_good)
 
-pub overflow_add-a99-2 : goal.overflow_add-a99-2
-overflow_add-a99-2 c =
+pub overflow_add-length-2 : goal.overflow_add-length-2
+overflow_add-length-2 c =
     let a = c.args.a.now in
     let b = c.args.b.now in
     let r = c.fresh_trailer-last.result in
