@@ -52,7 +52,7 @@ pub fn fields_at(file: &[u8], start: Place, out: &mut [u64]) -> Result<FieldCoun
     if file.len() <= start.0 {
         return Err(Reason::NoSuchPart.nowhere());
     }
-    let Some(code) = part_records::code_there(file, start) else {
+    let Some(code) = read_lines::code_at(file, start) else {
         return Err(Reason::NoRecordCode.at(start));
     };
     fields_of(file, start, code, out)

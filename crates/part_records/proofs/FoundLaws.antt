@@ -1,23 +1,20 @@
 -- What `record_at` answers at each place that the code reaches. Assumes nothing.
-use Prim.Native.Nat.{ℕ, zero, suc, ◌+◌, ◌-◌, ◌≤◌, ◌<◌}
+use Prim.Native.Nat.{ℕ, ◌+◌, ◌-◌, ◌≤◌, ◌<◌}
 use native.Mathlib.Omega.{arith}
 use mathlib.Core.Path.{◌≡◌, refl, sym, ap, ◌∙◌}
-use mathlib.Core.List.{List, [], ◌∷◌}
+use mathlib.Core.List.{◌∷◌}
 use mathlib.Core.Option.{none, some}
-use mathlib.Core.Bool.{true, false}
-use lib.ListN.{length, take, drop, get_or, length-drop, drop_of_length-le}
+use lib.ListN.{length, take, drop, length-drop, drop_of_length-le}
 use lib.Seq.{drop-drop, length-take-le}
-use Rattle.rules.specs.Bytes.{Bytes, same_bytes}
+use Rattle.rules.specs.Bytes.{Bytes}
 use Rattle.rules.specs.Outcome.{refused, fine, ◌>>=◌}
-use Rattle.rules.specs.Lines.{Code, file_header, group_header, account_header, detail, lines_of, code_bytes, code_in, code_of, records_of, record_size, file_records}
-use Rattle.rules.proofs.Tests.{same-eq}
+use Rattle.rules.specs.Lines.{lines_of, code_of, records_of, record_size, file_records}
 use Rattle.rules.specs.Verdict.{coded}
 use Rattle.rules.specs.HandedOut.{first_coded, record_at, record_answer}
 use Rattle.base_codes.specs.declared.Code as code
 use Rattle.base_codes.specs.CodeMeaning.{code_meant}
 use Rattle.read_lines.specs.LineLengths.{line_len, first_line, further, first_record}
 use Rattle.read_lines.proofs.LineLengthLaws.{first_of}
-use Rattle.read_lines.proofs.Fronts.{begins-front}
 use Rattle.read_lines.proofs.LineLaws.{record-start}
 use Rattle.read_lines.proofs.OneRecord.{first_part, one-record, lines-size}
 use Rattle.std.specs.Prelude.{Ok, Err}
@@ -83,44 +80,3 @@ module _ (file : Bytes) (start : ℕ) where
       coded-finds low =
           let length-is : record_size (lines_of (take size there)) ≡ size = lines-size (take size there) ∙ length-take-le size there (omega (arith, length-drop start file)) in
           record { answer = sym (ap record_answer outcome-is ∙ rw (length-is, ← count-is)); outcome = outcome-is; inside = omega arith }
-
--- ---- the code of a line: a detail's, or sought one after the other
-
-pub detail-found : (xs : Bytes) → same_bytes (code_bytes detail) (take 3 xs) ≡ true → code_of (first_line xs) ≡ some detail
-unfolding code_of code_in same_bytes
-detail-found xs t =
-    let is : take 3 xs ≡ code_bytes detail = sym (same-eq (code_bytes detail) (take 3 xs) (rw t tt)) in
-    rw (begins-front file_header xs, begins-front group_header xs, begins-front account_header xs, begins-front detail xs, is)
-
-unfoldable pub meant : List code.Code → List Code
-meant [] = []
-meant (c ∷ cs) = code_meant c ∷ meant cs
-
-from-here : (cs : List code.Code) (i : ℕ) (d : code.Code) → i < length cs → drop i (meant cs) ≡ code_meant (get_or cs i d) ∷ drop (i + 1) (meant cs)
-unfolding meant
-from-here [] i d h = absurd (omega arith)
-from-here (c ∷ cs) zero d h = refl
-from-here (c ∷ cs) (suc i) d h = let z : suc i + 1 ≡ suc (i + 1) = omega arith in rw z (from-here cs i d (omega arith))
-
-module _ (xs : Bytes) (cs : List code.Code) (i : ℕ) (d : code.Code) (h : i < length cs) where
-  abbrev this : Code
-  this = code_meant (get_or cs i d)
-
-  pub code-found : same_bytes (code_bytes this) (take 3 xs) ≡ true → code_in (drop i (meant cs)) (first_line xs) ≡ some this
-  unfolding code_in
-  code-found t = rw (from-here cs i d h, begins-front this xs, t)
-
-  pub code-passed : same_bytes (code_bytes this) (take 3 xs) ≡ false → code_in (drop i (meant cs)) (first_line xs) ≡ code_in (drop (i + 1) (meant cs)) (first_line xs)
-  unfolding code_in
-  code-passed t = rw (from-here cs i d h, begins-front this xs, t)
-
--- none is left
-pub none_left : (xs : Bytes) (cs : List code.Code) (i : ℕ) → length cs ≤ i → code_in (drop i (meant cs)) (first_line xs) ≡ none
-unfolding code_in meant
-none_left xs [] i h = nothing i
-  where
-    nothing : (n : ℕ) → code_in (drop n []) (first_line xs) ≡ none
-    nothing zero = refl
-    nothing (suc n) = refl
-none_left xs (c ∷ cs) zero h = absurd (omega arith)
-none_left xs (c ∷ cs) (suc i) h = none_left xs cs i (omega arith)

@@ -2,10 +2,6 @@
 
 #![tactic(auto)]
 
-ghost use Rattle.std.specs.Prelude.{◌≡◌, drop};
-ghost use Rattle.rules.specs.Lines.{code_of};
-ghost use Rattle.read_lines.specs.LineLengths.{first_line};
-ghost use Rattle.read_lines.specs.LineAnswers.{code_found};
 ghost use Rattle.part_records.specs.RecordsFound.{Finds};
 
 use base_codes::Code;
@@ -20,34 +16,6 @@ pub struct Record {
     pub length: usize,
 }
 
-// The codes, in the order of their numbers.
-const CODES: [Code; 8] = [
-    Code::FileHeader,
-    Code::GroupHeader,
-    Code::AccountHeader,
-    Code::Detail,
-    Code::AccountTrailer,
-    Code::GroupTrailer,
-    Code::FileTrailer,
-    Code::Continuation,
-];
-
-// The code of the line that starts there: a detail's is sought first, then one after the other. (`read_lines::code_at` answers the same, and is the reader's alone: with a second caller
-// the compiler no longer draws it into the reader.)
-pub fn code_there(file: &[u8], start: Place) -> Option<Code>
-    ensures { code_found result ≡ code_of (first_line (drop start.0 file.now)) }
-{
-    if read_lines::begins(file, start, Code::Detail) {
-        return Some(Code::Detail);
-    }
-    for code in CODES {
-        if read_lines::begins(file, start, code) {
-            return Some(code);
-        }
-    }
-    None
-}
-
 // The record that begins there, with all 88 lines after its first.
 pub fn record_at(file: &[u8], start: Place) -> Result<Record, Refusal>
     ensures { Finds file.now start.0 result }
@@ -55,7 +23,7 @@ pub fn record_at(file: &[u8], start: Place) -> Result<Record, Refusal>
     if file.len() <= start.0 {
         return Err(Reason::NoSuchPart.nowhere());
     }
-    let Some(code) = code_there(file, start) else {
+    let Some(code) = read_lines::code_at(file, start) else {
         return Err(Reason::NoRecordCode.at(start));
     };
     let further = read_lines::further_lines(file, read_lines::next_line(file, start));

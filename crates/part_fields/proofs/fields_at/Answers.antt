@@ -13,10 +13,10 @@ returns-then-file-start c =
 pub returns-in_default : goal.returns-in_default
 returns-in_default c =
     let a = c.args in
-    rw c.at.ensures (uncoded-gives a.file.now a.start.0 a.out.now c.if-file-start.false (sym (ap code_found c.in_default.is) ∙ c.code_there.ensures))
+    rw c.at.ensures (uncoded-gives a.file.now a.start.0 a.out.now c.if-file-start.false (sym (ap code_found c.in_default.is) ∙ c.code_at.ensures))
 
 pub returns : goal.returns
 returns c =
     let a = c.args in
     c.fields_of.ensures
-    ∙ found-gives a.file.now a.start.0 a.out.now c.if-file-start.false (code_meant c.in-Some.code) (sym (ap code_found c.in-Some.is) ∙ c.code_there.ensures)
+    ∙ found-gives a.file.now a.start.0 a.out.now c.if-file-start.false (code_meant c.in-Some.code) (sym (ap code_found c.in-Some.is) ∙ c.code_at.ensures)
