@@ -16,7 +16,7 @@ pub fn same_bytes(a: &[u8], b: &[u8]) -> bool
     a == b
 }
 
-// The smaller of two bytes.
+// The smaller of two bytes. Written out, and not `min` of std: the hot loops of read_lines and find_lines call it, and must stay as fast.
 pub fn smaller(a: u8, b: u8) -> u8
     ensures { result ≡ min a b }
 {
