@@ -24,10 +24,9 @@ pub struct Trailer {
 impl Trailer {
     // The line's bytes.
     pub fn line(&self) -> &[u8]
-        requires { self.now.length ≤ 80 }
         ensures { result.now ≡ take self.now.length self.now.bytes }
     {
-        &self.bytes[..self.length]
+        base_slices::front(&self.bytes, self.length)
     }
 }
 

@@ -22,13 +22,12 @@ pub struct Part {
 }
 
 impl Part {
-    // The bytes of a part that ends within the file.
+    // The part's bytes, of those that the file has.
     pub fn bytes(self, file: &[u8]) -> &[u8]
-        requires { self.start.0 + self.length ≤ length file.now }
         ensures { result.now ≡ take self.length (drop self.start.0 file.now) }
     {
-        let from = self.start.0;
-        &file[from..from + self.length]
+        let rest = base_slices::part(file, self.start, Place(file.len()));
+        base_slices::front(rest, self.length)
     }
 }
 
