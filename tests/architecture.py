@@ -78,7 +78,7 @@ def names_in(source):
     """The functions, constants and types of a file, those of a type as Type::name."""
     names, owner = set(), ""
     for line in source.split("\n"):
-        opening = re.match(r"impl (\w+) \{|(?:pub(?:\(crate\))? )?(?:enum|struct) (\w+)(.*)", line)
+        opening = re.match(r"impl (\w+)(?:<[^>]*>)? \{|(?:pub(?:\(crate\))? )?(?:enum|struct) (\w+)(.*)", line)
         if opening:
             owner = opening[1] or opening[2]
             names.add(owner)
@@ -338,7 +338,7 @@ def public_functions(crate):
         module, owner = os.path.basename(path)[:-3], ""
         front = crate if module == "lib" else f"{crate}::{module}"
         for line in text_of(path).split("\n"):
-            opening = re.match(r"impl (\w+) \{", line)
+            opening = re.match(r"impl (\w+)(?:<[^>]*>)? \{", line)
             owner = f"{opening[1]}::" if opening else "" if line.startswith("}") else owner
             item = re.match(r' *pub (extern "C" )?fn (\w+)', line)
             if item:
