@@ -76,7 +76,7 @@ pub fn is_negative(f: &[u8]) -> bool
     0 < f.len() && f[0] == b'-'
 }
 
-// The bytes less a plus or minus in front.
+// The bytes less a plus or minus in front. By tests and no pattern: of a pattern's first byte the proof can't say what it is.
 pub fn without_sign(f: &[u8]) -> &[u8]
     ensures { result.now ≡ without_sign f.now }
 {

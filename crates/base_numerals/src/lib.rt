@@ -15,6 +15,7 @@ pub fn digit_count(n: u64) -> usize
 {
     let mut m = n;
     let mut k: usize = 1;
+    // No `for`: a step is a digit fewer, and how many there are is what is asked.
     while 10 <= m {
         m /= 10;
         k += 1;

@@ -84,7 +84,7 @@ impl From<Summary> for Figures {
     }
 }
 
-// The phase of this number of include/bai2.h; any other is taken for the last, and `size_of` refuses it.
+// The phase of this number of include/bai2.h; any other is taken for the last, and `size_of` refuses it. So there is a phase for each number, and no `TryFrom`.
 #[tactic(auto, unfolding(crate::specs::WriterFigures::phase_of))]
 fn phase_of(n: u64) -> Phase
     ensures { phase_meant result ≡ phase_of n }

@@ -51,7 +51,7 @@ pub fn seek(rec: &[u8], code: Code, sought: Sought) -> Option<Spot>
     match find_walk::walk_to(rec, Place(0), rec.len(), code, kind, &mut []) {
         Ok(Reached::Field(start, length)) => Some(Spot { start, length }),
         Ok(Reached::Over(_)) => None,
-        Err(_) => None,
+        Err(_) => None, // an arm of its own: of the second alternative of a pattern the proof can't name what was answered
     }
 }
 

@@ -56,6 +56,7 @@ fn seek_type(rec: &[u8], n: u64) -> Option<FieldStep>
 {
     let mut walk = find_next::before_record(want::first_want(Code::AccountHeader));
     let mut left = n;
+    // No `for`: each step is the walk after the field before.
     loop {
         let step = next_of(rec, walk)?;
         let begins = begins_item(read_kinds::kind_number(walk.want), step.length);

@@ -113,6 +113,7 @@ fn line_after(s: &[u8], start: Place, x: Digits, y: Digits) -> Place
     ensures { (result.0 ≡ start.0 + ahead_len (bytes_meant x) (bytes_meant y) (drop start.0 s.now)) × (result.0 ≤ length s.now) }
 {
     let mut i = start.0;
+    // No `for`: a step is a block, and the bytes after the last block go one by one.
     while BLOCK < s.len() - i {
         let after = i + BLOCK;
         if may_meet(s, Place(i), x, y) {

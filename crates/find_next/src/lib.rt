@@ -65,6 +65,7 @@ fn field_here(rec: &[u8], walk: Cursor) -> Result<FieldStep, Refusal>
     let Some(n) = read_field_ends::field_extent(text, left) else {
         return Err(Reason::LineBadlyEnded.at(Place(a + left.len())));
     };
+    // A match and no `map_err`: what a closure answers does not reach the proof as an equation.
     let next = match read_fields::take_detail_first(walk.want, &left[..n]) {
         Err(reason) => return Err(reason.at(start)),
         Ok(next) => next,

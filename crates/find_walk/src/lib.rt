@@ -84,6 +84,7 @@ pub fn walk_to(
     let mut walk = find_next::before_record(want::first_want(code));
     let mut n: u64 = 0;
     let mut at: usize = 0;
+    // No `for`: each step is the walk after the field before.
     loop {
         let step = match find_next::next_field(rec, least, walk) {
             Err(why) => return Err(refused_there(start, why)),

@@ -19,7 +19,7 @@ use base_quantities::{Count, Place, Records, Units};
 use base_refusals::{Reason, Refusal};
 use read_file::GoodFile;
 
-// Why two files are not combined; and the file that the reader refused, 1 or 2, or 0.
+// Why two files are not combined; and the file that the reader refused, 1 or 2, or 0, the number that the rules and C have for it.
 #[derive(Clone, Copy)]
 pub struct Refused {
     pub refusal: Refusal,
@@ -121,6 +121,7 @@ fn combine_accepted(a: &Accepted, b: &Accepted, out: &mut [u8]) -> Result<usize,
 fn judge(bytes: &[u8], file: u64) -> Result<GoodFile, Refused>
     ensures { JudgedAs result bytes.now file }
 {
+    // A match and no `map_err`: what a closure answers does not reach the proof as an equation.
     match read_file::judge_file(bytes) {
         Ok(good) => Ok(good),
         Err(refusal) => Err(Refused { refusal, file }),

@@ -16,7 +16,8 @@ use base_refusals::Refusal;
 use find_field::Sought;
 use part_groups::Part;
 
-// A detail's type, its amount as it was given, and where its first text piece stands in the file: an empty one, at 0, where there is none.
+// A detail's type, its amount as it was given, and where its first text piece stands in the file: an empty one, at 0, where there is none, as the rules have it.
+// (No Option: none, and an empty one at 0, would be two answers with one meaning.)
 #[derive(Clone, Copy)]
 pub struct DetailAnswer {
     pub type_code: u64,

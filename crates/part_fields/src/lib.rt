@@ -29,7 +29,7 @@ fn has_room(fields: usize, room: usize) -> bool
 fn fields_of(file: &[u8], start: Place, code: Code, out: &mut [u64]) -> Result<FieldCount, Refusal>
     ensures { Gives (drop start.0 file.now) start.0 (code_meant code) out.old out.new result }
 {
-    let mut held = [0u64; 48];
+    let mut held = [0u64; 48]; // an array, since no memory is allocated here: three numbers for each of 16 fields
     let Reached::Over(count) = find_walk::walk_to(file, start, 1, code, NO_KIND, &mut held)? else {
         return Err(Reason::NoRoom.nowhere()); // never: there is no such kind
     };

@@ -19,7 +19,7 @@ use read_wanted::{
     take_pair_count, take_piece, take_version,
 };
 
-// The answer on a field with these bytes, as the first of what is wanted; of a text, these are the line from its place on, trimmed.
+// The answer on a field with these bytes, as the first of what is wanted; of a text, these are the line from its place on, trimmed. One table, a line for each place of a field.
 pub fn take_field(want: Want, f: &[u8]) -> Taken
     ensures { judged_of result ≡ take_next (wanted_of want) f.now }
 {

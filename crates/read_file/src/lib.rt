@@ -52,6 +52,7 @@ pub fn judge_file(file: &[u8]) -> Result<GoodFile, Refusal>
     let mut st = state::start();
     let mut last: usize = 0;
     let mut at: usize = 0;
+    // No `for`: a step is a record, as long as it is. A match and no `map_err`: the sum of the places needs what is known of `at`, which a closure would have to be told.
     loop {
         match record::step(st, &file[at..]) {
             Ok(Some(next)) => {

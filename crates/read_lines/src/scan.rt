@@ -29,11 +29,9 @@ fn block(s: &[u8], start: Place, high: u8) -> usize
 {
     let at = start.0;
     let mut first: u8 = 255;
-    let mut i: usize = 0;
-    // Counted, always 64 times, and with no early exit: this form compiles to vector code.
-    while i < 64 {
+    // Always 64 times, and with no early exit: so it compiles to vector code.
+    for i in 0..64 {
         first = base_slices::smaller(place_of(s[at + i], i as u8, high), first);
-        i += 1;
     }
     first as usize
 }

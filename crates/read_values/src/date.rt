@@ -45,6 +45,7 @@ impl Date {
         let year = base_digits::value(&f[0..2]);
         let month = base_digits::value(&f[2..4]);
         let day = base_digits::value(&f[4..6]);
+        // By `<` and no ranges: the tests are those of the definition, and so the proof finds them.
         if month < 1 || Date::MONTHS < month || day < 1 || Date::days_in(year, month) < day {
             return None;
         }

@@ -33,6 +33,7 @@ fn walk_lines(rest: &[u8], rec: &[u8], first: Want, before: Magnitude) -> Result
     let mut kept = Kept::none(before);
     let mut slash = Place(0);
     let mut at: usize = 0;
+    // No `for`: a step is a line, and below a field, as long as they are.
     while at < rec.len() {
         let e = read_lines::body_end_in(rest, rec.len(), Place(at)).0;
         let mut a = at + 3;
@@ -49,6 +50,7 @@ fn walk_lines(rest: &[u8], rec: &[u8], first: Want, before: Magnitude) -> Result
             if read_kept::is_kept(want) {
                 kept = kept.keep(want, Place(a), &rec[a..f]);
             }
+            // A match and no `map_err`: what a closure answers does not reach the proof as an equation.
             match read_fields::take_detail_first(want, &rec[a..f]) {
                 Err(reason) => return Err(reason.at(Place(a))),
                 Ok(next) => want = next,
