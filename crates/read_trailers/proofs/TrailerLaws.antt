@@ -1,7 +1,7 @@
 -- A trailer's tests as the code makes them are the rules' tests. Assumes nothing.
 use Rattle.std.proofs.Common.{◌≡◌, ℕ, ◌+◌, ◌-◌, ◌<◌, ◌≤◌, Bool, true, false, leb, eqb, ◌&&◌, arith}
 use Rattle.std.proofs.lemmas.Bool.Decides.{nat_tests}
-use Rattle.core.specs.Int.{abs_diff}
+use Rattle.std.specs.Int.{abs_diff}
 
 -- 14: how far the sides lie apart
 pub within_diff : (a b m : ℕ) → leb (abs_diff a b) m ≡ (leb a (m + b) && leb b (m + a))
