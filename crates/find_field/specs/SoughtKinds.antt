@@ -1,8 +1,9 @@
 -- What the answers of the code say of the search. Assumes nothing.
-use Rattle.std.specs.Prelude.{◌+◌, ◌≤◌, ◌≡◌, length, take, drop, Option, Some, None}
+use Rattle.std.specs.Prelude.{◌+◌, ◌≤◌, ◌≡◌, Bool, true, false, length, take, drop, Option, Some, None, is_some}
 use Rattle.rules.specs.Bytes.{Bytes}
 use Rattle.rules.specs.Lines.{Code, lines_of}
-use Rattle.rules.specs.Grammar.{Kind, detail_type, amount, text, ultimate_receiver, total, records, fields_of}
+use Rattle.rules.specs.Grammar.{Kind, detail_type, amount, text, ultimate_receiver, total, records, fields_of, kind_number}
+use Rattle.find_walk.specs.WalkEnds.{WalkEnd, stopped, over_after, met_at, walk_end, trace_of_record}
 use Rattle.find_field.specs.declared.Sought.{Sought}
 use Rattle.find_field.specs.declared.Sought.TheVariants as sought
 use Rattle.find_field.specs.declared.Spot.{Spot}
@@ -27,7 +28,14 @@ abbrev pub StandsIn : Bytes → Option Spot → Type 0
 StandsIn rec None = Unit {0}
 StandsIn rec (Some r) = r.start.0 + r.length ≤ length rec
 
--- it is the one that `seek_lines` gives
+-- the walk met a field
+abbrev pub is_met : WalkEnd → Bool
+is_met (stopped why) = false
+is_met (over_after n) = false
+is_met (met_at p bs) = true
+
+-- it is the one that `seek_lines` gives, and there is one exactly where the walk meets one
 pub record Spots (rec : Bytes) (c : Code) (s : Sought) (r : Option Spot) : Type 0 where
   pub answer : spot_meant rec r ≡ seek_lines (kind_meant s) (fields_of c) (lines_of rec)
+  pub met : is_some r ≡ is_met (walk_end (kind_number (kind_meant s)) 0 (trace_of_record rec (length rec) c))
   pub within : StandsIn rec r

@@ -16,8 +16,8 @@ use base_refusals::Refusal;
 use find_field::Sought;
 use part_groups::Part;
 
-// A detail's type, its amount as it was given, and where its first text piece stands in the file: an empty one, at 0, where there is none, as the rules have it.
-// (No Option: none, and an empty one at 0, would be two answers with one meaning.)
+// A detail's type, its amount as it was given, and where its first text piece stands in the file, an empty one where it has none: by an Option none and an empty one would
+// mean the same to C, and there would be two answers (`detail-one` in c_laws/proofs/OneAnswer.antt).
 #[derive(Clone, Copy)]
 pub struct DetailAnswer {
     pub type_code: u64,
@@ -25,7 +25,7 @@ pub struct DetailAnswer {
     pub text: Part,
 }
 
-// Where the first text piece of the detail that is this part stands in the file; an empty one, at 0, where there is none.
+// Where the first text piece of the detail that is this part stands in the file; an empty one at 0 where that is a lone slash, at the part's start where the record has no such field, as every accepted 16 has.
 fn text_in(file: &[u8], part: Part) -> Part
     requires { part.start.0 + part.length ≤ length file.now }
     ensures { TextIs file.now part.start.0 part.length result }

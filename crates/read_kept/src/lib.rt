@@ -23,7 +23,7 @@ pub struct Stated<T> {
 }
 
 // before: the magnitudes of the records before; sum: of this record's amounts; past: where the first of them passed the largest; length: L, where it is given.
-// seen: the field was there. A figure that wasn't there is 0 at place 0, as in the rules, so only `keep` asks whether it was. The flags stand together and last, for speed.
+// seen: the field was there. A figure that wasn't there is 0 at place 0, as in the rules, so only `keep` asks whether it was.
 #[derive(Clone, Copy)]
 pub struct Kept {
     pub before: Magnitude,

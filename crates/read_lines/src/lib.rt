@@ -88,7 +88,7 @@ pub fn begins(s: &[u8], start: Place, code: Code) -> bool
     begins_with(s, start, d.0, d.1)
 }
 
-// The codes, in the order of their numbers.
+// The codes: the records' by their numbers, then 88.
 const CODES: [Code; 8] = [
     Code::FileHeader,
     Code::GroupHeader,
@@ -100,8 +100,7 @@ const CODES: [Code; 8] = [
     Code::Continuation,
 ];
 
-// Drawn into each caller: the reader asks it of every record.
-// The code of the line that starts there, if it has one.
+// The code of the line that starts there, if it has one. Drawn into each caller: the reader asks it of every record.
 #[inline(always)]
 pub fn code_at(s: &[u8], start: Place) -> Option<Code>
     ensures { code_found result ≡ code_of (first_line (drop start.0 s.now)) }

@@ -1,4 +1,4 @@
-// The writer of document 01: each call takes the state by value and hands back its answer with the state after it. The line is drafted in a space
+// The writer of document 01: each call takes the state by value and hands back the state after it, or why it is refused. The line is drafted in a space
 // of its own, by `write_records`; `write_commit` decides whether it is written.
 
 #![tactic(auto)]

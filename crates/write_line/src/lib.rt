@@ -22,7 +22,7 @@ use read_wanted::want::Want;
 pub const LINE_SPACE: usize = 640;
 
 // A line in the making: its space, how many bytes of it stand, and what is wanted next, or that a field was refused.
-#[derive(Drop)]
+#[derive(Clone, Copy)]
 pub struct Draft {
     pub line: [u8; LINE_SPACE],
     pub len: usize,
