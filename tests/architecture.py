@@ -78,7 +78,7 @@ def names_in(source):
     """The functions, constants and types of a file, those of a type as Type::name."""
     names, owner = set(), ""
     for line in source.split("\n"):
-        opening = re.match(r"impl (\w+) \{|(?:pub(?:\(crate\))? )?(?:enum|struct) (\w+)(.*)", line)
+        opening = re.match(r"impl (\w+)(?:<[^>]*>)? \{|(?:pub(?:\(crate\))? )?(?:enum|struct) (\w+)(.*)", line)
         if opening:
             owner = opening[1] or opening[2]
             names.add(owner)
@@ -171,7 +171,8 @@ def crates():
 @check
 def header():
     """include/bai2.h has the library's names and numbers of refusals, its limits, and the rules' kinds of fields, of which first_type is TYPE there."""
-    named = {name: int(number) for name, number in re.findall(r"const (\w+): u64 = (\d+);", text_of("crates/base_refusals/src/lib.rt"))}
+    reasons = re.findall(r"^    (\w+) = (\d+),$", text_of("crates/base_refusals/src/lib.rt"), re.M)
+    named = {re.sub(r"(?<!^)(?=[A-Z])", "_", name).upper(): int(number) for name, number in reasons}
     limits = {name: int(n.replace("_", "")) for name, n in re.findall(r"const (LONGEST_\w+): usize = ([\d_]+);", text_of("crates/base_limits/src/lib.rt"))}
     told = {name: int(number) for name, number in re.findall(r"\bBAI2_(\w+) = (\d+)", text_of("include/bai2.h"))}
     if sorted(named.values()) != list(range(1, 21)):
@@ -337,7 +338,7 @@ def public_functions(crate):
         module, owner = os.path.basename(path)[:-3], ""
         front = crate if module == "lib" else f"{crate}::{module}"
         for line in text_of(path).split("\n"):
-            opening = re.match(r"impl (\w+) \{", line)
+            opening = re.match(r"impl (\w+)(?:<[^>]*>)? \{", line)
             owner = f"{opening[1]}::" if opening else "" if line.startswith("}") else owner
             item = re.match(r' *pub (extern "C" )?fn (\w+)', line)
             if item:

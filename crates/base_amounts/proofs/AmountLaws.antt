@@ -3,10 +3,11 @@ use Prim.Native.Nat.{ℕ}
 use native.Mathlib.Omega.{arith}
 use mathlib.Core.Path.{◌≡◌, refl}
 use mathlib.Core.List.{[], ◌∷◌}
-use mathlib.Core.Bool.{true, false, false≢true}
+use mathlib.Core.Bool.{true, false≢true}
 use lib.Dec.{eqb}
-use lib.ListN.{length, get_or}
+use lib.ListN.{drop}
 use borrow.Author.Tests.{eq-eqb, ne_eqb}
+use Rattle.std.specs.Prelude.{Some, None, slice_get}
 use Rattle.rules.specs.Bytes.{Bytes, is_empty, plus, minus}
 use Rattle.rules.specs.Numbers.{without_sign, as_sum}
 use Rattle.rules.specs.Amounts.{Amount, empty, unsigned, with_plus, with_minus, amount_in, magnitude_of, amount_adds}
@@ -18,25 +19,28 @@ use Rattle.base_amounts.specs.AmountsRead.{amount_read, is_minus}
 
 -- ---- by the first byte
 
-pub read_none : (f : Bytes) → length f ≡ 0 → empty ≡ amount_read f
+pub read_none : (f : Bytes) → None ≡ slice_get f 0 → empty ≡ amount_read f
 unfolding amount_read
 read_none [] h = refl
-read_none (b ∷ f) h = absurd (omega arith)
+read_none (c ∷ f) h = cc
 
-pub read-plus : (f : Bytes) (n : ℕ) → ¬ (length f ≡ 0) → n ≡ value_of (without_sign f) → get_or f 0 0 ≡ plus → with_plus n ≡ amount_read f
-unfolding amount_read without_sign
-read-plus [] n h v e = absurd (h refl)
-read-plus (b ∷ f) n h v e = let t = eq-eqb b plus e in let w : n ≡ value_of f = rw t at v in rw (t, w)
+module _ (f : Bytes) (b n : ℕ) (h : Some b ≡ slice_get f 0) (v : n ≡ value_of (without_sign f)) where
+  -- the first byte and the rest
+  first : (g : Bytes) → Some b ≡ slice_get g 0 → g ≡ b ∷ drop 1 g
+  first [] e = cc
+  first (c ∷ g) e = let same : b ≡ c = cc in rw same
 
-pub read-minus : (f : Bytes) (n : ℕ) → ¬ (length f ≡ 0) → n ≡ value_of (without_sign f) → ¬ (get_or f 0 0 ≡ plus) → get_or f 0 0 ≡ minus → with_minus n ≡ amount_read f
-unfolding amount_read without_sign
-read-minus [] n h v p e = absurd (h refl)
-read-minus (b ∷ f) n h v p e = let s = ne_eqb b plus p in let t = eq-eqb b minus e in let w : n ≡ value_of f = rw (s, t) at v in rw (s, t, w)
+  pub read-plus : b ≡ plus → with_plus n ≡ amount_read f
+  unfolding amount_read without_sign
+  read-plus e = let s = first f h in let t = eq-eqb b plus e in let w : n ≡ value_of (drop 1 f) = rw (s, t) at v in rw (s, t, w)
 
-pub read-unsigned : (f : Bytes) (n : ℕ) → ¬ (length f ≡ 0) → n ≡ value_of (without_sign f) → ¬ (get_or f 0 0 ≡ plus) → ¬ (get_or f 0 0 ≡ minus) → unsigned n ≡ amount_read f
-unfolding amount_read without_sign
-read-unsigned [] n h v p m = absurd (h refl)
-read-unsigned (b ∷ f) n h v p m = let s = ne_eqb b plus p in let t = ne_eqb b minus m in let w : n ≡ value_of (b ∷ f) = rw (s, t) at v in rw (s, t, w)
+  pub read-minus : b ≡ minus → with_minus n ≡ amount_read f
+  unfolding amount_read without_sign
+  read-minus e = let s = first f h in let q = ne_eqb b plus (λ p. omega arith) in let t = eq-eqb b minus e in let w : n ≡ value_of (drop 1 f) = rw (s, q, t) at v in rw (s, q, t, w)
+
+  pub read-unsigned : ¬ (b ≡ plus) → ¬ (b ≡ minus) → unsigned n ≡ amount_read f
+  unfolding amount_read without_sign
+  read-unsigned p m = let s = first f h in let q = ne_eqb b plus p in let t = ne_eqb b minus m in let w = rw (s, q, t) at v in rw (s, q, t, w)
 
 -- ---- the amount that is read is the rules' `amount_in`
 

@@ -23,17 +23,13 @@ pub enum Amount {
 pub fn amount_in(f: &[u8]) -> Amount
     ensures { amount_meant result ≡ amount_read f.now }
 {
-    if f.len() == 0 {
-        return Amount::Empty;
-    }
     let magnitude = Magnitude(base_digits::value(base_digits::without_sign(f)));
-    if f[0] == b'+' {
-        return Amount::WithPlus(magnitude);
+    match f.first() {
+        None => Amount::Empty,
+        Some(b'+') => Amount::WithPlus(magnitude),
+        Some(b'-') => Amount::WithMinus(magnitude),
+        Some(_) => Amount::Unsigned(magnitude),
     }
-    if f[0] == b'-' {
-        return Amount::WithMinus(magnitude);
-    }
-    Amount::Unsigned(magnitude)
 }
 
 // Its magnitude; 0 where it is empty.
@@ -42,9 +38,7 @@ pub fn magnitude_of(a: Amount) -> Magnitude
 {
     match a {
         Amount::Empty => Magnitude(0),
-        Amount::Unsigned(n) => n,
-        Amount::WithPlus(n) => n,
-        Amount::WithMinus(n) => n,
+        Amount::Unsigned(n) | Amount::WithPlus(n) | Amount::WithMinus(n) => n,
     }
 }
 
@@ -52,12 +46,7 @@ pub fn magnitude_of(a: Amount) -> Magnitude
 pub fn is_minus(a: Amount) -> bool
     ensures { result ≡ is_minus (amount_meant a) }
 {
-    match a {
-        Amount::Empty => false,
-        Amount::Unsigned(_) => false,
-        Amount::WithPlus(_) => false,
-        Amount::WithMinus(_) => true,
-    }
+    matches!(a, Amount::WithMinus(_))
 }
 
 // What it adds to a total.
@@ -65,9 +54,8 @@ pub fn adds(a: Amount) -> Units
     ensures { sum_meant result ≡ amount_adds (amount_meant a) }
 {
     match a {
-        Amount::Empty => Units(0, 0),
-        Amount::Unsigned(n) => Units(n.0, 0),
-        Amount::WithPlus(n) => Units(n.0, 0),
+        Amount::Empty => Units::none(),
+        Amount::Unsigned(n) | Amount::WithPlus(n) => Units(n.0, 0),
         Amount::WithMinus(n) => Units(0, n.0),
     }
 }

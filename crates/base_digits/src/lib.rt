@@ -25,15 +25,10 @@ const ZEROS_PASSED: usize = 8;
 pub fn all_between(s: &[u8], lo: u8, hi: u8) -> bool
     ensures { result ≡ all (between lo hi) s.now }
 {
-    let mut i: usize = 0;
-    while i < s.len() {
-        if s[i] < lo {
+    for &b in s {
+        if b < lo || hi < b {
             return false;
         }
-        if hi < s[i] {
-            return false;
-        }
-        i += 1;
     }
     true
 }
@@ -42,43 +37,32 @@ pub fn all_between(s: &[u8], lo: u8, hi: u8) -> bool
 pub fn is_digits(s: &[u8], lo: usize, hi: usize) -> bool
     ensures { result ≡ digits lo hi s.now }
 {
-    if s.len() < lo {
-        return false;
-    }
-    if hi < s.len() {
+    if s.len() < lo || hi < s.len() {
         return false;
     }
     all_between(s, b'0', b'9')
-}
-
-// A byte as a wider number.
-fn wide(x: u8) -> u64
-    ensures { result ≡ x }
-{
-    x as u64
 }
 
 // The number that up to 18 digits stand for; 0 for anything else. One test tells a digit: a byte below '0' wraps to more than 9.
 pub fn value(s: &[u8]) -> u64
     ensures { (result ≡ value_of s.now) × (result ≤ most) }
 {
-    let mut v: u64 = 0;
-    let mut i: usize = 0;
+    let mut rest = s;
     if LONG_NUMBER <= s.len() {
         if MOST_DIGITS < s.len() {
             return 0;
         }
-        if all_between(&s[0..ZEROS_PASSED], b'0', b'0') {
-            i = ZEROS_PASSED;
+        if all_between(&s[..ZEROS_PASSED], b'0', b'0') {
+            rest = &s[ZEROS_PASSED..];
         }
     }
-    while i < s.len() {
-        let d = std::num::wrapping_sub_u8(s[i], b'0');
+    let mut v: u64 = 0;
+    for &b in rest {
+        let d = std::num::wrapping_sub_u8(b, b'0');
         if 9 < d {
             return 0;
         }
-        v = v * 10 + wide(d);
-        i += 1;
+        v = v * 10 + u64::from(d);
     }
     v
 }
@@ -89,23 +73,14 @@ pub fn value(s: &[u8]) -> u64
 pub fn is_negative(f: &[u8]) -> bool
     ensures { result ≡ starts_with minus f.now }
 {
-    if f.len() == 0 {
-        return false;
-    }
-    f[0] == b'-'
+    0 < f.len() && f[0] == b'-'
 }
 
-// The bytes less a plus or minus in front.
+// The bytes less a plus or minus in front. By tests and no pattern: of a pattern's first byte the proof can't say what it is.
 pub fn without_sign(f: &[u8]) -> &[u8]
     ensures { result.now ≡ without_sign f.now }
 {
-    if f.len() == 0 {
-        return f;
-    }
-    if f[0] == b'+' {
-        return &f[1..];
-    }
-    if f[0] == b'-' {
+    if 0 < f.len() && (f[0] == b'+' || f[0] == b'-') {
         return &f[1..];
     }
     f
@@ -122,8 +97,5 @@ pub fn is_signed(f: &[u8]) -> bool
 pub fn is_unsigned(f: &[u8]) -> bool
     ensures { result ≡ is_unsigned f.now }
 {
-    if is_negative(f) {
-        return false;
-    }
-    is_signed(f)
+    !is_negative(f) && is_signed(f)
 }

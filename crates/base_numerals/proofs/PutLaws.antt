@@ -4,7 +4,7 @@ use native.Mathlib.Nat.{le_of_eq}
 use native.Mathlib.Omega.{arith}
 use mathlib.Core.Path.{◌≡◌, refl, sym, ap, ◌∙◌}
 use mathlib.Core.Logic.{⊎_elim}
-use mathlib.Core.List.{[], ◌∷◌, ◌++◌, append_assoc, append-nil}
+use mathlib.Core.List.{List, [], ◌∷◌, ◌++◌, append_assoc, append-nil}
 use mathlib.Core.Bool.{Bool, true, false, cond}
 use borrow.Rule.Slice.PartMut.{mid_of, put_mid, Post-is}
 use lib.ListN.{length, take, drop, set, length-append, length-drop, length-set}
@@ -19,15 +19,15 @@ use Rattle.base_digits.proofs.DigitStrings.{decimal-small, decimal_step, decimal
 
 -- ---- Put by its two cases, and what it says
 
-module _ (bs before : Bytes) where
-  pub put-fits : (r : ℕ) (after : Bytes) → length bs ≤ length before → r ≡ length bs → after ≡ bs ++ drop (length bs) before → Put bs before r after
+module _ {A : Type 0} (bs before : List A) where
+  pub put-fits : (r : ℕ) (after : List A) → length bs ≤ length before → r ≡ length bs → after ≡ bs ++ drop (length bs) before → Put bs before r after
   put-fits r after h p q =
       record { count = rw (le-leb (length bs) (length before) h) p; bytes = rw (le-leb (length bs) (length before) h) q; within = omega arith }
 
   pub put-short : length before < length bs → Put bs before 0 before
   put-short h = record { count = rw (lt-leb (length bs) (length before) h); bytes = rw (lt-leb (length bs) (length before) h); within = zero-le }
 
-module _ {bs before : Bytes} {r : ℕ} {after : Bytes} (p : Put bs before r after) where
+module _ {A : Type 0} {bs before : List A} {r : ℕ} {after : List A} (p : Put bs before r after) where
   -- where the bytes fit, they are counted, and stand in front
   pub put_count : length bs ≤ length before → r ≡ length bs
   put_count h = rw (le-leb (length bs) (length before) h) at p.count
@@ -44,13 +44,13 @@ module _ {bs before : Bytes} {r : ℕ} {after : Bytes} (p : Put bs before r afte
       go false e = omega arith
 
 -- where the bytes fit, they are the first of the slice, which is as long as it was
-pub put-stands : {bs before : Bytes} {r : ℕ} {after : Bytes} → Put bs before r after → length bs ≤ length before
+pub put-stands : {A : Type 0} {bs before : List A} {r : ℕ} {after : List A} → Put bs before r after → length bs ≤ length before
     → (take r after ≡ bs) × (r ≤ length before) × (length after ≡ length before)
-put-stands {bs} {before} p h =
+put-stands {A} {bs} {before} p h =
     rw (put_count p h, put-bytes p h) (take-append_seam bs (drop (length bs) before), h, length-append bs (drop (length bs) before) ∙ rw length-drop (omega arith))
 
 -- one answer, and one content of the slice
-pub put-unique : {bs before : Bytes} {r r' : ℕ} {after after' : Bytes} → Put bs before r after → Put bs before r' after' → (r ≡ r') × (after ≡ after')
+pub put-unique : {A : Type 0} {bs before : List A} {r r' : ℕ} {after after' : List A} → Put bs before r after → Put bs before r' after' → (r ≡ r') × (after ≡ after')
 put-unique p q = (p.count ∙ sym q.count, p.bytes ∙ sym q.bytes)
 
 -- ---- the digits of m are still to be put, before place i
@@ -96,6 +96,25 @@ module _ (n : ℕ) (out₀ out : Bytes) (m i : ℕ) (w : Writing n out₀ out m 
       let e : i ≡ 1 = omega (arith, decimal-some m, w.left) in
       let small : m < 10 = one-digit m (omega (arith, w.left)) in
       stored out 0 (48 + m) (omega (arith, w.inside)) ∙ rw (e, decimal-small m small) at w.bytes
+
+-- i digits are still to be put, those of m; or none, and all stand
+pub record Left (n : ℕ) (out₀ out : Bytes) (m i : ℕ) : Type 0 where
+  pub more : 0 < i → Writing n out₀ out m i
+  pub none : i ≡ 0 → out ≡ decimal n ++ drop (length (decimal n)) out₀
+
+pub all-left : (n : ℕ) (out : Bytes) (k : ℕ) → k ≡ length (decimal n) → k ≤ length out → Left n out out n k
+all-left n out k e h = record { more = λ _. start n out k e h; none = λ z. absurd (omega (arith, decimal-some n)) }
+
+pub one-put : (n : ℕ) (out₀ out : Bytes) (m i : ℕ) → Left n out₀ out m i → 0 < i → Left n out₀ (set out (i - 1) (48 + m % 10)) (m / 10) (i - 1)
+one-put n out₀ out m i w h =
+    let v : Writing n out₀ out m i = w.more h in
+    record {
+      more = λ g. turn n out₀ out m i v (omega arith);
+      none = λ z.
+          let small : m < 10 = one-digit m (omega (arith, v.left)) in
+          let digit : m % 10 ≡ m = omega arith in
+          rw (z, digit) (last n out₀ out m i v (omega arith));
+    }
 
 -- ---- the rest of a slice, lent and given back: what `&mut out[a..]` lends, and what `out` is once it is back
 

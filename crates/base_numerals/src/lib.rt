@@ -15,8 +15,9 @@ pub fn digit_count(n: u64) -> usize
 {
     let mut m = n;
     let mut k: usize = 1;
+    // No `for`: a step is a digit fewer, and how many there are is what is asked.
     while 10 <= m {
-        m = m / 10;
+        m /= 10;
         k += 1;
     }
     k
@@ -31,13 +32,10 @@ pub fn put_digits(out: &mut [u8], n: u64) -> usize
         return 0;
     }
     let mut m = n;
-    let mut i = k;
-    while 1 < i {
-        i -= 1;
+    for i in (0..k).rev() {
         out[i] = b'0' + (m % 10) as u8;
-        m = m / 10;
+        m /= 10;
     }
-    out[0] = b'0' + m as u8;
     k
 }
 
@@ -57,8 +55,7 @@ pub fn put_digits_after(out: &mut [u8], first: u8, n: u64) -> usize
 pub fn put_total(out: &mut [u8], total: Units) -> usize
     ensures { Put (total_bytes (sum_meant total)) out.old result out.new }
 {
-    let pluses = total.0;
-    let minuses = total.1;
+    let Units(pluses, minuses) = total;
     if pluses < minuses {
         return put_digits_after(out, b'-', minuses - pluses);
     }

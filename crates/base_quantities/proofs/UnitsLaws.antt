@@ -5,20 +5,20 @@ use Rattle.rules.specs.Numbers.{Sum, ◌⊕◌, magnitudes}
 use Rattle.rules.specs.Limits.{most}
 use Rattle.base_quantities.specs.QuantityMeanings.{sum_meant, units_of, wrapped, wrapped_sum, units_within}
 use Rattle.base_quantities.specs.declared.Units.{Units}
-use Rattle.base_quantities.specs.declared.UnitsSum.TheVariants.{Within, Beyond}
+use Rattle.std.specs.Prelude.{Some, None}
 
 -- ---- what an answer says
 
 -- which way the test went
-answer-within : (b : Bool) (u w : Units) → Within u ≡ cond b (Within w) Beyond → (b ≡ true) × (u ≡ w)
+answer-within : (b : Bool) (u w : Units) → Some u ≡ cond b (Some w) None → (b ≡ true) × (u ≡ w)
 answer-within true u w e = (refl, cc)
 answer-within false u w e = let z : ◌≡◌ {A = ℕ} 0 1 = cc in absurd (omega arith)
 
-answer-beyond : (b : Bool) (w : Units) → Beyond ≡ cond b (Within w) Beyond → b ≡ false
+answer-beyond : (b : Bool) (w : Units) → None ≡ cond b (Some w) None → b ≡ false
 answer-beyond true w e = let z : ◌≡◌ {A = ℕ} 0 1 = cc in absurd (omega arith)
 answer-beyond false w e = refl
 
-module _ (a : Sum) (u : Units) (e : Within u ≡ units_within a) where
+module _ (a : Sum) (u : Units) (e : Some u ≡ units_within a) where
   -- the units that are given are the sum
   pub within-is : sum_meant u ≡ a
   unfolding units_within
@@ -30,17 +30,17 @@ module _ (a : Sum) (u : Units) (e : Within u ≡ units_within a) where
   within-most = leb-true (magnitudes a) most (answer-within (leb (magnitudes a) most) u (units_of a) e).0
 
 -- the magnitudes pass the largest
-pub beyond-most : (a : Sum) → Beyond ≡ units_within a → most < magnitudes a
+pub beyond-most : (a : Sum) → None ≡ units_within a → most < magnitudes a
 unfolding units_within
 beyond-most a e = leb-false (magnitudes a) most (answer-beyond (leb (magnitudes a) most) (units_of a) e)
 
 -- ---- the cases of the answers
 
-pub sum-within : (a : Sum) (u : Units) → u.0 ≡ a.pluses → u.1 ≡ a.minuses → magnitudes a ≤ most → Within u ≡ units_within a
+pub sum-within : (a : Sum) (u : Units) → u.0 ≡ a.pluses → u.1 ≡ a.minuses → magnitudes a ≤ most → Some u ≡ units_within a
 unfolding units_within
 sum-within a u p m h = rw (le-leb (magnitudes a) most h, ← p, ← m)
 
-pub sum-beyond : (a : Sum) → most < magnitudes a → Beyond ≡ units_within a
+pub sum-beyond : (a : Sum) → most < magnitudes a → None ≡ units_within a
 unfolding units_within
 sum-beyond a h = rw (lt-leb (magnitudes a) most h)
 

@@ -1,11 +1,9 @@
 -- Sums of units as the rules' sums, and where they and counts end. Assumes nothing.
-use Rattle.std.specs.Prelude.{ℕ, ◌%◌, ◌^◌, cond, nat_le}
+use Rattle.std.specs.Prelude.{ℕ, ◌%◌, ◌^◌, cond, nat_le, Option, Some, None}
 use Rattle.rules.specs.Numbers.{Signed, Sum, magnitudes}
 use Rattle.rules.specs.Limits.{most}
 use Rattle.base_quantities.specs.declared.Signed as declared
 use Rattle.base_quantities.specs.declared.Units.{Units}
-use Rattle.base_quantities.specs.declared.UnitsSum.{UnitsSum}
-use Rattle.base_quantities.specs.declared.UnitsSum.TheVariants.{Within, Beyond}
 
 -- units as a sum
 abbrev pub sum_meant : Units → Sum
@@ -27,8 +25,8 @@ abbrev pub wrapped_sum : Sum → Sum
 wrapped_sum a = record { pluses = wrapped a.pluses; minuses = wrapped a.minuses }
 
 -- a sum as units, unless its magnitudes pass the largest
-unfoldable pub units_within : Sum → UnitsSum
-units_within a = cond (nat_le (magnitudes a) most) (Within (units_of a)) Beyond
+unfoldable pub units_within : Sum → Option Units
+units_within a = cond (nat_le (magnitudes a) most) (Some (units_of a)) None
 
 -- the largest count of records
 abbrev pub most_records : ℕ

@@ -4,23 +4,13 @@
 
 ghost use Rattle.std.specs.Prelude.{◌≡◌, ◌+◌, min};
 ghost use Rattle.rules.specs.Numbers.{zero_sum, as_sum, ◌⊕◌};
-ghost use Rattle.base_quantities.specs.QuantityMeanings.{sum_meant, signed_meant, wrapped_sum, units_within, most_records};
+ghost use Rattle.base_quantities.specs.QuantityMeanings.{sum_meant, signed_meant, wrapped, wrapped_sum, units_within, most_records};
 
 use base_limits::MOST;
-
-// The largest count that can be kept.
-pub const MOST_RECORDS: u64 = 18_446_744_073_709_551_615;
 
 // A sum of minor units: what came with a plus, and what came with a minus.
 #[derive(Clone, Copy)]
 pub struct Units(pub u64, pub u64);
-
-// A sum, or its magnitudes pass the largest.
-#[derive(Clone, Copy)]
-pub enum UnitsSum {
-    Within(Units),
-    Beyond,
-}
 
 // Minor units without a sign.
 #[derive(Clone, Copy)]
@@ -57,43 +47,39 @@ impl Units {
     pub fn of(given: Signed) -> Units
         ensures { sum_meant result ≡ as_sum (signed_meant given) }
     {
-        let magnitude = given.magnitude;
+        let Magnitude(n) = given.magnitude;
         if given.negative {
-            return Units(0, magnitude.0);
+            return Units(0, n);
         }
-        Units(magnitude.0, 0)
+        Units(n, 0)
     }
 
     // Both sums in one, pluses to pluses and minuses to minuses; a side past the largest number of 64 bits wraps.
     pub fn add(self, other: Units) -> Units
         ensures { sum_meant result ≡ wrapped_sum (sum_meant self ⊕ sum_meant other) }
     {
-        Units(
-            std::num::wrapping_add_u64(self.0, other.0),
-            std::num::wrapping_add_u64(self.1, other.1),
-        )
+        Units(self.0.wrapping_add(other.0), self.1.wrapping_add(other.1))
     }
 
     // Both sums in one, unless the magnitudes pass the largest sum.
-    pub fn join(self, other: Units) -> UnitsSum
+    pub fn join(self, other: Units) -> Option<Units>
         ensures { result ≡ units_within (sum_meant self ⊕ sum_meant other) }
     {
-        let pluses = self.0;
-        let minuses = self.1;
-        if MOST < pluses {
-            return UnitsSum::Beyond;
+        let pluses = self.0.checked_add(other.0)?;
+        let minuses = self.1.checked_add(other.1)?;
+        if MOST < pluses.checked_add(minuses)? {
+            return None;
         }
-        if MOST - pluses < minuses {
-            return UnitsSum::Beyond;
-        }
-        let room = MOST - pluses - minuses;
-        if room < other.0 {
-            return UnitsSum::Beyond;
-        }
-        if room - other.0 < other.1 {
-            return UnitsSum::Beyond;
-        }
-        UnitsSum::Within(Units(pluses + other.0, minuses + other.1))
+        Some(Units(pluses, minuses))
+    }
+}
+
+impl Count {
+    // Both counts together; past the largest number of 64 bits it wraps.
+    pub fn add(self, more: Count) -> Count
+        ensures { result.0 ≡ wrapped (self.0 + more.0) }
+    {
+        Count(self.0.wrapping_add(more.0))
     }
 }
 
@@ -102,11 +88,6 @@ impl Records {
     pub fn add(self, more: Records) -> Records
         ensures { result.0 ≡ min (self.0 + more.0) most_records }
     {
-        let a = self.0;
-        let b = more.0;
-        if MOST_RECORDS - a < b {
-            return Records(MOST_RECORDS);
-        }
-        Records(a + b)
+        Records(self.0.saturating_add(more.0))
     }
 }

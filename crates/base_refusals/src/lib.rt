@@ -1,52 +1,66 @@
-// Why a call is refused: one type for every answer, and the numbers by name. include/bai2.h has the same names and explains each.
+// Why a call is refused: one type for every answer, and its reasons, each with its number. include/bai2.h has the same numbers and explains each.
 
 #![tactic(auto)]
 
+ghost use Rattle.std.specs.Prelude.{◌≡◌};
+ghost use Rattle.base_refusals.specs.RefusalMeaning.{reason_number};
+
 use base_quantities::Place;
 
-// A refusal: its number, and the place of the byte that shows it.
+// The reasons, by the numbers that the rules give them.
+#[derive(Clone, Copy, PartialEq, Eq)]
+pub enum Reason {
+    EmptyFile = 1,
+    FileTooLong = 2,
+    LineTooLong = 3,
+    ByteNotAllowed = 4,
+    NoRecordCode = 5,
+    RecordOutOfOrder = 6,
+    LineBadlyEnded = 7,
+    WrongField = 8,
+    WrongVersion = 9,
+    AmountsTooLarge = 10,
+    WrongTotal = 11,
+    WrongCount = 12,
+    WrongRecordCount = 13,
+    SumTooLarge = 14,
+    NoRoom = 15,
+    NotAName = 16,
+    NoSuchPart = 17,
+    ResultTooLong = 18,
+    OutOfTurn = 19,
+    WrongFieldGiven = 20,
+}
+
+// A refusal: its reason, and the place of the byte that shows it.
 #[derive(Clone, Copy)]
 pub struct Refusal {
-    pub number: u64,
+    pub reason: Reason,
     pub place: Place,
 }
 
-pub const EMPTY_FILE: u64 = 1;
+impl Reason {
+    // The reason's number.
+    pub fn number(self) -> u64
+        ensures { result ≡ reason_number self }
+    {
+        self as u64
+    }
 
-pub const FILE_TOO_LONG: u64 = 2;
+    // A refusal for this reason that the byte at this place shows.
+    pub fn at(self, place: Place) -> Refusal
+        ensures { result ≡ record { reason = self; place = place } }
+    {
+        Refusal {
+            reason: self,
+            place,
+        }
+    }
 
-pub const LINE_TOO_LONG: u64 = 3;
-
-pub const BYTE_NOT_ALLOWED: u64 = 4;
-
-pub const NO_RECORD_CODE: u64 = 5;
-
-pub const RECORD_OUT_OF_ORDER: u64 = 6;
-
-pub const LINE_BADLY_ENDED: u64 = 7;
-
-pub const WRONG_FIELD: u64 = 8;
-
-pub const WRONG_VERSION: u64 = 9;
-
-pub const AMOUNTS_TOO_LARGE: u64 = 10;
-
-pub const WRONG_TOTAL: u64 = 11;
-
-pub const WRONG_COUNT: u64 = 12;
-
-pub const WRONG_RECORD_COUNT: u64 = 13;
-
-pub const SUM_TOO_LARGE: u64 = 14;
-
-pub const NO_ROOM: u64 = 15;
-
-pub const NOT_A_NAME: u64 = 16;
-
-pub const NO_SUCH_PART: u64 = 17;
-
-pub const RESULT_TOO_LONG: u64 = 18;
-
-pub const OUT_OF_TURN: u64 = 19;
-
-pub const WRONG_FIELD_GIVEN: u64 = 20;
+    // A refusal for this reason that no byte shows: its place is 0.
+    pub fn nowhere(self) -> Refusal
+        ensures { result ≡ record { reason = self; place = record { 0 = 0 } } }
+    {
+        self.at(Place(0))
+    }
+}

@@ -1,3 +1,2 @@
 -- Laws that belong to no one function. Read in this order.
-pub mod CompareLaws
 pub mod WroteLaws

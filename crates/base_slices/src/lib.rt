@@ -13,20 +13,10 @@ use base_quantities::Place;
 pub fn same_bytes(a: &[u8], b: &[u8]) -> bool
     ensures { result ≡ same_bytes a.now b.now }
 {
-    if a.len() != b.len() {
-        return false;
-    }
-    let mut i: usize = 0;
-    while i < a.len() {
-        if a[i] != b[i] {
-            return false;
-        }
-        i += 1;
-    }
-    true
+    a == b
 }
 
-// The smaller of two bytes.
+// The smaller of two bytes. Written out, and not `min` of std: the hot loops of read_lines and find_lines call it, and must stay as fast.
 pub fn smaller(a: u8, b: u8) -> u8
     ensures { result ≡ min a b }
 {
@@ -58,32 +48,13 @@ pub fn part(s: &[u8], from: Place, to: Place) -> &[u8]
     &before[a..]
 }
 
-// The bytes of src at the front of out: how many; or 0, and nothing changed, where they don't fit.
-pub fn put(out: &mut [u8], src: &[u8]) -> usize
+// What src holds at the front of out: how many; or 0, and nothing changed, where they don't fit.
+pub fn put<T: Copy>(out: &mut [T], src: &[T]) -> usize
     ensures { Put src.now out.old result out.new }
 {
     if out.len() < src.len() {
         return 0;
     }
-    let mut i: usize = 0;
-    while i < src.len() {
-        out[i] = src[i];
-        i += 1;
-    }
-    i
-}
-
-// The same for numbers.
-pub fn put_numbers(out: &mut [u64], numbers: &[u64]) -> usize
-    ensures { Put numbers.now out.old result out.new }
-{
-    if out.len() < numbers.len() {
-        return 0;
-    }
-    let mut i: usize = 0;
-    while i < numbers.len() {
-        out[i] = numbers[i];
-        i += 1;
-    }
-    i
+    out[..src.len()].copy_from_slice(src);
+    src.len()
 }

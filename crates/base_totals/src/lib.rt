@@ -6,7 +6,7 @@ ghost use Rattle.std.specs.Prelude.{◌≡◌, ◌+◌, if◌then◌else◌};
 ghost use Rattle.rules.specs.Totals.{no_summary, ◌⊞◌};
 ghost use Rattle.rules.specs.Totals as totals;
 ghost use Rattle.base_codes.specs.CodeMeaning.{code_meant};
-ghost use Rattle.base_quantities.specs.QuantityMeanings.{sum_meant, wrapped};
+ghost use Rattle.base_quantities.specs.QuantityMeanings.{sum_meant};
 ghost use Rattle.base_totals.specs.SummaryMeaning.{nothing_yet, summary_meant, wrapped_summary};
 
 use base_codes::Code;
@@ -39,7 +39,7 @@ pub fn no_summary() -> Summary
 fn one(code: Code, of: Code) -> Count
     ensures { result.0 ≡ totals.one (code_meant code) (code_meant of) }
 {
-    if base_codes::same_code(code, of) {
+    if code == of {
         return Count(1);
     }
     Count(0)
@@ -58,26 +58,16 @@ pub fn adding(code: Code, total: Units, records: Records) -> Summary
     }
 }
 
-// Both counts together; past the largest number of 64 bits it wraps.
-fn both(a: Count, b: Count) -> Count
-    ensures { result.0 ≡ wrapped (a.0 + b.0) }
-{
-    Count(std::num::wrapping_add_u64(a.0, b.0))
-}
-
 // Both summaries in one; a number past the largest of 64 bits wraps.
 pub fn add(a: Summary, b: Summary) -> Summary
     ensures { summary_meant result ≡ wrapped_summary (summary_meant a ⊞ summary_meant b) }
 {
-    let total = a.total;
-    let m = a.records;
-    let n = b.records;
     Summary {
-        total: total.add(b.total),
-        groups: both(a.groups, b.groups),
-        accounts: both(a.accounts, b.accounts),
-        details: both(a.details, b.details),
-        records: Records(std::num::wrapping_add_u64(m.0, n.0)),
+        total: a.total.add(b.total),
+        groups: a.groups.add(b.groups),
+        accounts: a.accounts.add(b.accounts),
+        details: a.details.add(b.details),
+        records: Records(a.records.0.wrapping_add(b.records.0)),
     }
 }
 

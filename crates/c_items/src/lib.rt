@@ -7,7 +7,7 @@ ghost use Rattle.rules.specs.Answers.{item_of_file};
 ghost use Rattle.find_item.specs.ItemSearch.{count_meant};
 ghost use Rattle.c_items.specs.ItemFigures.{is_given, or_zero, item_figures};
 
-use find_item::ItemCount;
+use base_quantities::Count;
 
 // A refusal's number and place; or the type, how the amount was given and its magnitude, and the item count if it is given.
 #[repr(C)]
@@ -22,23 +22,13 @@ pub struct Bai2Item {
     pub count: u64,
 }
 
-// 1 where an item count is given, else 0.
-fn is_given(count: ItemCount) -> u64
-    ensures { result ≡ is_given (count_meant count) }
+// 1 and the item count where one is given, else 0 and 0.
+fn count_figures(count: Option<Count>) -> (u64, u64)
+    ensures { result ≡ (is_given (count_meant count), or_zero (count_meant count)) }
 {
     match count {
-        ItemCount::NoCount => 0,
-        ItemCount::Given(_) => 1,
-    }
-}
-
-// The item count, and 0 where none is given.
-fn count_or_zero(count: ItemCount) -> u64
-    ensures { result ≡ or_zero (count_meant count) }
-{
-    match count {
-        ItemCount::NoCount => 0,
-        ItemCount::Given(n) => n.0,
+        Some(n) => (1, n.0),
+        None => (0, 0),
     }
 }
 
@@ -47,19 +37,27 @@ fn count_or_zero(count: ItemCount) -> u64
 pub extern "C" fn bai2_item_of(file: &[u8], group: u64, account: u64, item: u64) -> Bai2Item
     ensures { result ≡ item_figures (item_of_file file.now group account item) }
 {
-    let i = part_items::item(file, group, account, item);
-    let refusal = i.refusal;
-    let place = refusal.place;
-    let amount = i.amount;
-    let magnitude = base_amounts::magnitude_of(amount);
-    let count = i.count;
-    Bai2Item {
-        number: refusal.number,
-        place: place.0 as u64,
-        type_code: i.type_code,
-        amount_form: base_amounts::form_of(amount),
-        amount: magnitude.0,
-        count_given: is_given(count),
-        count: count_or_zero(count),
+    match part_items::item(file, group, account, item) {
+        Ok(found) => {
+            let (count_given, count) = count_figures(found.count);
+            Bai2Item {
+                number: 0,
+                place: 0,
+                type_code: found.type_code,
+                amount_form: base_amounts::form_of(found.amount),
+                amount: base_amounts::magnitude_of(found.amount).0,
+                count_given,
+                count,
+            }
+        }
+        Err(why) => Bai2Item {
+            number: why.reason.number(),
+            place: why.place.0 as u64,
+            type_code: 0,
+            amount_form: 0,
+            amount: 0,
+            count_given: 0,
+            count: 0,
+        },
     }
 }

@@ -21,13 +21,17 @@ pub struct Bai2Answer {
 pub extern "C" fn bai2_split(name: &[u8], file: &[u8], out: &mut [u8]) -> Bai2Answer
     ensures { split_meant result out.new ≡ split name.now file.now out.old }
 {
-    let r = join_split::split(name, file, out);
-    let refusal = r.refusal;
-    let place = refusal.place;
-    Bai2Answer {
-        number: refusal.number,
-        place: place.0 as u64,
-        length: r.length as u64,
+    match join_split::split(name, file, out) {
+        Ok(length) => Bai2Answer {
+            number: 0,
+            place: 0,
+            length: length as u64,
+        },
+        Err(why) => Bai2Answer {
+            number: why.reason.number(),
+            place: why.place.0 as u64,
+            length: 0,
+        },
     }
 }
 
@@ -46,13 +50,18 @@ pub struct Bai2Combined {
 pub extern "C" fn bai2_combine(a: &[u8], b: &[u8], out: &mut [u8]) -> Bai2Combined
     ensures { combine_meant result out.new ≡ combine a.now b.now out.old }
 {
-    let r = join_combine::combine(a, b, out);
-    let refusal = r.refusal;
-    let place = refusal.place;
-    Bai2Combined {
-        number: refusal.number,
-        place: place.0 as u64,
-        length: r.length as u64,
-        file: r.file,
+    match join_combine::combine(a, b, out) {
+        Ok(length) => Bai2Combined {
+            number: 0,
+            place: 0,
+            length: length as u64,
+            file: 0,
+        },
+        Err(why) => Bai2Combined {
+            number: why.refusal.reason.number(),
+            place: why.refusal.place.0 as u64,
+            length: 0,
+            file: why.file,
+        },
     }
 }

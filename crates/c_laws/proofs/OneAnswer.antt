@@ -1,13 +1,13 @@
--- One answer for each public call: two results that both meet its promise are equal, and so are the output slices. Each but
--- `fields-one` is `one_answer` of crate `laws`, with the way from the meaning back to the answer. Assumes nothing.
-use Prim.Native.Nat.{ℕ, ◌≤◌}
-use native.Mathlib.Omega.{arith}
-use mathlib.Core.Path.{◌≡◌, refl, sym, ap, ap₂, subst, ◌∙◌}
-use mathlib.Core.Bool.{false, cond}
+-- One answer for each public call: two results that both meet its promise are equal, and so are the output slices. Each
+-- is `one_answer` of crate `laws`, with the way from the meaning back to the answer. Assumes nothing.
+use Prim.Native.Nat.{ℕ}
+use mathlib.Core.Path.{◌≡◌, refl, ap, ap₂}
+use mathlib.Core.Bool.{cond}
 use mathlib.Core.List.{List, ◌++◌}
-use mathlib.Core.Option.{Option, none, some}
-use borrow.Author.Tests.{ne_eqb}
+use mathlib.Core.Option as math
+use mathlib.Core.Option.{none, some}
 use lib.Dec.{eqb}
+use Rattle.std.specs.Prelude.{Option, Some, None, Result, Ok, Err}
 use Rattle.rules.specs.Bytes.{Bytes}
 use Rattle.rules.specs.Outcome.{Outcome, refused, fine, ◌>>=◌}
 use Rattle.rules.specs.Outcome as outcome
@@ -20,47 +20,42 @@ use Rattle.rules.specs.Answers as rules
 use Rattle.rules.specs.Combine as combine
 use Rattle.rules.specs.Split.{split}
 use Rattle.rules.specs.Writer as writing
+use Rattle.rules.specs.Lines.{code_number}
 use Rattle.rules.specs.HandedOut.{record_at, RecordAnswer, record_answer, FieldsAnswer, fields_of_record}
 use Rattle.laws.specs.LawWords.{Left}
 use Rattle.laws.proofs.OneAnswer.{one_answer}
-use Rattle.laws_handing.proofs.FieldsTold.{fields_told}
 use Rattle.base_codes.specs.declared.Code.{Code}
 use Rattle.base_codes.specs.declared.Code.TheVariants as codes
+use Rattle.base_codes.specs.CodeMeaning as base_codes
 use Rattle.base_quantities.specs.QuantityMeanings.{units_of}
 use Rattle.name_codes.specs.declared.CodeClass.{CodeClass}
 use Rattle.name_codes.specs.declared.CodeClass.TheVariants as classes
 use Rattle.name_codes.specs.ClassMeaning.{class_meant}
 use Rattle.base_totals.specs.declared.Summary.{Summary}
-use Rattle.read_file.specs.declared.Verdict.{Verdict}
-use Rattle.read_file.specs.declared.Verdict.TheVariants.{Accepted, Refused}
-use Rattle.read_file.specs.declared.Judged.{Judged}
-use Rattle.read_file.specs.declared.Judged.TheVariants as judged
+use Rattle.read_file.specs.declared.GoodFile.{GoodFile}
 use Rattle.base_totals.specs.SummaryMeaning.{summary_meant}
 use Rattle.read_file.specs.FileMeanings.{verdict_meant}
 use Rattle.read_file.specs.FileAnswers.{JudgedIs}
-use Rattle.join_split.specs.declared.Answer.{Answer}
 use Rattle.join_split.specs.SplitAnswers.{answer_meant}
-use Rattle.join_combine.specs.declared.Combined.{Combined}
+use Rattle.join_combine.specs.declared.Refused.{Refused}
 use Rattle.join_combine.specs.CombineAnswers.{combined_meant}
 use Rattle.part_groups.specs.declared.Part.{Part}
 use Rattle.base_refusals.specs.declared.Refusal.{Refusal}
 use Rattle.base_refusals.specs.RefusalMeaning.{refusal_meant}
+use Rattle.base_refusals.proofs.RefusalsBack.{not_numbered_0, refusal_from, same-refusal, result_from, same_err}
 use Rattle.base_amounts.specs.declared.Amount as amounts
 use Rattle.base_amounts.specs.declared.Amount.TheVariants as forms
 use Rattle.base_amounts.specs.AmountsRead.{amount_meant}
-use Rattle.find_item.specs.declared.ItemCount.{ItemCount}
-use Rattle.find_item.specs.declared.ItemCount.TheVariants as counts
+use Rattle.base_quantities.specs.declared.Count.{Count}
 use Rattle.find_item.specs.ItemSearch.{count_meant}
-use Rattle.part_items.specs.declared.ItemAnswer.{ItemAnswer}
+use Rattle.find_item.specs.declared.Item.{Item}
 use Rattle.part_items.specs.ItemMeaning.{item_meant}
-use Rattle.part_details.specs.declared.DetailAnswer.{DetailAnswer}
 use Rattle.part_groups.specs.PartMeaning as parts
 use Rattle.part_details.specs.DetailMeaning as details
-use Rattle.part_records.specs.declared.Found.{Found}
-use Rattle.part_records.specs.declared.Found.TheVariants as found
+use Rattle.part_records.specs.declared.Record.{Record}
+use Rattle.part_details.specs.declared.DetailAnswer.{DetailAnswer}
 use Rattle.part_records.specs.RecordsFound.{record_meant, Finds}
-use Rattle.part_fields.specs.declared.Fields.{Fields}
-use Rattle.part_fields.specs.declared.Fields.TheVariants as fields
+use Rattle.find_walk.specs.declared.FieldCount.{FieldCount}
 use Rattle.part_fields.specs.FieldAnswers.{fields_meant}
 use Rattle.write_state.specs.declared.Phase.{Phase}
 use Rattle.write_state.specs.declared.Phase.TheVariants as phases
@@ -83,25 +78,21 @@ use Rattle.c_naming.specs.CNamed.{code_meant}
 use Rattle.c_joining.specs.CJoined.{split_meant, combine_meant}
 use Rattle.c_writer.specs.WriterFigures.{numbers_of, Reply, replied, reply_to}
 
--- the code's refusal that stands for one of the rules
-abbrev refusal_from : outcome.Refusal → Refusal
-refusal_from why = record { number = why.number; place = record { 0 = why.place } }
-
 -- ---- reading
 
 abbrev summary_of : totals.Summary → Summary
 summary_of s = record { total = units_of s.sum; groups = record { 0 = s.groups }; accounts = record { 0 = s.accounts }; details = record { 0 = s.details }; records = record { 0 = s.records } }
 
-abbrev verdict_of : Outcome totals.Summary → Verdict
-verdict_of (fine s) = Accepted (summary_of s)
-verdict_of (refused why) = Refused (refusal_from why)
+abbrev verdict_of : Outcome totals.Summary → Result Summary Refusal
+verdict_of (fine s) = Ok (summary_of s)
+verdict_of (refused why) = Err (refusal_from why)
 
-same-verdict : (v : Verdict) → verdict_of (verdict_meant v) ≡ v
-same-verdict (Accepted s) = refl
-same-verdict (Refused why) = refl
+same-verdict : (v : Result Summary Refusal) → verdict_of (verdict_meant v) ≡ v
+same-verdict (Ok s) = refl
+same-verdict (Err why) = ap Err (same-refusal why)
 
 -- read_file::read
-pub read_one : (file : Bytes) (v w : Verdict) → verdict_meant v ≡ judge file → verdict_meant w ≡ judge file → v ≡ w
+pub read_one : (file : Bytes) (v w : Result Summary Refusal) → verdict_meant v ≡ judge file → verdict_meant w ≡ judge file → v ≡ w
 read_one file = one_answer verdict_meant verdict_of same-verdict (judge file)
 
 -- what is known of an accepted file: its summary, its longest line, and where its 99 starts
@@ -110,29 +101,29 @@ record Known : Type 0 where
   limit : ℕ
   last : ℕ
 
-abbrev judged_meant : Judged → Outcome Known
-judged_meant (judged.Accepted g) = fine (record { summary = summary_meant g.summary; limit = g.limit; last = g.last.0 })
-judged_meant (judged.Refused why) = refused (refusal_meant why)
+abbrev judged_meant : Result GoodFile Refusal → Outcome Known
+judged_meant (Ok g) = fine (record { summary = summary_meant g.summary; limit = g.limit; last = g.last.0 })
+judged_meant (Err why) = refused (refusal_meant why)
 
-abbrev judged_of : Outcome Known → Judged
-judged_of (fine k) = judged.Accepted (record { summary = summary_of k.summary; limit = k.limit; last = record { 0 = k.last } })
-judged_of (refused why) = judged.Refused (refusal_from why)
+abbrev judged_of : Outcome Known → Result GoodFile Refusal
+judged_of (fine k) = Ok (record { summary = summary_of k.summary; limit = k.limit; last = record { 0 = k.last } })
+judged_of (refused why) = Err (refusal_from why)
 
-same-judged : (v : Judged) → judged_of (judged_meant v) ≡ v
-same-judged (judged.Accepted g) = refl
-same-judged (judged.Refused why) = refl
+same-judged : (v : Result GoodFile Refusal) → judged_of (judged_meant v) ≡ v
+same-judged (Ok g) = refl
+same-judged (Err why) = ap Err (same-refusal why)
 
 abbrev known : Bytes → Outcome Known
 known file =
     judge file
     >>= λ s. fine (record { summary = s; limit = combine.limit_of (header_in file); last = size_of_all (header_in file ++ combine.concat (groups_in file)) })
 
-judged-says : (file : Bytes) (v : Judged) → JudgedIs v file → judged_meant v ≡ known file
-judged-says file (judged.Accepted g) good = rw (good.accepts, good.limit, good.last)
-judged-says file (judged.Refused why) e = rw e
+judged-says : (file : Bytes) (v : Result GoodFile Refusal) → JudgedIs v file → judged_meant v ≡ known file
+judged-says file (Ok g) good = rw (good.accepts, good.limit, good.last)
+judged-says file (Err why) e = rw e
 
 -- read_file::judge_file
-pub judged-one : (file : Bytes) (v w : Judged) → JudgedIs v file → JudgedIs w file → v ≡ w
+pub judged-one : (file : Bytes) (v w : Result GoodFile Refusal) → JudgedIs v file → JudgedIs w file → v ≡ w
 judged-one file v w x y = one_answer judged_meant judged_of same-judged (known file) v w (judged-says file v x) (judged-says file w y)
 
 -- bai2_read
@@ -152,13 +143,18 @@ c-read-one file =
 
 -- ---- splitting
 
+abbrev split_back : combine.Answer → Left (Result ℕ Refusal)
+split_back m = record { answer = result_from m.len m.refusal; slice = m.output }
+
+same_split : (r : Result ℕ Refusal) (out : Bytes) → ◌≡◌ {A = Left (Result ℕ Refusal)} (split_back (answer_meant r out)) (record { answer = r; slice = out })
+same_split (Ok n) out = refl
+same_split (Err why) out = ap (λ (r : Result ℕ Refusal). record { answer = r; slice = out }) (same_err 0 why)
+
 -- join_split::split
-pub split_one : (name file before : Bytes) (x y : Left Answer)
+pub split_one : (name file before : Bytes) (x y : Left (Result ℕ Refusal))
     → answer_meant x.answer x.slice ≡ split name file before → answer_meant y.answer y.slice ≡ split name file before → x ≡ y
 split_one name file before =
-    one_answer (λ (x : Left Answer). answer_meant x.answer x.slice)
-    (λ (m : combine.Answer). record { answer = record { refusal = refusal_from m.refusal; length = m.len }; slice = m.output })
-    (λ x. refl) (split name file before)
+    one_answer (λ (x : Left (Result ℕ Refusal)). answer_meant x.answer x.slice) split_back (λ x. same_split x.answer x.slice) (split name file before)
 
 -- bai2_split
 pub c-split-one : (name file before : Bytes) (x y : Left Bai2Answer)
@@ -170,13 +166,24 @@ c-split-one name file before =
 
 -- ---- combining
 
+abbrev combined_back : combine.Answer → Left (Result ℕ Refused)
+combined_back m =
+    record {
+      answer = cond (eqb m.refusal.number 0) (Ok m.len) (Err (record { refusal = refusal_from m.refusal; file = m.which }));
+      slice = m.output;
+    }
+
+same_combined : (r : Result ℕ Refused) (out : Bytes) → ◌≡◌ {A = Left (Result ℕ Refused)} (combined_back (combined_meant r out)) (record { answer = r; slice = out })
+same_combined (Ok n) out = refl
+same_combined (Err r) out =
+    rw (not_numbered_0 r.refusal.reason)
+    (ap (λ (why : Refusal). record { answer = Err (record { refusal = why; file = r.file }); slice = out }) (same-refusal r.refusal))
+
 -- join_combine::combine
-pub combine-one : (a b before : Bytes) (x y : Left Combined)
+pub combine-one : (a b before : Bytes) (x y : Left (Result ℕ Refused))
     → combined_meant x.answer x.slice ≡ combine.combine a b before → combined_meant y.answer y.slice ≡ combine.combine a b before → x ≡ y
 combine-one a b before =
-    one_answer (λ (x : Left Combined). combined_meant x.answer x.slice)
-    (λ (m : combine.Answer). record { answer = record { refusal = refusal_from m.refusal; length = m.len; file = m.which }; slice = m.output })
-    (λ x. refl) (combine.combine a b before)
+    one_answer (λ (x : Left (Result ℕ Refused)). combined_meant x.answer x.slice) combined_back (λ x. same_combined x.answer x.slice) (combine.combine a b before)
 
 -- bai2_combine
 pub c-combine-one : (a b before : Bytes) (x y : Left Bai2Combined)
@@ -192,11 +199,16 @@ c-combine-one a b before =
 pub slice-one : (promised x y : Bytes) → x ≡ promised → y ≡ promised → x ≡ y
 slice-one = one_answer (λ (x : Bytes). x) (λ (x : Bytes). x) (λ x. refl)
 
+abbrev part_from : rules.PartAnswer → Result Part Refusal
+part_from m = result_from (record { start = record { 0 = m.start }; length = m.len }) m.refusal
+
+same-part : (p : Result Part Refusal) → part_from (parts.part_meant p) ≡ p
+same-part (Ok p) = refl
+same-part (Err why) = same_err _ why
+
 -- part_groups::find_group, find_account, find_detail
-pub part-one : (promised : rules.PartAnswer) (x y : Part) → parts.part_meant x ≡ promised → parts.part_meant y ≡ promised → x ≡ y
-part-one =
-    one_answer parts.part_meant (λ (m : rules.PartAnswer). record { refusal = refusal_from m.refusal; start = record { 0 = m.start }; length = m.len })
-    (λ x. refl)
+pub part-one : (promised : rules.PartAnswer) (x y : Result Part Refusal) → parts.part_meant x ≡ promised → parts.part_meant y ≡ promised → x ≡ y
+part-one = one_answer parts.part_meant part_from same-part
 
 -- bai2_group, bai2_account
 pub c-part-one : (promised : rules.PartAnswer) (x y : Bai2Part) → part_meant x ≡ promised → part_meant y ≡ promised → x ≡ y
@@ -204,9 +216,16 @@ c-part-one =
     one_answer part_meant (λ (m : rules.PartAnswer). record { number = m.refusal.number; place = m.refusal.place; start = m.start; length = m.len })
     (λ x. refl)
 
+abbrev told_from : outcome.Refusal → Option Refusal
+told_from why = cond (eqb why.number 0) None (Some (refusal_from why))
+
+same_told : (r : Option Refusal) → told_from (parts.refusal_told r) ≡ r
+same_told None = refl
+same_told (Some why) = rw (not_numbered_0 why.reason) (ap Some (same-refusal why))
+
 -- part_groups::group_refusal, account_refusal
-pub refusal-one : (promised : outcome.Refusal) (x y : Refusal) → refusal_meant x ≡ promised → refusal_meant y ≡ promised → x ≡ y
-refusal-one = one_answer refusal_meant refusal_from (λ x. refl)
+pub refusal-one : (promised : outcome.Refusal) (x y : Option Refusal) → parts.refusal_told x ≡ promised → parts.refusal_told y ≡ promised → x ≡ y
+refusal-one = one_answer parts.refusal_told told_from same_told
 
 -- an amount of the code from its meaning
 abbrev amount_from : Amount → amounts.Amount
@@ -225,30 +244,22 @@ same-amount (forms.WithMinus n) = refl
 pub amount-one : (promised : Amount) (x y : amounts.Amount) → amount_meant x ≡ promised → amount_meant y ≡ promised → x ≡ y
 amount-one = one_answer amount_meant amount_from same-amount
 
-abbrev detail_from : rules.DetailAnswer → DetailAnswer
+abbrev detail_from : rules.DetailAnswer → Result DetailAnswer Refusal
 detail_from m =
-    record {
-      refusal = refusal_from m.refusal;
+    result_from
+    (record {
       type_code = m.type;
       amount = amount_from m.amount;
-      text_start = record { 0 = m.text_start };
-      text_length = m.text_length;
-    }
-
-same-detail : (d : DetailAnswer) → detail_from (details.detail_meant d) ≡ d
-same-detail d =
-    ap
-    (λ (a : amounts.Amount). record {
-      refusal = d.refusal;
-      type_code = d.type_code;
-      amount = a;
-      text_start = d.text_start;
-      text_length = d.text_length;
+      text = record { start = record { 0 = m.text_start }; length = m.text_length };
     })
-    (same-amount d.amount)
+    m.refusal
+
+same-detail : (r : Result DetailAnswer Refusal) → detail_from (details.detail_meant r) ≡ r
+same-detail (Ok d) = ap (λ (a : amounts.Amount). Ok (record { type_code = d.type_code; amount = a; text = d.text })) (same-amount d.amount)
+same-detail (Err why) = same_err _ why
 
 -- part_details::detail
-pub detail-one : (promised : rules.DetailAnswer) (x y : DetailAnswer) → details.detail_meant x ≡ promised → details.detail_meant y ≡ promised → x ≡ y
+pub detail-one : (promised : rules.DetailAnswer) (x y : Result DetailAnswer Refusal) → details.detail_meant x ≡ promised → details.detail_meant y ≡ promised → x ≡ y
 detail-one = one_answer details.detail_meant detail_from same-detail
 
 -- bai2_detail_of: the figures are promised themselves
@@ -257,23 +268,24 @@ c-detail-one = one_answer (λ (x : Bai2Detail). x) (λ (x : Bai2Detail). x) (λ 
 
 -- ---- items
 
-abbrev count_from : Option ℕ → ItemCount
-count_from none = counts.NoCount
-count_from (some n) = counts.Given (record { 0 = n })
+abbrev count_from : math.Option ℕ → Option Count
+count_from none = None
+count_from (some n) = Some (record { 0 = n })
 
-same_count : (c : ItemCount) → count_from (count_meant c) ≡ c
-same_count counts.NoCount = refl
-same_count (counts.Given n) = refl
+same_count : (c : Option Count) → count_from (count_meant c) ≡ c
+same_count None = refl
+same_count (Some n) = refl
 
-abbrev item_from : rules.ItemAnswer → ItemAnswer
-item_from m = record { refusal = refusal_from m.refusal; type_code = m.type; amount = amount_from m.amount; count = count_from m.count }
+abbrev item_from : rules.ItemAnswer → Result Item Refusal
+item_from m = result_from (record { type_code = m.type; amount = amount_from m.amount; count = count_from m.count }) m.refusal
 
-same_item : (i : ItemAnswer) → item_from (item_meant i) ≡ i
-same_item i =
-    ap₂ (λ (a : amounts.Amount) (c : ItemCount). record { refusal = i.refusal; type_code = i.type_code; amount = a; count = c }) (same-amount i.amount) (same_count i.count)
+same_item : (r : Result Item Refusal) → item_from (item_meant r) ≡ r
+same_item (Ok i) =
+    ap₂ (λ (a : amounts.Amount) (c : Option Count). Ok (record { type_code = i.type_code; amount = a; count = c })) (same-amount i.amount) (same_count i.count)
+same_item (Err why) = same_err _ why
 
 -- part_items::item
-pub item-one : (promised : rules.ItemAnswer) (x y : ItemAnswer) → item_meant x ≡ promised → item_meant y ≡ promised → x ≡ y
+pub item-one : (promised : rules.ItemAnswer) (x y : Result Item Refusal) → item_meant x ≡ promised → item_meant y ≡ promised → x ≡ y
 item-one = one_answer item_meant item_from same_item
 
 -- bai2_item_of: the figures are promised themselves
@@ -291,24 +303,26 @@ code_from n =
     (cond (eqb n 16) codes.Detail
     (cond (eqb n 49) codes.AccountTrailer (cond (eqb n 98) codes.GroupTrailer (cond (eqb n 99) codes.FileTrailer codes.Continuation))))))
 
--- no code has the number 0
-abbrev found_from : RecordAnswer → Found
-found_from m = cond (eqb m.code 0) (found.Refused (refusal_from m.refusal)) (found.Record (code_from m.code) (record { 0 = m.lines }) m.len)
+same_code : (c : Code) → code_from (code_number (base_codes.code_meant c)) ≡ c
+same_code codes.FileHeader = refl
+same_code codes.GroupHeader = refl
+same_code codes.AccountHeader = refl
+same_code codes.Detail = refl
+same_code codes.AccountTrailer = refl
+same_code codes.GroupTrailer = refl
+same_code codes.FileTrailer = refl
+same_code codes.Continuation = refl
 
-same-found : (x : Found) → found_from (record_meant x) ≡ x
-same-found (found.Refused why) = refl
-same-found (found.Record codes.FileHeader n size) = refl
-same-found (found.Record codes.GroupHeader n size) = refl
-same-found (found.Record codes.AccountHeader n size) = refl
-same-found (found.Record codes.Detail n size) = refl
-same-found (found.Record codes.AccountTrailer n size) = refl
-same-found (found.Record codes.GroupTrailer n size) = refl
-same-found (found.Record codes.FileTrailer n size) = refl
-same-found (found.Record codes.Continuation n size) = refl
+abbrev record_from : RecordAnswer → Result Record Refusal
+record_from m = result_from (record { code = code_from m.code; lines = record { 0 = m.lines }; length = m.len }) m.refusal
+
+same_record : (r : Result Record Refusal) → record_from (record_meant r) ≡ r
+same_record (Ok x) = ap (λ (c : Code). Ok (record { code = c; lines = x.lines; length = x.length })) (same_code x.code)
+same_record (Err why) = same_err _ why
 
 -- part_records::record_at
-pub record-one : (file : Bytes) (start : ℕ) (x y : Found) → Finds file start x → Finds file start y → x ≡ y
-record-one file start x y p q = one_answer record_meant found_from same-found (record_answer (record_at file start)) x y p.answer q.answer
+pub record-one : (file : Bytes) (start : ℕ) (x y : Result Record Refusal) → Finds file start x → Finds file start y → x ≡ y
+record-one file start x y p q = one_answer record_meant record_from same_record (record_answer (record_at file start)) x y p.answer q.answer
 
 -- bai2_record_at
 pub c-record-one : (file : Bytes) (start : ℕ) (x y : Bai2Record)
@@ -318,28 +332,18 @@ c-record-one file start =
     (λ (m : RecordAnswer). record { number = m.refusal.number; place = m.refusal.place; code = m.code; lines = m.lines; length = m.len })
     (λ x. refl) (record_answer (record_at file start))
 
-abbrev fields_from : FieldsAnswer → Left Fields
-fields_from m = record { answer = cond (eqb m.count 0) (fields.Refused (refusal_from m.refusal)) (fields.Given (record { 0 = m.count })); slice = m.out }
+abbrev fields_from : FieldsAnswer → Left (Result FieldCount Refusal)
+fields_from m = record { answer = result_from (record { 0 = m.count }) m.refusal; slice = m.out }
 
--- its number tells whether it is refused
-abbrev Told : FieldsAnswer → Type 0
-Told m = m.refusal.number ≡ 0 → 1 ≤ m.count
-
-given_back : (n : ℕ) (out : List ℕ) → 1 ≤ n → ◌≡◌ {A = Left Fields} (fields_from (fields_meant (fields.Given (record { 0 = n })) out)) (record { answer = fields.Given (record { 0 = n }); slice = out })
-given_back n out h =
-    let some : eqb n 0 ≡ false = ne_eqb n 0 (λ e. omega arith) in
-    rw some
-
-same-fields : (r : Fields) (out : List ℕ) → Told (fields_meant r out) → ◌≡◌ {A = Left Fields} (fields_from (fields_meant r out)) (record { answer = r; slice = out })
-same-fields (fields.Refused why) out t = refl
-same-fields (fields.Given n) out t = given_back n.0 out (t refl)
+same-fields : (r : Result FieldCount Refusal) (out : List ℕ) → ◌≡◌ {A = Left (Result FieldCount Refusal)} (fields_from (fields_meant r out)) (record { answer = r; slice = out })
+same-fields (Ok n) out = refl
+same-fields (Err why) out = ap (λ (r : Result FieldCount Refusal). record { answer = r; slice = out }) (same_err _ why)
 
 -- part_fields::fields_at
-pub fields-one : (file : Bytes) (start : ℕ) (before : List ℕ) (x y : Left Fields)
+pub fields-one : (file : Bytes) (start : ℕ) (before : List ℕ) (x y : Left (Result FieldCount Refusal))
     → fields_meant x.answer x.slice ≡ fields_of_record file start before → fields_meant y.answer y.slice ≡ fields_of_record file start before → x ≡ y
-fields-one file start before x y p q =
-    let told = fields_told file start before in
-    sym (same-fields x.answer x.slice (subst Told (sym p) told)) ∙ ap fields_from (p ∙ sym q) ∙ same-fields y.answer y.slice (subst Told (sym q) told)
+fields-one file start before =
+    one_answer (λ (x : Left (Result FieldCount Refusal)). fields_meant x.answer x.slice) fields_from (λ x. same-fields x.answer x.slice) (fields_of_record file start before)
 
 -- bai2_fields_at
 pub c-fields-one : (file : Bytes) (start : ℕ) (before : List ℕ) (x y : Left Bai2Fields)
@@ -414,20 +418,22 @@ same_writer w =
 pub new-one : (v w : Writer) → writer_meant v ≡ writing.fresh_writer → writer_meant w ≡ writing.fresh_writer → v ≡ w
 new-one = one_answer writer_meant writer_of same_writer writing.fresh_writer
 
-same-written : (x : Left Written)
-    → ◌≡◌ {A = Left Written}
-    (record { answer = record { refusal = x.answer.refusal; length = x.answer.length; writer = writer_of (writer_meant x.answer.writer) }; slice = x.slice }) x
-same-written x =
-    ap (λ (w : Writer). record { answer = record { refusal = x.answer.refusal; length = x.answer.length; writer = w }; slice = x.slice })
-    (same_writer x.answer.writer)
+abbrev written-back : writing.Written → Left (Result Written Refusal)
+written-back m = record { answer = result_from (record { length = m.len; writer = writer_of m.writer }) m.refusal; slice = m.output }
+
+same-written : (state : Writer) (r : Result Written Refusal) (out : Bytes)
+    → ◌≡◌ {A = Left (Result Written Refusal)} (written-back (written_meant state r out)) (record { answer = r; slice = out })
+same-written state (Ok r) out =
+    ap (λ (w : Writer). record { answer = Ok (record { length = r.length; writer = w }); slice = out }) (same_writer r.writer)
+same-written state (Err why) out =
+    ap (λ (r : Result Written Refusal). record { answer = r; slice = out }) (same_err (record { length = 0; writer = writer_of (writer_meant state) }) why)
 
 -- write_calls::header, group, account, item, detail, write_ends::end_account, end_group, end_file: each call on each state
-pub write-one : (w : writing.Writer) (call : writing.Call) (before : Bytes) (x y : Left Written)
-    → written_meant x.answer x.slice ≡ writing.write w call before → written_meant y.answer y.slice ≡ writing.write w call before → x ≡ y
-write-one w call before =
-    one_answer (λ (x : Left Written). written_meant x.answer x.slice)
-    (λ (m : writing.Written). record { answer = record { refusal = refusal_from m.refusal; length = m.len; writer = writer_of m.writer }; slice = m.output })
-    same-written (writing.write w call before)
+pub write-one : (state : Writer) (w : writing.Writer) (call : writing.Call) (before : Bytes) (x y : Left (Result Written Refusal))
+    → written_meant state x.answer x.slice ≡ writing.write w call before → written_meant state y.answer y.slice ≡ writing.write w call before → x ≡ y
+write-one state w call before =
+    one_answer (λ (x : Left (Result Written Refusal)). written_meant state x.answer x.slice) written-back (λ x. same-written state x.answer x.slice)
+    (writing.write w call before)
 
 -- bai2_writer_new
 pub c-new-one : (v w : Bai2Writer) → v ≡ numbers_of writing.fresh_writer → w ≡ numbers_of writing.fresh_writer → v ≡ w

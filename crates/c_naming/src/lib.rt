@@ -1,6 +1,6 @@
 // The call for C that tells what a type code is for. include/bai2.h declares it.
 
-#![tactic(auto)]
+#![tactic(auto, unfolding(rules::specs::Answers::code_answer, rules::specs::Answers::code_figures))]
 
 ghost use Rattle.std.specs.Prelude.{◌≡◌};
 ghost use Rattle.rules.specs.Answers.{code_answer};
@@ -32,10 +32,10 @@ fn listed(status: u64, summary: u64, detail: u64, side: u64) -> Bai2Code
 {
     Bai2Code {
         listed: 1,
-        status: status,
-        summary: summary,
-        detail: detail,
-        side: side,
+        status,
+        summary,
+        detail,
+        side,
     }
 }
 

@@ -4,6 +4,7 @@ ghost use Rattle.rules.specs.Answers.{group_part, account_part, detail_of_file};
 ghost use Rattle.part_groups.specs.PartMeaning as parts;
 ghost use Rattle.c_reading.specs.CAnswers.{part_meant, detail_figures};
 
+use base_refusals::Refusal;
 use part_groups::Part;
 
 // A refusal's number and place, or where the part starts and its length.
@@ -16,18 +17,23 @@ pub struct Bai2Part {
     pub length: u64,
 }
 
-// A part in figures.
-fn figures_of(part: Part) -> Bai2Part
-    ensures { part_meant result ≡ parts.part_meant part }
+// A part in figures, or why there is none.
+fn figures_of(found: Result<Part, Refusal>) -> Bai2Part
+    ensures { part_meant result ≡ parts.part_meant found }
 {
-    let refusal = part.refusal;
-    let place = refusal.place;
-    let start = part.start;
-    Bai2Part {
-        number: refusal.number,
-        place: place.0 as u64,
-        start: start.0 as u64,
-        length: part.length as u64,
+    match found {
+        Ok(part) => Bai2Part {
+            number: 0,
+            place: 0,
+            start: part.start.0 as u64,
+            length: part.length as u64,
+        },
+        Err(why) => Bai2Part {
+            number: why.reason.number(),
+            place: why.place.0 as u64,
+            start: 0,
+            length: 0,
+        },
     }
 }
 
@@ -65,19 +71,24 @@ pub struct Bai2Detail {
 pub extern "C" fn bai2_detail_of(file: &[u8], group: u64, account: u64, detail: u64) -> Bai2Detail
     ensures { result ≡ detail_figures (detail_of_file file.now group account detail) }
 {
-    let d = part_details::detail(file, group, account, detail);
-    let refusal = d.refusal;
-    let place = refusal.place;
-    let amount = d.amount;
-    let magnitude = base_amounts::magnitude_of(amount);
-    let text_start = d.text_start;
-    Bai2Detail {
-        number: refusal.number,
-        place: place.0 as u64,
-        type_code: d.type_code,
-        amount_form: base_amounts::form_of(amount),
-        amount: magnitude.0,
-        text_start: text_start.0 as u64,
-        text_length: d.text_length as u64,
+    match part_details::detail(file, group, account, detail) {
+        Ok(found) => Bai2Detail {
+            number: 0,
+            place: 0,
+            type_code: found.type_code,
+            amount_form: base_amounts::form_of(found.amount),
+            amount: base_amounts::magnitude_of(found.amount).0,
+            text_start: found.text.start.0 as u64,
+            text_length: found.text.length as u64,
+        },
+        Err(why) => Bai2Detail {
+            number: why.reason.number(),
+            place: why.place.0 as u64,
+            type_code: 0,
+            amount_form: 0,
+            amount: 0,
+            text_start: 0,
+            text_length: 0,
+        },
     }
 }

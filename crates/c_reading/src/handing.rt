@@ -4,8 +4,6 @@ ghost use Rattle.rules.specs.HandedOut.{record_at, record_answer, fields_of_reco
 ghost use Rattle.c_reading.specs.CAnswers.{record_figures, fields_figures};
 
 use base_quantities::Place;
-use part_fields::Fields;
-use part_records::Found;
 
 // A record: its code, its lines and its length.
 #[repr(C)]
@@ -24,25 +22,20 @@ pub extern "C" fn bai2_record_at(file: &[u8], start: u64) -> Bai2Record
     ensures { record_figures result ≡ record_answer (record_at file.now start) }
 {
     match part_records::record_at(file, Place(start as usize)) {
-        Found::Refused(why) => {
-            let place = why.place;
-            return Bai2Record {
-                number: why.number,
-                place: place.0 as u64,
-                code: 0,
-                lines: 0,
-                length: 0,
-            };
-        }
-        Found::Record(code, lines, length) => {
-            return Bai2Record {
-                number: 0,
-                place: 0,
-                code: base_codes::number_of(code) as u64,
-                lines: lines.0,
-                length: length as u64,
-            };
-        }
+        Ok(record) => Bai2Record {
+            number: 0,
+            place: 0,
+            code: base_codes::number_of(record.code) as u64,
+            lines: record.lines.0,
+            length: record.length as u64,
+        },
+        Err(why) => Bai2Record {
+            number: why.reason.number(),
+            place: why.place.0 as u64,
+            code: 0,
+            lines: 0,
+            length: 0,
+        },
     }
 }
 
@@ -61,20 +54,15 @@ pub extern "C" fn bai2_fields_at(file: &[u8], start: u64, out: &mut [u64]) -> Ba
     ensures { fields_figures result out.new ≡ fields_of_record file.now start out.old }
 {
     match part_fields::fields_at(file, Place(start as usize), out) {
-        Fields::Refused(why) => {
-            let place = why.place;
-            return Bai2Fields {
-                number: why.number,
-                place: place.0 as u64,
-                count: 0,
-            };
-        }
-        Fields::Given(count) => {
-            return Bai2Fields {
-                number: 0,
-                place: 0,
-                count: count.0,
-            };
-        }
+        Ok(count) => Bai2Fields {
+            number: 0,
+            place: 0,
+            count: count.0,
+        },
+        Err(why) => Bai2Fields {
+            number: why.reason.number(),
+            place: why.place.0 as u64,
+            count: 0,
+        },
     }
 }

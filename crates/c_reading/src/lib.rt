@@ -10,7 +10,6 @@ ghost use Rattle.base_quantities.specs.QuantityMeanings.{sum_meant};
 ghost use Rattle.c_reading.specs.CAnswers.{summary_figures, read_meant};
 
 use base_quantities::Units;
-use read_file::Verdict;
 
 pub mod cutting;
 pub mod handing;
@@ -47,33 +46,23 @@ pub extern "C" fn bai2_read(file: &[u8]) -> Bai2Summary
     ensures { read_meant result ≡ summary_figures (judge file.now) }
 {
     match read_file::read(file) {
-        Verdict::Accepted(s) => {
-            let total = s.total;
-            let groups = s.groups;
-            let accounts = s.accounts;
-            let details = s.details;
-            let records = s.records;
-            return Bai2Summary {
-                number: 0,
-                place: 0,
-                total: total_of(total),
-                groups: groups.0,
-                accounts: accounts.0,
-                details: details.0,
-                records: records.0,
-            };
-        }
-        Verdict::Refused(why) => {
-            let place = why.place;
-            return Bai2Summary {
-                number: why.number,
-                place: place.0 as u64,
-                total: 0,
-                groups: 0,
-                accounts: 0,
-                details: 0,
-                records: 0,
-            };
-        }
+        Ok(s) => Bai2Summary {
+            number: 0,
+            place: 0,
+            total: total_of(s.total),
+            groups: s.groups.0,
+            accounts: s.accounts.0,
+            details: s.details.0,
+            records: s.records.0,
+        },
+        Err(why) => Bai2Summary {
+            number: why.reason.number(),
+            place: why.place.0 as u64,
+            total: 0,
+            groups: 0,
+            accounts: 0,
+            details: 0,
+            records: 0,
+        },
     }
 }

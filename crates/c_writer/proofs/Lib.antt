@@ -1,3 +1,2 @@
--- Signs and magnitudes of signed numbers, and what calls from C on any numbers do.
-pub mod AmountLaws
+-- What calls from C on any numbers do.
 pub mod WriterStateLaws

@@ -6,13 +6,15 @@ ghost use Rattle.std.specs.Prelude.{◌≡◌, []};
 ghost use Rattle.base_quantities.specs.QuantityMeanings.{signed_meant};
 ghost use Rattle.write_line.specs.DraftMeaning.{amount_given, items_given};
 ghost use Rattle.base_totals.specs.SummaryMeaning.{summary_meant};
+ghost use Rattle.write_state.specs.declared.Writer as state;
 ghost use Rattle.write_state.specs.WriterMeaning.{phase_meant, writer_meant, written_meant};
-ghost use Rattle.c_writer.specs.WriterFigures.{summary_of, figures_of, phase_of, phase_number, flag, size_of, state_of, numbers_of, numbers_after, answer_of, signed_of, amount_asked, items_asked};
+ghost use Rattle.c_writer.specs.WriterFigures.{summary_of, figures_of, phase_of, size_of, state_of, numbers_of, answer_of, signed_of, amount_asked, items_asked};
 
 use base_limits::LONGEST_FILE;
 use base_quantities::{Count, Magnitude, Place, Records, Signed, Units};
+use base_refusals::Refusal;
 use base_totals::Summary;
-use write_line::{Items, MaybeAmount, MaybeItems};
+use write_line::Items;
 use write_state::{Phase, Writer, Written};
 
 // A summary in figures.
@@ -51,39 +53,39 @@ pub struct Bai2Written {
 
 // ---- the state
 
-// The summary that the figures say.
-fn summary_of(f: Figures) -> Summary
-    ensures { summary_meant result ≡ summary_of f }
-{
-    Summary {
-        total: Units(f.pluses, f.minuses),
-        groups: Count(f.groups),
-        accounts: Count(f.accounts),
-        details: Count(f.details),
-        records: Records(f.lines),
+impl From<Figures> for Summary {
+    // The summary that the figures say.
+    fn from(f: Figures) -> Summary
+        ensures { summary_meant result ≡ summary_of f }
+    {
+        Summary {
+            total: Units(f.pluses, f.minuses),
+            groups: Count(f.groups),
+            accounts: Count(f.accounts),
+            details: Count(f.details),
+            records: Records(f.lines),
+        }
     }
 }
 
-// A summary's figures.
-fn figures_of(s: Summary) -> Figures
-    ensures { result ≡ figures_of (summary_meant s) }
-{
-    let total = s.total;
-    let groups = s.groups;
-    let accounts = s.accounts;
-    let details = s.details;
-    let records = s.records;
-    Figures {
-        pluses: total.0,
-        minuses: total.1,
-        groups: groups.0,
-        accounts: accounts.0,
-        details: details.0,
-        lines: records.0,
+impl From<Summary> for Figures {
+    // A summary's figures.
+    fn from(s: Summary) -> Figures
+        ensures { result ≡ figures_of (summary_meant s) }
+    {
+        Figures {
+            pluses: s.total.0,
+            minuses: s.total.1,
+            groups: s.groups.0,
+            accounts: s.accounts.0,
+            details: s.details.0,
+            lines: s.records.0,
+        }
     }
 }
 
-// The phase of this number of include/bai2.h; any other is taken for the last, and `size_of` refuses it.
+// The phase of this number of include/bai2.h; any other is taken for the last, and `size_of` refuses it. So there is a phase for each number, and no `TryFrom`.
+#[tactic(auto, unfolding(crate::specs::WriterFigures::phase_of))]
 fn phase_of(n: u64) -> Phase
     ensures { phase_meant result ≡ phase_of n }
 {
@@ -97,44 +99,19 @@ fn phase_of(n: u64) -> Phase
     }
 }
 
-// A phase's number in include/bai2.h.
-fn phase_number(p: Phase) -> u64
-    ensures { result ≡ phase_number (phase_meant p) }
-{
-    match p {
-        Phase::Fresh => 0,
-        Phase::BetweenGroups => 1,
-        Phase::InGroup => 2,
-        Phase::InAccount => 3,
-        Phase::BetweenAccounts => 4,
-        Phase::Finished => 5,
-    }
-}
-
-// 1 where it holds, else 0.
-fn flag_of(holds: bool) -> u64
-    ensures { result ≡ flag holds }
-{
-    if holds {
-        return 1;
-    }
-    0
-}
-
 // The place after the bytes so far; past any file where phase or items have no meaning.
+#[tactic(auto, unfolding(crate::specs::WriterFigures::known, crate::specs::WriterFigures::size_of))]
 fn size_of(w: Bai2Writer) -> Place
     ensures { result.0 ≡ size_of w }
 {
-    if 5 < w.phase {
-        return Place(LONGEST_FILE + 1);
-    }
-    if 1 < w.items {
+    if 5 < w.phase || 1 < w.items {
         return Place(LONGEST_FILE + 1);
     }
     Place(w.size as usize)
 }
 
 // The state that the numbers say.
+#[tactic(auto, unfolding(crate::specs::WriterFigures::state_of))]
 pub fn state_of(w: Bai2Writer) -> Writer
     ensures { writer_meant result ≡ state_of w }
 {
@@ -142,9 +119,9 @@ pub fn state_of(w: Bai2Writer) -> Writer
         phase: phase_of(w.phase),
         items: w.items == 1,
         size: size_of(w),
-        file: summary_of(w.file),
-        group: summary_of(w.group),
-        account: summary_of(w.account),
+        file: Summary::from(w.file),
+        group: Summary::from(w.group),
+        account: Summary::from(w.account),
     }
 }
 
@@ -152,40 +129,34 @@ pub fn state_of(w: Bai2Writer) -> Writer
 pub fn numbers_of(w: Writer) -> Bai2Writer
     ensures { result ≡ numbers_of (writer_meant w) }
 {
-    let size = w.size;
-    let phase = w.phase;
     Bai2Writer {
-        size: size.0 as u64,
-        phase: phase_number(phase),
-        items: flag_of(w.items),
-        file: figures_of(w.file),
-        group: figures_of(w.group),
-        account: figures_of(w.account),
+        size: w.size.0 as u64,
+        phase: w.phase as u64,
+        items: u64::from(w.items),
+        file: Figures::from(w.file),
+        group: Figures::from(w.group),
+        account: Figures::from(w.account),
     }
 }
 
-// The numbers after a call: the new state's where it was accepted, those given where it was refused.
-fn numbers_after(given: Bai2Writer, r: Written) -> Bai2Writer
-    ensures { result ≡ numbers_after given (written_meant r []) }
+// The answer for C, at any state before the call: where it was refused, the numbers given stay.
+#[tactic(auto, unfolding(crate::specs::WriterFigures::numbers_after), using(base_refusals::proofs::RefusalsBack::not_numbered_0))]
+pub fn answered(given: Bai2Writer, r: Result<Written, Refusal>) -> Bai2Written
+    ensures { (w : state.Writer) → result ≡ answer_of given (written_meant w r []) }
 {
-    let why = r.refusal;
-    if why.number != 0 {
-        return given;
-    }
-    numbers_of(r.writer)
-}
-
-// The answer for C.
-pub fn answered(given: Bai2Writer, r: Written) -> Bai2Written
-    ensures { result ≡ answer_of given (written_meant r []) }
-{
-    let why = r.refusal;
-    let place = why.place;
-    Bai2Written {
-        number: why.number,
-        place: place.0 as u64,
-        length: r.length as u64,
-        writer: numbers_after(given, r),
+    match r {
+        Ok(done) => Bai2Written {
+            number: 0,
+            place: 0,
+            length: done.length as u64,
+            writer: numbers_of(done.writer),
+        },
+        Err(why) => Bai2Written {
+            number: why.reason.number(),
+            place: why.place.0 as u64,
+            length: 0,
+            writer: given,
+        },
     }
 }
 
@@ -195,34 +166,24 @@ pub fn answered(given: Bai2Writer, r: Written) -> Bai2Written
 fn signed_of(n: i64) -> Signed
     ensures { signed_meant result ≡ signed_of n }
 {
-    if n < 0 {
-        return Signed {
-            negative: true,
-            magnitude: Magnitude((-1 - n) as u64 + 1),
-        };
-    }
     Signed {
-        negative: false,
-        magnitude: Magnitude(n as u64),
+        negative: n < 0,
+        magnitude: Magnitude(n.unsigned_abs()),
     }
 }
 
 // The amount, or none where none is given.
-pub fn amount_asked(given: u64, n: i64) -> MaybeAmount
+#[tactic(auto, unfolding(crate::specs::WriterFigures::or_none))]
+pub fn amount_asked(given: u64, n: i64) -> Option<Signed>
     ensures { amount_given result ≡ amount_asked given n }
 {
-    if given == 0 {
-        return MaybeAmount::NoAmount;
-    }
-    MaybeAmount::Given(signed_of(n))
+    (given != 0).then_some(signed_of(n))
 }
 
 // The number of items, or none where none is given.
-pub fn items_asked(given: u64, n: u64) -> MaybeItems
+#[tactic(auto, unfolding(crate::specs::WriterFigures::or_none))]
+pub fn items_asked(given: u64, n: u64) -> Option<Items>
     ensures { items_given result ≡ items_asked given n }
 {
-    if given == 0 {
-        return MaybeItems::NoItems;
-    }
-    MaybeItems::Given(Items(n))
+    (given != 0).then_some(Items(n))
 }

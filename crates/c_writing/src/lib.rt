@@ -7,6 +7,7 @@ ghost use Rattle.rules.specs.Writer as rules;
 ghost use Rattle.c_writer.specs.WriterFigures.{numbers_of, replied, reply_to, amount_asked, item_of, item_asked};
 
 use c_writer::{Bai2Writer, Bai2Written};
+use write_records::{Detail, Group, Header, Item};
 use write_state::Writer;
 
 // A writer that has written nothing.
@@ -31,7 +32,14 @@ pub extern "C" fn bai2_write_header(
     ensures { replied result out.new ≡ reply_to writer (rules.write_header sender.now receiver.now date.now time.now file_number.now) out.old }
 {
     let w = c_writer::state_of(writer);
-    let r = write_calls::header(w, sender, receiver, date, time, file_number, out);
+    let header = Header {
+        sender,
+        receiver,
+        date,
+        time,
+        file_number,
+    };
+    let r = write_calls::header(w, header, out);
     c_writer::answered(writer, r)
 }
 
@@ -51,9 +59,16 @@ pub extern "C" fn bai2_write_group(
     ensures { replied result out.new ≡ reply_to writer (rules.write_group receiver.now originator.now status.now date.now time.now currency.now modifier.now) out.old }
 {
     let w = c_writer::state_of(writer);
-    let r = write_calls::group(
-        w, receiver, originator, status, date, time, currency, modifier, out,
-    );
+    let group = Group {
+        receiver,
+        originator,
+        status,
+        date,
+        time,
+        currency,
+        modifier,
+    };
+    let r = write_calls::group(w, group, out);
     c_writer::answered(writer, r)
 }
 
@@ -74,9 +89,13 @@ pub extern "C" fn bai2_write_account(
     ensures { replied result out.new ≡ reply_to writer (rules.write_account account.now currency.now (item_asked item_given (item_of type_code.now amount_given amount count_given count))) out.old }
 {
     let w = c_writer::state_of(writer);
-    let a = c_writer::amount_asked(amount_given, amount);
-    let n = c_writer::items_asked(count_given, count);
-    let r = write_calls::account(w, account, currency, item_given != 0, type_code, a, n, out);
+    let item = Item {
+        type_code,
+        amount: c_writer::amount_asked(amount_given, amount),
+        count: c_writer::items_asked(count_given, count),
+    };
+    let item = (item_given != 0).then_some(item);
+    let r = write_calls::account(w, account, currency, item, out);
     c_writer::answered(writer, r)
 }
 
@@ -94,9 +113,12 @@ pub extern "C" fn bai2_write_item(
     ensures { replied result out.new ≡ reply_to writer (rules.write_item (item_of type_code.now amount_given amount count_given count)) out.old }
 {
     let w = c_writer::state_of(writer);
-    let a = c_writer::amount_asked(amount_given, amount);
-    let n = c_writer::items_asked(count_given, count);
-    let r = write_calls::item(w, type_code, a, n, out);
+    let item = Item {
+        type_code,
+        amount: c_writer::amount_asked(amount_given, amount),
+        count: c_writer::items_asked(count_given, count),
+    };
+    let r = write_calls::item(w, item, out);
     c_writer::answered(writer, r)
 }
 
@@ -115,16 +137,14 @@ pub extern "C" fn bai2_write_detail(
     ensures { replied result out.new ≡ reply_to writer (rules.write_detail type_code.now (amount_asked amount_given amount) bank_reference.now customer_reference.now text.now) out.old }
 {
     let w = c_writer::state_of(writer);
-    let a = c_writer::amount_asked(amount_given, amount);
-    let r = write_calls::detail(
-        w,
+    let detail = Detail {
         type_code,
-        a,
+        amount: c_writer::amount_asked(amount_given, amount),
         bank_reference,
         customer_reference,
         text,
-        out,
-    );
+    };
+    let r = write_calls::detail(w, detail, out);
     c_writer::answered(writer, r)
 }
 

@@ -1,8 +1,7 @@
 -- The search finds the first field of its kind among those that the rules' walk gives of an accepted record. Assumes nothing.
-use mathlib.Core.Path.{◌≡◌, refl, sym, ap, subst, ◌∙◌}
+use mathlib.Core.Path.{◌≡◌, refl, sym, ap, ◌∙◌}
 use mathlib.Core.Bool.{Bool, true, false, cond}
 use mathlib.Core.List.{List, [], ◌∷◌}
-use Rattle.rules.specs.Bytes.{Bytes}
 use Rattle.rules.specs.Outcome.{fine}
 use Rattle.rules.specs.Lines.{Code, Record}
 use Rattle.rules.specs.Grammar.{Kind, same_kind, fields_of}

@@ -17,18 +17,19 @@ use base_codes::Code;
 use base_quantities::Place;
 use find_walk::Reached;
 
-// The kinds of field that can be sought: a detail's type, its amount, and its first text piece; a group's receiver; a trailer's total and its number of records.
+// The kinds of field that can be sought, by their numbers: a detail's type, its amount, and its first text piece; a group's receiver; a trailer's total and its
+// number of records.
 #[derive(Clone, Copy)]
 pub enum Sought {
-    Type,
-    Amount,
-    Text,
-    Receiver,
-    Total,
-    Records,
+    Type = 20,
+    Amount = 17,
+    Text = 21,
+    Receiver = 3,
+    Total = 27,
+    Records = 29,
 }
 
-// Where a field starts, and its length; 0 and 0 where there is none.
+// Where a field starts, and its length.
 #[derive(Clone, Copy)]
 pub struct Spot {
     pub start: Place,
@@ -39,36 +40,18 @@ pub struct Spot {
 fn kind_sought(sought: Sought) -> u64
     ensures { result ≡ kind_number (kind_meant sought) }
 {
-    match sought {
-        Sought::Type => 20,
-        Sought::Amount => 17,
-        Sought::Text => 21,
-        Sought::Receiver => 3,
-        Sought::Total => 27,
-        Sought::Records => 29,
-    }
+    sought as u64
 }
 
-// Where there is no such field.
-fn nowhere() -> Spot
-    ensures { result ≡ record { start = record { 0 = 0 }; length = 0 } }
-{
-    Spot {
-        start: Place(0),
-        length: 0,
-    }
-}
-
-// The field sought in a record of this code; 0 and 0 where the walk ends, or is refused, before one is met.
-pub fn seek(rec: &[u8], code: Code, sought: Sought) -> Spot
+// The field sought in a record of this code; none where the walk ends, or is refused, before one is met.
+pub fn seek(rec: &[u8], code: Code, sought: Sought) -> Option<Spot>
     ensures { Spots rec.now (code_meant code) sought result }
 {
-    let mut none = [0u64; 1];
     let kind = kind_sought(sought);
-    match find_walk::walk_to(rec, Place(0), rec.len(), code, kind, &mut none) {
-        Reached::Refused(_) => nowhere(),
-        Reached::Over(_) => nowhere(),
-        Reached::Field(start, length) => Spot { start, length },
+    match find_walk::walk_to(rec, Place(0), rec.len(), code, kind, &mut []) {
+        Ok(Reached::Field(start, length)) => Some(Spot { start, length }),
+        Ok(Reached::Over(_)) => None,
+        Err(_) => None, // an arm of its own: of the second alternative of a pattern the proof can't name what was answered
     }
 }
 
@@ -76,11 +59,11 @@ pub fn seek(rec: &[u8], code: Code, sought: Sought) -> Spot
 pub fn field(rec: &[u8], code: Code, sought: Sought) -> &[u8]
     ensures { result.now ≡ (seek_lines (kind_meant sought) (fields_of (code_meant code)) (lines_of rec.now)).bytes }
 {
-    let spot = seek(rec, code, sought);
-    let start = spot.start;
-    let from = start.0;
-    let to = from + spot.length;
-    &rec[from..to]
+    let Some(spot) = seek(rec, code, sought) else {
+        return &rec[..0];
+    };
+    let from = spot.start.0;
+    &rec[from..from + spot.length]
 }
 
 // The number that a detail's type stands for.

@@ -1,13 +1,12 @@
 -- The next line of two codes, byte by byte, block by block, and in lines. Assumes nothing.
-use Prim.Native.Nat.{ℕ, zero, suc, ◌+◌, ◌≤◌, ◌<◌, min}
+use Prim.Native.Nat.{ℕ, zero, suc, ◌+◌, ◌≤◌, ◌<◌}
 use native.Mathlib.Nat.{add-zero}
 use native.Mathlib.Numerals.{add-one}
 use native.Mathlib.Omega.{arith}
 use mathlib.Core.Path.{◌≡◌, refl, sym, ap, subst, ◌∙◌}
-use mathlib.Core.Bool.{Bool, true, false, cond, not}
+use mathlib.Core.Bool.{Bool, true, false, cond}
 use mathlib.Core.List.{List, [], ◌∷◌, append-nil}
-use borrow.Author.Tests.{eq-eqb, ne_eqb}
-use lib.Dec.{eqb, eqb→eq}
+use lib.Dec.{eqb}
 use lib.ListN.{length, take, drop, get_or, length-append, drop_of_length-le}
 use lib.Seq.{drop-cons}
 use Rattle.rules.specs.Bytes.{Bytes, LF, same_bytes}
@@ -18,7 +17,7 @@ use Rattle.read_lines.proofs.LineLengthLaws.{first_of}
 use Rattle.read_lines.proofs.Fronts.{begins-front}
 use Rattle.base_codes.specs.declared.Digits.{Digits}
 use Rattle.base_codes.specs.CodeMeaning.{bytes_meant}
-use Rattle.find_lines.specs.LinesOfCode.{begins_either, line_ends, ahead_len, NoEnd, Quiet, may_begin, EndIs, bytes_before}
+use Rattle.find_lines.specs.LinesOfCode.{begins_either, line_ends, ahead_len, Quiet, may_begin, bytes_before}
 
 -- ---- byte by byte
 
@@ -36,21 +35,6 @@ module _ (x y s : Bytes) (i : ℕ) where
     unfolding ahead_len
     ahead_step e = rw (drop-cons s i 0 h, e, add-one) (omega arith)
 
-  -- the tests of the code
-  pub ends-line : get_or s i 0 ≡ LF → begins_either x y (drop (i + 1) s) ≡ line_ends x y (get_or s i 0) (drop (suc i) s)
-  ends-line e = rw (eq-eqb (get_or s i 0) LF e, add-one)
-
-  pub no_end : (get_or s i 0 ≡ LF → ⊥) → false ≡ line_ends x y (get_or s i 0) (drop (suc i) s)
-  no_end n = rw (ne_eqb (get_or s i 0) LF n)
-
--- the first such byte before e, or none
-module _ (x y s : Bytes) (a e r : ℕ) (f : EndIs x y s a e r) (h : e ≤ length s) where
-  pub end-found : r < e → r + 1 ≡ a + ahead_len x y (drop a s)
-  end-found l = sym (f.passed ∙ ahead-stop x y s r (omega arith) (f.found l))
-
-  pub end_none : (r < e → ⊥) → a + ahead_len x y (drop a s) ≡ e + ahead_len x y (drop e s)
-  end_none n = let z : r ≡ e = omega (arith, f.within) in f.passed ∙ ap (λ (k : ℕ). k + ahead_len x y (drop k s)) z
-
 -- ---- block by block
 
 pub ahead-quiet : (x y s : Bytes) (n i : ℕ) → i + n ≤ length s → Quiet x y s i n → i + ahead_len x y (drop i s) ≡ (i + n) + ahead_len x y (drop (i + n) s)
@@ -63,36 +47,7 @@ ahead-quiet x y s (suc n) i h q =
     (λ k l. let d : i + suc k ≡ (i + 1) + k = omega arith in subst (λ (m : ℕ). line_ends x y (get_or s m 0) (drop (suc m) s) ≡ false) d (q (suc k) (omega arith)))
     ∙ ap (λ (m : ℕ). m + ahead_len x y (drop m s)) e
 
--- bytes above a line feed end no line
-pub no-end-quiet : (x y s : Bytes) (a n : ℕ) → NoEnd s a n → Quiet x y s a n
-no-end-quiet x y s a n h k l = rw (ne_eqb (get_or s (a + k) 0) LF (omega (arith, h k l)))
-
--- the tests of a block: where they give 0, the two bytes end no line or begin none with this or that digit
-module _ (x y a b ends one other either both : ℕ) (e : ends ≡ cond (eqb a LF) 255 0) (p : one ≡ cond (eqb b x) 255 0) (q : other ≡ cond (eqb b y) 255 0)
-    (l : (one ≤ either) × (other ≤ either)) (m : both ≡ min ends either) where
-  pub tests-fail : both ≡ 0 → may_begin x y a b ≡ false
-  tests-fail z = go (known (eqb a LF)) (known (eqb x b)) (known (eqb y b))
-    where
-      go : Known (eqb a LF) → Known (eqb x b) → Known (eqb y b) → may_begin x y a b ≡ false
-      go (fails f) g h = rw f
-      go (holds f) (fails g) (fails h) = rw (f, g, h)
-      go (holds f) (holds g) h =
-          let full : ends ≡ 255 = e ∙ rw f in
-          let same : one ≡ 255 = p ∙ rw (eq-eqb b x (sym (eqb→eq x b (rw g tt)))) in
-          absurd (omega arith)
-      go (holds f) (fails g) (holds h) =
-          let full : ends ≡ 255 = e ∙ rw f in
-          let same : other ≡ 255 = q ∙ rw (eq-eqb b y (sym (eqb→eq y b (rw h tt)))) in
-          absurd (omega arith)
-
-pub none_found : (n : ℕ) → not (eqb n 0) ≡ false → n ≡ 0
-none_found n e = go (known (eqb n 0))
-  where
-    go : Known (eqb n 0) → n ≡ 0
-    go (holds f) = eqb→eq n 0 (rw f tt)
-    go (fails f) = let z : true ≡ false = rw f at e in cc
-
--- so after the first of them no line begins with such a code
+-- where two bytes end no line, or begin none with this or that digit, no line begins with such a code after the first
 no_code : (d : Digits) (s : Bytes) (k : ℕ) → k < length s → eqb d.0 (get_or s k 0) ≡ false → same_bytes (bytes_meant d) (take 3 (drop k s)) ≡ false
 unfolding same_bytes
 no_code d s k h e = rw (drop-cons s k 0 h, e)

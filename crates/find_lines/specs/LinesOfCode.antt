@@ -1,5 +1,6 @@
 -- Lines of two codes: where the next one starts, in bytes as the code meets them, and in lines. Assumes nothing.
-use Rattle.std.specs.Prelude.{ℕ, suc, ◌+◌, ◌≤◌, ◌<◌, ◌≡◌, Bool, true, false, cond, ◌&&◌, ◌||◌, List, [], ◌∷◌, eqb, take, drop, get_or}
+use Rattle.std.specs.Prelude.{ℕ, suc, ◌+◌, ◌≤◌, ◌<◌, ◌≡◌, Bool, false, cond, ◌&&◌, ◌||◌, List, [], ◌∷◌, eqb, take, drop, get_or, Option, Some, None}
+use Rattle.base_quantities.specs.declared.Place.{Place}
 use Rattle.rules.specs.Bytes.{Bytes, LF, same_bytes}
 use Rattle.rules.specs.Lines.{Line, size_of, Code, begins}
 
@@ -22,7 +23,7 @@ ahead_len x y (b ∷ bs) = cond (line_ends x y b bs) 1 (suc (ahead_len x y bs))
 abbrev pub Quiet : Bytes → Bytes → Bytes → ℕ → ℕ → Type 0
 Quiet x y s a n = (k : ℕ) → k < n → line_ends x y (get_or s (a + k) 0) (drop (suc (a + k)) s) ≡ false
 
--- each of the n bytes from a on is above a line feed: they are `Quiet` by `no-end-quiet` (proofs/LineSearch.antt)
+-- each of the n bytes from a on is above a line feed: they are `Quiet`, since none ends a line
 abbrev pub NoEnd : Bytes → ℕ → ℕ → Type 0
 NoEnd s a n = (k : ℕ) → k < n → LF < get_or s (a + k) 0
 
@@ -30,11 +31,10 @@ NoEnd s a n = (k : ℕ) → k < n → LF < get_or s (a + k) 0
 abbrev pub may_begin : ℕ → ℕ → ℕ → ℕ → Bool
 may_begin x y a b = eqb a LF && (eqb x b || eqb y b)
 
--- from a on, r is the first byte after which a line begins so, of those before e; or e: what `ahead_len` is then, `end-found` and `end_none` say (proofs/LineSearch.antt)
-pub record EndIs (x y s : Bytes) (a e r : ℕ) : Type 0 where
-  pub passed : a + ahead_len x y (drop a s) ≡ r + ahead_len x y (drop r s)
-  pub found : r < e → line_ends x y (get_or s r 0) (drop (suc r) s) ≡ true
-  pub within : (a ≤ r) × (r ≤ e)
+-- where the first line that begins so starts after one of the bytes from a on and before e; or none does: what `ahead_len` is then (proofs/LineSearch.antt)
+abbrev pub NextBetween : Bytes → Bytes → Bytes → ℕ → ℕ → Option Place → Type 0
+NextBetween x y s a e None = a + ahead_len x y (drop a s) ≡ e + ahead_len x y (drop e s)
+NextBetween x y s a e (Some p) = (p.0 ≡ a + ahead_len x y (drop a s)) × (p.0 ≤ e)
 
 -- ---- in lines
 

@@ -5,7 +5,7 @@
 ghost use Rattle.std.specs.Prelude.{◌≡◌, false, cond, suc, ◌+◌, ◌-◌, ◌≤◌, ◌<◌, eqb, length, drop, get_or};
 ghost use Rattle.rules.specs.Lines.{lines_of};
 ghost use Rattle.base_codes.specs.CodeMeaning.{code_meant, bytes_meant};
-ghost use Rattle.find_lines.specs.LinesOfCode.{may_begin, NoEnd, Quiet, begins_either, line_ends, ahead_len, EndIs, bytes_before};
+ghost use Rattle.find_lines.specs.LinesOfCode.{may_begin, NoEnd, Quiet, begins_either, line_ends, ahead_len, NextBetween, bytes_before};
 
 use base_codes::{Code, Digits};
 use base_quantities::Place;
@@ -17,10 +17,7 @@ const BLOCK: usize = 128;
 fn begins_either(s: &[u8], start: Place, x: Digits, y: Digits) -> bool
     ensures { result ≡ begins_either (bytes_meant x) (bytes_meant y) (drop start.0 s.now) }
 {
-    if read_lines::begins_with(s, start, x.0, x.1) {
-        return true;
-    }
-    read_lines::begins_with(s, start, y.0, y.1)
+    read_lines::begins_with(s, start, x.0, x.1) || read_lines::begins_with(s, start, y.0, y.1)
 }
 
 // 255 where the two bytes are the same, else 0.
@@ -59,12 +56,10 @@ fn block_meets(s: &[u8], start: Place, x: Digits, y: Digits) -> bool
     ensures { result ≡ false → Quiet (bytes_meant x) (bytes_meant y) s.now start.0 128 }
 {
     let at = start.0;
-    let mut found: u8 = 0;
-    let mut i: usize = 0;
-    while i < BLOCK {
+    let mut found = 0;
+    for i in 0..BLOCK {
         let k = at + i;
         found = meets(found, s[k], s[k + 1], x.0, y.0);
-        i += 1;
     }
     found != 0
 }
@@ -75,11 +70,9 @@ fn block_ends(s: &[u8], start: Place) -> bool
     ensures { result ≡ false → NoEnd s.now start.0 128 }
 {
     let at = start.0;
-    let mut lowest: u8 = 255;
-    let mut i: usize = 0;
-    while i < BLOCK {
+    let mut lowest = 255;
+    for i in 0..BLOCK {
         lowest = base_slices::smaller(lowest, s[at + i]);
-        i += 1;
     }
     lowest <= b'\n'
 }
@@ -89,10 +82,7 @@ fn may_meet(s: &[u8], start: Place, x: Digits, y: Digits) -> bool
     requires { start.0 + 128 < length s.now }
     ensures { result ≡ false → Quiet (bytes_meant x) (bytes_meant y) s.now start.0 128 }
 {
-    if block_ends(s, start) {
-        return block_meets(s, start, x, y);
-    }
-    false
+    block_ends(s, start) && block_meets(s, start, x, y)
 }
 
 // This byte ends a line, and such a line begins after it.
@@ -101,26 +91,20 @@ fn ends_before_line(s: &[u8], byte: Place, x: Digits, y: Digits) -> bool
     ensures { result ≡ line_ends (bytes_meant x) (bytes_meant y) (get_or s.now byte.0 0) (drop (suc byte.0) s.now) }
 {
     let at = byte.0;
-    if s[at] != b'\n' {
-        return false;
-    }
-    begins_either(s, Place(at + 1), x, y)
+    s[at] == b'\n' && begins_either(s, Place(at + 1), x, y)
 }
 
-// The first byte from there on that ends a line before such a line, of those before `end`; or `end`.
-fn end_before_line(s: &[u8], start: Place, end: Place, x: Digits, y: Digits) -> Place
+// Where the first such line starts after a byte from `start` on and before `end`; none where none does.
+fn line_between(s: &[u8], start: Place, end: Place, x: Digits, y: Digits) -> Option<Place>
     requires { (start.0 ≤ end.0) × (end.0 ≤ length s.now) }
-    ensures { EndIs (bytes_meant x) (bytes_meant y) s.now start.0 end.0 result.0 }
+    ensures { NextBetween (bytes_meant x) (bytes_meant y) s.now start.0 end.0 result }
 {
-    let e = end.0;
-    let mut i = start.0;
-    while i < e {
+    for i in start.0..end.0 {
         if ends_before_line(s, Place(i), x, y) {
-            return Place(i);
+            return Some(Place(i + 1));
         }
-        i += 1;
     }
-    Place(i)
+    None
 }
 
 // Where the next such line after the one that starts there starts, or the end.
@@ -129,21 +113,18 @@ fn line_after(s: &[u8], start: Place, x: Digits, y: Digits) -> Place
     ensures { (result.0 ≡ start.0 + ahead_len (bytes_meant x) (bytes_meant y) (drop start.0 s.now)) × (result.0 ≤ length s.now) }
 {
     let mut i = start.0;
+    // No `for`: a step is a block, and the bytes after the last block go one by one.
     while BLOCK < s.len() - i {
         let after = i + BLOCK;
         if may_meet(s, Place(i), x, y) {
-            let e = end_before_line(s, Place(i), Place(after), x, y).0;
-            if e < after {
-                return Place(e + 1);
+            if let Some(line) = line_between(s, Place(i), Place(after), x, y) {
+                return line;
             }
         }
         i = after;
     }
-    let e = end_before_line(s, Place(i), Place(s.len()), x, y).0;
-    if e < s.len() {
-        return Place(e + 1);
-    }
-    Place(e)
+    let end = Place(s.len());
+    line_between(s, Place(i), end, x, y).unwrap_or(end)
 }
 
 // Where the first line of one of the two codes starts, from the line that starts there on; or the end.
@@ -152,10 +133,7 @@ pub fn next_line_of(s: &[u8], start: Place, one: Code, other: Code) -> Place
 {
     let x = base_codes::digits_of(one);
     let y = base_codes::digits_of(other);
-    if s.len() <= start.0 {
-        return start;
-    }
-    if begins_either(s, start, x, y) {
+    if s.len() <= start.0 || begins_either(s, start, x, y) {
         return start;
     }
     line_after(s, start, x, y)

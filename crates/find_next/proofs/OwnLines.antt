@@ -36,20 +36,6 @@ module _ (rec : Bytes) (least at : ℕ) where
   unfolding own_lines
   own-step n t h hn e = rw (lines-here rec at n h hn, begins-front continuation left, first-size left, ← hn, e)
 
-  -- as the code asks
-  pub own-past : length rec ≤ at → false ≡ own_line least at left
-  own-past h = sym (rw (drop_of_length-le rec {i = at} h))
-
-  module _ (h : at < length rec) where
-    some_left : ltb 0 (length left) ≡ true
-    some_left = lt-ltb 0 (length left) (omega (arith, length-drop at rec))
-
-    pub own-known : at < least → true ≡ own_line least at left
-    own-known k = sym (rw (some_left, lt-ltb at least k))
-
-    pub own-further : (t : Bool) → least ≤ at → t ≡ same_bytes (code_bytes continuation) (take 3 left) → t ≡ own_line least at left
-    own-further t k e = e ∙ sym (rw (some_left, le-ltb at least k))
-
   -- a line is left
   pub own-some : own_line least at left ≡ true → at < length rec
   own-some e = omega (arith, ltb-true 0 (length left) (and-true (ltb 0 (length left)) _ e).0, length-drop at rec)

@@ -1,5 +1,5 @@
 -- What the walk yields at each place that the code reaches: in a line by the length of its first field, in a record by its first line. Assumes nothing.
-use Prim.Native.Nat.{ℕ, suc, ◌+◌, ◌-◌, ◌≤◌, ◌<◌}
+use Prim.Native.Nat.{ℕ, suc, ◌+◌, ◌≤◌, ◌<◌}
 use native.Mathlib.Omega.{arith}
 use mathlib.Core.Path.{◌≡◌, sym, ap, ◌∙◌}
 use mathlib.Core.Bool.{true, false}
@@ -13,13 +13,13 @@ use Rattle.rules.specs.Cells.{Cell, cells_from, cells_of, leading_blanks}
 use Rattle.rules.specs.Grammar.{Kind, bad, good, take_next, next_kind, is_text}
 use Rattle.rules.proofs.Tests.{Known, holds, fails, known}
 use Rattle.read_lines.specs.LineLengths.{body_len, line_len}
-use Rattle.read_field_ends.specs.declared.Extent.TheVariants.{Field, Open}
 use Rattle.read_field_ends.specs.FieldLengths.{field_len, extent_of}
 use Rattle.read_field_ends.proofs.FieldLengthLaws.{extent-short, extent-open, extent-text}
 use Rattle.read_walk.proofs.LineParts.{line-size, line-fields, text-empty}
 use Rattle.read_walk.proofs.FirstCells.{first-open, first-comma, first-slash, comma-there, Starts, starts, cells-start}
 use Rattle.find_next.specs.CursorMeaning.{own_line, lines_from}
 use Rattle.find_next.proofs.OwnLines.{own-here, own-over}
+use Rattle.std.specs.Prelude.{Some, None}
 use Rattle.find_next.specs.FieldTrace.{Trace, yields, stop_at, field_at, trace_after, trace_taken, trace_past_slash, trace_taken_to, trace_cells, trace_end, trace_lines}
 
 -- ---- what is left of a line, xs at p
@@ -29,7 +29,7 @@ module _ (ks : List Kind) (s p : ℕ) (xs : Bytes) (go : List Kind → ℕ → T
   here = trace_cells ks s (cells_from p xs) go
 
   -- the line ends before a comma or slash
-  pub at_open : Open ≡ extent_of (is_text (next_kind ks)) xs → here ≡ stop_at 7 (p + length xs)
+  pub at_open : None ≡ extent_of (is_text (next_kind ks)) xs → here ≡ stop_at 7 (p + length xs)
   unfolding trace_cells trace_taken_to
   at_open extent = let z = extent-open (is_text (next_kind ks)) xs extent in rw (first-open p xs z.1, z.0)
 
@@ -39,7 +39,7 @@ module _ (ks : List Kind) (s p : ℕ) (xs : Bytes) (go : List Kind → ℕ → T
   whole cs (starts bs m rest) t = rw t
 
   -- its first field has n bytes
-  module _ (n : ℕ) (extent : Field n ≡ extent_of (is_text (next_kind ks)) xs) where
+  module _ (n : ℕ) (extent : Some n ≡ extent_of (is_text (next_kind ks)) xs) where
     at-text : is_text (next_kind ks) ≡ true → here ≡ trace_taken ks p (take n xs) (λ next. go next s)
     at-text t = whole (cells_from p xs) (cells-start p xs) t ∙ ap (λ (bs : Bytes). trace_taken ks p bs (λ next. go next s)) (sym (extent-text xs n (rw t at extent)))
 

@@ -1,19 +1,18 @@
 -- What is left to yield where the walk over a record stands somewhere, and what `next_field` promises. Assumes nothing.
-use Rattle.std.specs.Prelude.{ℕ, suc, ◌+◌, ◌-◌, ◌*◌, ◌≤◌, ◌<◌, ◌≡◌, Bool, true, false, cond, ◌&&◌, ◌||◌, List, [], ◌∷◌, leb, ltb, length, take, drop}
+use Rattle.std.specs.Prelude.{ℕ, suc, ◌+◌, ◌-◌, ◌*◌, ◌≤◌, ◌<◌, ◌≡◌, Bool, true, false, cond, ◌&&◌, ◌||◌, List, [], ◌∷◌, leb, ltb, length, take, drop, Option, Some, None, Result, Ok, Err}
 use Rattle.std.proofs.Math.Seq.{slice}
 use Rattle.rules.specs.Bytes.{Bytes, same_bytes}
 use Rattle.rules.specs.Lines.{Line, size_of, lines_of, code_bytes, begins, continuation}
 use Rattle.rules.specs.Cells.{cells_from}
 use Rattle.rules.specs.Grammar.{Kind, may_lack}
+use Rattle.base_refusals.specs.declared.Reason.TheVariants as reasons
+use Rattle.base_refusals.specs.declared.Refusal.{Refusal}
 use Rattle.base_refusals.specs.RefusalMeaning.{refusal_meant}
 use Rattle.base_quantities.specs.declared.Place.{Place}
 use Rattle.read_wanted.specs.declared.want.Want.{Want}
 use Rattle.read_wanted.specs.Wants.{wanted_of}
 use Rattle.find_next.specs.declared.Cursor.{Cursor}
-use Rattle.find_next.specs.declared.Next.{Next}
-use Rattle.find_next.specs.declared.Next.TheVariants as next
-use Rattle.find_next.specs.declared.Ahead.{Ahead}
-use Rattle.find_next.specs.declared.Ahead.TheVariants as ahead
+use Rattle.find_next.specs.declared.FieldStep.{FieldStep}
 use Rattle.find_next.specs.FieldTrace.{Trace, stops, ends, yields, field_at, trace_cells, trace_lines}
 
 -- the record in front of bytes that has so many bytes or more: the lines that start among them, and the 88 lines after these; p: where the first line starts.
@@ -39,16 +38,16 @@ unfoldable pub trace_of : Bytes → ℕ → Cursor → Trace
 trace_of rec least c = trace_from rec least (wanted_of c.want) c.at.0 c.end.0 c.line.0 c.slash.0
 
 -- the answer, where these kinds are wanted
-abbrev pub next_meant : Bytes → ℕ → List Kind → Next → Trace
-next_meant rec least ks (next.Refused why) = stops (refusal_meant why)
-next_meant rec least ks next.Over = ends
-next_meant rec least ks (next.Field p n c) = yields (field_at ks p.0 (take n (drop p.0 rec))) (trace_of rec least c)
+abbrev pub next_meant : Bytes → ℕ → List Kind → Result (Option FieldStep) Refusal → Trace
+next_meant rec least ks (Err why) = stops (refusal_meant why)
+next_meant rec least ks (Ok None) = ends
+next_meant rec least ks (Ok (Some f)) = yields (field_at ks f.start.0 (take f.length (drop f.start.0 rec))) (trace_of rec least f.after)
 
 -- where the walk stands in a line, or that it ends
-abbrev pub ahead_meant : Bytes → ℕ → Ahead → Trace
-ahead_meant rec least (ahead.Refused why) = stops (refusal_meant why)
-ahead_meant rec least ahead.Over = ends
-ahead_meant rec least (ahead.Line c) = trace_of rec least c
+abbrev pub ahead_meant : Bytes → ℕ → Result (Option Cursor) Refusal → Trace
+ahead_meant rec least (Err why) = stops (refusal_meant why)
+ahead_meant rec least (Ok None) = ends
+ahead_meant rec least (Ok (Some c)) = trace_of rec least c
 
 -- a walk that `before_record` began stands inside the record
 pub record Inside (rec : Bytes) (c : Cursor) : Type 0 where
@@ -68,38 +67,42 @@ abbrev pub Near : Bytes → ℕ → Type 0
 Near rec p = (p ≤ length rec + 3) × (p ≤ 3 * length rec)
 
 -- after a field the walk is still inside, and nearer to the end
-abbrev pub Onward : Bytes → Cursor → Next → Type 0
-Onward rec c (next.Refused why) = Inside rec c → Near rec why.place.0
-Onward rec c next.Over = Unit {0}
-Onward rec c (next.Field p n d) = Inside rec c → (p.0 + n ≤ length rec) × Inside rec d × (left_of rec d < left_of rec c)
+abbrev pub Onward : Bytes → Cursor → Result (Option FieldStep) Refusal → Type 0
+Onward rec c (Err why) = Inside rec c → Near rec why.place.0
+Onward rec c (Ok None) = Unit {0}
+Onward rec c (Ok (Some f)) = Inside rec c → (f.start.0 + f.length ≤ length rec) × Inside rec f.after × (left_of rec f.after < left_of rec c)
 
 -- in a line, before the field at its place
-pub record Takes (rec : Bytes) (least : ℕ) (c : Cursor) (r : Next) : Type 0 where
+pub record Takes (rec : Bytes) (least : ℕ) (c : Cursor) (r : Result (Option FieldStep) Refusal) : Type 0 where
   pub answer : trace_cells (wanted_of c.want) c.slash.0 (cells_from c.at.0 (slice c.at.0 c.end.0 rec)) (lines_from rec least c.line.0) ≡ next_meant rec least (wanted_of c.want) r
   pub onward : c.at.0 ≤ c.end.0 → Onward rec c r
 
+-- in a line there is a next field, or a refusal
+abbrev pub taken : Result FieldStep Refusal → Result (Option FieldStep) Refusal
+taken (Err why) = Err why
+taken (Ok f) = Ok (Some f)
+
 -- whatever is known of the record
-abbrev pub TakesNext : Bytes → Cursor → Next → Type 0
-TakesNext rec c r = (least : ℕ) → Takes rec least c r
+abbrev pub TakesNext : Bytes → Cursor → Result FieldStep Refusal → Type 0
+TakesNext rec c r = (least : ℕ) → Takes rec least c (taken r)
 
 -- in a line, with the same wanted; and inside as before, no farther from the end
-abbrev pub Ready : Bytes → Cursor → Ahead → Type 0
-Ready rec c (ahead.Refused why) = Inside rec c → Near rec why.place.0
-Ready rec c ahead.Over = Unit {0}
-Ready rec c (ahead.Line d) = (d.want ≡ c.want) × (d.at.0 ≤ d.end.0) × (Inside rec c → Inside rec d × (left_of rec d ≤ left_of rec c))
+abbrev pub Ready : Bytes → Cursor → Result (Option Cursor) Refusal → Type 0
+Ready rec c (Err why) = Inside rec c → Near rec why.place.0
+Ready rec c (Ok None) = Unit {0}
+Ready rec c (Ok (Some d)) = (d.want ≡ c.want) × (d.at.0 ≤ d.end.0) × (Inside rec c → Inside rec d × (left_of rec d ≤ left_of rec c))
 
--- where no line is left: what is wanted, the last slash that ended a line, and the answer, which is no line
-abbrev pub Ends : Want → Place → Ahead → Type 0
-Ends w s (ahead.Refused why) = (may_lack (wanted_of w) ≡ false) × (why ≡ record { number = 8; place = s })
-Ends w s ahead.Over = may_lack (wanted_of w) ≡ true
-Ends w s (ahead.Line c) = ⊥
+-- where no line is left: what is wanted, the last slash that ended a line, and the answer
+abbrev pub Ends : Want → Place → Result Unit Refusal → Type 0
+Ends w s (Err why) = (may_lack (wanted_of w) ≡ false) × (why ≡ record { reason = reasons.WrongField; place = s })
+Ends w s (Ok u) = may_lack (wanted_of w) ≡ true
 
 -- a record's bytes, where the walk stands, and where it stands in a line
-pub record Enters (rec : Bytes) (least : ℕ) (c : Cursor) (r : Ahead) : Type 0 where
+pub record Enters (rec : Bytes) (least : ℕ) (c : Cursor) (r : Result (Option Cursor) Refusal) : Type 0 where
   pub answer : trace_of rec least c ≡ ahead_meant rec least r
   pub ready : Ready rec c r
 
 -- a record's bytes, where the walk stands, and the answer
-pub record Steps (rec : Bytes) (least : ℕ) (c : Cursor) (r : Next) : Type 0 where
+pub record Steps (rec : Bytes) (least : ℕ) (c : Cursor) (r : Result (Option FieldStep) Refusal) : Type 0 where
   pub answer : trace_of rec least c ≡ next_meant rec least (wanted_of c.want) r
   pub onward : Onward rec c r

@@ -8,14 +8,12 @@ ghost use Rattle.rules.specs.Lines.{lines_of};
 ghost use Rattle.read_wanted.specs.Wants.{wanted_of};
 ghost use Rattle.find_next.specs.FieldTrace.{trace_lines};
 ghost use Rattle.find_next.specs.CursorMeaning.{own_lines, own_line, trace_of, Inside, TakesNext, Ends, Enters, Steps};
-ghost use Rattle.find_next.specs.declared.Next.TheVariants.{Refused};
 
 use base_codes::Code;
 use base_quantities::Place;
-use base_refusals::{LINE_BADLY_ENDED, Refusal, WRONG_FIELD};
-use read_field_ends::Extent;
+use base_refusals::{Reason, Refusal};
+use read_wanted::want;
 use read_wanted::want::Want;
-use read_wanted::{Taken, want};
 
 // Where the walk over a record stands: what is wanted next, the place of the next field and its line's end (a field past the end: the line is over), the
 // start of the next line, and the last slash that ended a line.
@@ -28,20 +26,12 @@ pub struct Cursor {
     pub slash: Place,
 }
 
-// The next field, by its start and length, with the walk after it; or the record is over; or it is refused. Places are counted from the record's start.
+// A field, by its start and length, with the walk after it. Places are counted from the record's start.
 #[derive(Clone, Copy)]
-pub enum Next {
-    Refused(Refusal),
-    Over,
-    Field(Place, usize, Cursor),
-}
-
-// Where the next field stands in its line; or the record is over; or it is refused.
-#[derive(Clone, Copy)]
-enum Ahead {
-    Refused(Refusal),
-    Over,
-    Line(Cursor),
+pub struct FieldStep {
+    pub start: Place,
+    pub length: usize,
+    pub after: Cursor,
 }
 
 // The walk before the line there, with this wanted and the last slash that ended a line.
@@ -64,120 +54,103 @@ pub fn before_record(first: Want) -> Cursor
     before_line(first, Place(0), Place(0))
 }
 
-// The walk stops at this place.
-fn stop(number: u64, place: Place) -> Next
-    ensures { result ≡ Refused (record { number = number; place = place }) }
-{
-    Next::Refused(Refusal { number, place })
-}
-
-// The next field of the line that the walk stands in.
-fn field_here(rec: &[u8], walk: Cursor) -> Next
+// The next field of the line that the walk stands in; or it is refused.
+fn field_here(rec: &[u8], walk: Cursor) -> Result<FieldStep, Refusal>
     ensures { TakesNext rec.now walk result }
 {
-    let want = walk.want;
     let start = walk.at;
     let a = start.0;
-    let end = walk.end;
-    let line = walk.line;
-    let slash = walk.slash;
-    let left = base_slices::part(rec, start, end);
-    let text = want::is_text(want);
-    let Extent::Field(n) = read_field_ends::field_extent(text, left) else {
-        return stop(LINE_BADLY_ENDED, Place(a + left.len()));
+    let left = base_slices::part(rec, start, walk.end);
+    let text = want::is_text(walk.want);
+    let Some(n) = read_field_ends::field_extent(text, left) else {
+        return Err(Reason::LineBadlyEnded.at(Place(a + left.len())));
     };
-    let mut next = want;
-    match read_fields::take_yielded(want, &left[0..n]) {
-        Taken::Refused(number) => return stop(number, start),
-        Taken::Next(after) => next = after,
-    }
+    // A match and no `map_err`: what a closure answers does not reach the proof as an equation.
+    let next = match read_fields::take_detail_first(walk.want, &left[..n]) {
+        Err(reason) => return Err(reason.at(start)),
+        Ok(next) => next,
+    };
     if text {
-        return Next::Field(start, n, before_line(next, line, slash));
+        return Ok(FieldStep {
+            start,
+            length: n,
+            after: before_line(next, walk.line, walk.slash),
+        });
     }
     let f = n + 1;
     if left[n] != b'/' {
-        let ahead = Cursor {
+        let after = Cursor {
             want: next,
             at: Place(a + f),
-            end,
-            line,
-            slash,
+            ..walk
         };
-        return Next::Field(start, n, ahead);
+        return Ok(FieldStep {
+            start,
+            length: n,
+            after,
+        });
     }
     let t = f + read_field_ends::blanks_len(&left[f..]);
     if t < left.len() {
-        return stop(LINE_BADLY_ENDED, Place(a + t));
+        return Err(Reason::LineBadlyEnded.at(Place(a + t)));
     }
-    Next::Field(start, n, before_line(next, line, Place(a + n)))
+    let after = before_line(next, walk.line, Place(a + n));
+    Ok(FieldStep {
+        start,
+        length: n,
+        after,
+    })
 }
 
 // A line of the record starts there: one that starts among its first `least` bytes, or an 88 line.
 fn is_own(rec: &[u8], least: usize, start: Place) -> bool
     ensures { result ≡ own_line least start.0 (drop start.0 rec.now) }
 {
-    if rec.len() <= start.0 {
-        return false;
-    }
-    if start.0 < least {
-        return true;
-    }
-    read_lines::begins(rec, start, Code::Continuation)
+    start.0 < rec.len() && (start.0 < least || read_lines::begins(rec, start, Code::Continuation))
 }
 
-// What comes where the record has no further line: its end, or what is missing.
-fn at_end(want: Want, slash: Place) -> Ahead
+// What is wanted may be missing where the record has no further line; or it is refused.
+fn at_end(want: Want, slash: Place) -> Result<(), Refusal>
     ensures { Ends want slash result }
 {
     if want::may_lack(want) {
-        return Ahead::Over;
+        return Ok(());
     }
-    Ahead::Refused(Refusal {
-        number: WRONG_FIELD,
-        place: slash,
-    })
+    Err(Reason::WrongField.at(slash))
 }
 
-// The walk before the next field's bytes: in its line or, where that is over, after the code of the next one.
-fn in_line(rec: &[u8], least: usize, walk: Cursor) -> Ahead
+// The walk before the next field's bytes: in its line or, where that is over, after the code of the next one; none where the record is over.
+fn in_line(rec: &[u8], least: usize, walk: Cursor) -> Result<Option<Cursor>, Refusal>
     ensures { Enters rec.now least walk result }
 {
-    let want = walk.want;
-    let start = walk.line;
-    let slash = walk.slash;
-    let here = walk.at;
-    let over = walk.end;
-    if here.0 <= over.0 {
-        return Ahead::Line(walk);
+    if walk.at.0 <= walk.end.0 {
+        return Ok(Some(walk));
     }
+    let start = walk.line;
     if !is_own(rec, least, start) {
-        return at_end(want, slash);
+        at_end(walk.want, walk.slash)?;
+        return Ok(None);
     }
     let end = read_lines::body_end(rec, start);
     let at = Place(start.0 + 3);
     if end.0 < at.0 {
-        return Ahead::Refused(Refusal {
-            number: LINE_BADLY_ENDED,
-            place: at,
-        });
+        return Err(Reason::LineBadlyEnded.at(at));
     }
     let line = Place(end.0 + read_lines::end_len(rec, end));
-    Ahead::Line(Cursor {
-        want,
+    Ok(Some(Cursor {
         at,
         end,
         line,
-        slash,
-    })
+        ..walk
+    }))
 }
 
-// The next field of the record in front of rec, which has `least` bytes or more, where the walk over it stands so.
-pub fn next_field(rec: &[u8], least: usize, walk: Cursor) -> Next
+// The next field of the record in front of rec, which has `least` bytes or more, where the walk over it stands so; none where the record is over.
+pub fn next_field(rec: &[u8], least: usize, walk: Cursor) -> Result<Option<FieldStep>, Refusal>
     ensures { Steps rec.now least walk result }
 {
-    match in_line(rec, least, walk) {
-        Ahead::Refused(why) => Next::Refused(why),
-        Ahead::Over => Next::Over,
-        Ahead::Line(here) => field_here(rec, here),
-    }
+    let Some(here) = in_line(rec, least, walk)? else {
+        return Ok(None);
+    };
+    Ok(Some(field_here(rec, here)?))
 }

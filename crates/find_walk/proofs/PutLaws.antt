@@ -1,12 +1,12 @@
 -- Three numbers put into a slice, as long as they find room; and the length that is handed out of a field. Assumes nothing.
-use Prim.Native.Nat.{ℕ, zero, suc, ◌+◌, ◌≤◌, ◌<◌}
+use Prim.Native.Nat.{ℕ, suc, ◌+◌, ◌≤◌, ◌<◌}
 use native.Mathlib.Omega.{arith}
 use mathlib.Core.Path.{◌≡◌, refl, sym, ap, ◌∙◌}
-use mathlib.Core.Bool.{Bool, cond, ◌&&◌}
+use mathlib.Core.Bool.{cond, ◌&&◌}
 use mathlib.Core.List.{List, [], ◌∷◌, ◌++◌, append_assoc}
-use borrow.Author.Tests.{ne_eqb, leb-true, leb-false}
+use borrow.Author.Tests.{leb-true, leb-false}
 use lib.Dec.{eqb, leb}
-use lib.ListN.{length, set, take, drop, get_or, take-append-drop, length-append, length-drop}
+use lib.ListN.{length, take, drop, get_or, take-append-drop, length-append, length-drop}
 use lib.Seq.{take_at, drop_at, drop-cons, length-take-le}
 use Rattle.rules.specs.Bytes.{Bytes, slash, just}
 use Rattle.rules.specs.Grammar.{Kind, kind_number, next_kind}
@@ -97,26 +97,7 @@ put_on k p l ns at out now r low t = by-room (known (leb (at + 3) (length out)))
         let z = t.full room in
         record { long = ap length z.0; within = rw (z.0, z.1) low; still = onto-full k p l ns out at room ∙ rw (← z.0, ← z.1) }
 
--- ---- three numbers one after the other
-
-pub three-set : (out : List ℕ) (at k p l : ℕ) → at + 3 ≤ length out → set (set (set out at k) (at + 1) p) (at + 2) l ≡ take at out ++ (k ∷ p ∷ l ∷ drop (at + 3) out)
-three-set [] at k p l h = absurd (omega arith)
-three-set (a ∷ []) zero k p l h = absurd (omega arith)
-three-set (a ∷ b ∷ []) zero k p l h = absurd (omega arith)
-three-set (a ∷ b ∷ c ∷ out) zero k p l h = refl
-three-set (a ∷ out) (suc at) k p l h =
-    let one : suc at + 1 ≡ suc (at + 1) = omega arith in
-    let two : suc at + 2 ≡ suc (at + 2) = omega arith in
-    let three : suc at + 3 ≡ suc (at + 3) = omega arith in
-    rw (one, two, three) (ap (λ (ns : List ℕ). a ∷ ns) (three-set out at k p l (omega arith)))
-
 -- ---- the length that is handed out
-
-pub plain-length : (kind : ℕ) (f : Bytes) → (kind ≡ 21 → ⊥) → length f ≡ cond (eqb 21 kind && just slash f) 0 (length f)
-plain-length kind f h = rw (ne_eqb 21 kind (λ q. h (sym q)))
-
-pub text-length : (kind : ℕ) (f : Bytes) (t : Bool) → kind ≡ 21 → just slash f ≡ t → cond t 0 (length f) ≡ cond (eqb 21 kind && just slash f) 0 (length f)
-text-length kind f t q e = rw (q, e)
 
 pub shown-is : (ks : List Kind) (p : ℕ) (bs : Bytes) (kind : ℕ) → kind ≡ kind_number (next_kind ks) → cond (eqb 21 kind && just slash bs) 0 (length bs) ≡ handed_length (field_at ks p bs)
 unfolding handed_length

@@ -1,10 +1,11 @@
 -- Where the walk over a record ends that goes up to a field of a kind, and the numbers of the fields that it passes. Assumes nothing.
-use Rattle.std.specs.Prelude.{ℕ, ◌+◌, ◌≤◌, ◌<◌, ◌≡◌, cond, List, [], ◌∷◌, ◌++◌, eqb, length, take, drop}
+use Rattle.std.specs.Prelude.{ℕ, ◌+◌, ◌≤◌, ◌<◌, ◌≡◌, cond, List, [], ◌∷◌, ◌++◌, eqb, length, take, drop, Result, Ok, Err}
 use Rattle.rules.specs.Bytes.{Bytes}
-use Rattle.rules.specs.Outcome.{Refusal}
+use Rattle.rules.specs.Outcome as outcome
 use Rattle.rules.specs.Lines.{Code, lines_of}
 use Rattle.rules.specs.Grammar.{kind_number, fields_of}
 use Rattle.rules.specs.HandedOut.{handed_length}
+use Rattle.base_refusals.specs.declared.Refusal.{Refusal}
 use Rattle.base_refusals.specs.RefusalMeaning.{refusal_meant}
 use Rattle.find_next.specs.FieldTrace.{Trace, stops, ends, yields, trace_lines}
 use Rattle.find_next.specs.CursorMeaning.{own_lines}
@@ -13,7 +14,7 @@ use Rattle.find_walk.specs.declared.Reached.TheVariants as reached
 
 -- refused, with the place in the file; the record is over, after so many fields; or a field is met, by its place in the record and its bytes
 pub data WalkEnd : Type 0 where
-  stopped : Refusal → WalkEnd
+  stopped : outcome.Refusal → WalkEnd
   over_after : ℕ → WalkEnd
   met_at : ℕ → Bytes → WalkEnd
 
@@ -60,19 +61,19 @@ abbrev pub trace_of_record : Bytes → ℕ → Code → Trace
 trace_of_record rec least c = trace_lines 0 (fields_of c) 0 (own_lines least 0 (lines_of rec))
 
 -- the answer of the code
-abbrev pub reached_meant : Bytes → Reached → WalkEnd
-reached_meant rec (reached.Refused why) = stopped (refusal_meant why)
-reached_meant rec (reached.Over n) = over_after n.0
-reached_meant rec (reached.Field p n) = met_at p.0 (take n (drop p.0 rec))
+abbrev pub reached_meant : Bytes → Result Reached Refusal → WalkEnd
+reached_meant rec (Err why) = stopped (refusal_meant why)
+reached_meant rec (Ok (reached.Over n)) = over_after n.0
+reached_meant rec (Ok (reached.Field p n)) = met_at p.0 (take n (drop p.0 rec))
 
 -- a field stands in the record
-abbrev pub StandsIn : Bytes → Reached → Type 0
-StandsIn rec (reached.Refused why) = Unit {0}
-StandsIn rec (reached.Over n) = Unit {0}
-StandsIn rec (reached.Field p n) = p.0 + n ≤ length rec
+abbrev pub StandsIn : Bytes → Result Reached Refusal → Type 0
+StandsIn rec (Err why) = Unit {0}
+StandsIn rec (Ok (reached.Over n)) = Unit {0}
+StandsIn rec (Ok (reached.Field p n)) = p.0 + n ≤ length rec
 
 -- the bytes from the record's start on, that start, how many bytes are known, its code, the kind sought, the slice before and after, and the answer
-pub record WalksTo (rec : Bytes) (start least : ℕ) (c : Code) (k : ℕ) (before after : List ℕ) (r : Reached) : Type 0 where
+pub record WalksTo (rec : Bytes) (start least : ℕ) (c : Code) (k : ℕ) (before after : List ℕ) (r : Result Reached Refusal) : Type 0 where
   pub answer : reached_meant rec r ≡ walk_end k start (trace_of_record rec least c)
   pub out : after ≡ put_threes (numbers_passed k start (trace_of_record rec least c)) before
   pub inside : StandsIn rec r

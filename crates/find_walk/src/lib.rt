@@ -5,13 +5,12 @@
 ghost use Rattle.std.specs.Prelude.{◌≡◌, cond, ◌&&◌, ◌∷◌, ◌++◌, ◌+◌, ◌≤◌, ◌<◌, eqb, length, take, drop};
 ghost use Rattle.rules.specs.Bytes.{slash, just};
 ghost use Rattle.base_codes.specs.CodeMeaning.{code_meant};
-ghost use Rattle.find_walk.specs.declared.Reached.TheVariants.{Refused};
 ghost use Rattle.find_walk.specs.WalkEnds.{PutsThree, WalksTo};
 
 use base_codes::Code;
 use base_quantities::Place;
 use base_refusals::Refusal;
-use find_next::Next;
+use find_next::FieldStep;
 use read_wanted::want;
 
 // A text's kind.
@@ -21,69 +20,51 @@ const TEXT: u64 = 21;
 #[derive(Clone, Copy)]
 pub struct FieldCount(pub u64);
 
-// Where a walk ends: it is refused; the record is over, after so many fields; or it meets the field sought, by its start in the record and its length.
+// Where a walk ends: the record is over, after so many fields; or it meets the field sought, by its start in the record and its length.
 #[derive(Clone, Copy)]
 pub enum Reached {
-    Refused(Refusal),
     Over(FieldCount),
     Field(Place, usize),
 }
 
 // The refusal of a record that starts there, with its place in the file.
-fn refused_there(start: Place, why: Refusal) -> Reached
+fn refused_there(start: Place, why: Refusal) -> Refusal
     requires { start.0 + why.place.0 < 18446744073709551616 }
-    ensures { result ≡ Refused (record { number = why.number; place = record { 0 = start.0 + why.place.0 } }) }
+    ensures { result ≡ record { reason = why.reason; place = record { 0 = start.0 + why.place.0 } } }
 {
-    let place = why.place;
-    Reached::Refused(Refusal {
-        number: why.number,
-        place: Place(start.0 + place.0),
-    })
+    why.reason.at(Place(start.0 + why.place.0))
 }
 
 // The length that is handed out of a field of this kind: "/" is no text, a text of length 0.
+#[tactic(auto, unfolding(rules::specs::Bytes::one_of))]
 fn handed_length(kind: u64, f: &[u8]) -> usize
     ensures { result ≡ cond (eqb 21 kind && just slash f.now) 0 (length f.now) }
 {
-    if kind != TEXT {
-        return f.len();
+    match f {
+        [b'/'] if kind == TEXT => 0,
+        _ => f.len(),
     }
-    if read_values::is_one_of(f, b'/', b'/') {
-        return 0;
-    }
-    f.len()
 }
 
-// Puts the three numbers of a field into the slice from `at` on.
-fn put_field(out: &mut [u64], at: usize, kind: u64, place: Place, size: usize)
-    requires { at + 3 ≤ length out.old }
-    ensures { out.new ≡ take at out.old ++ (kind ∷ place.0 ∷ size ∷ drop (at + 3) out.old) }
-{
-    out[at] = kind;
-    out[at + 1] = place.0 as u64;
-    out[at + 2] = size as u64;
-}
-
-// Puts the numbers of a field of the record from `at` on, if there is room for them, and answers where the next ones go.
+// Puts the numbers of a field of the record that starts there from `at` on, if there is room for them, and answers where the next ones go.
 fn put_next(
     rec: &[u8],
-    kind: u64,
     start: Place,
-    place: Place,
-    size: usize,
+    kind: u64,
+    field: FieldStep,
     out: &mut [u64],
     at: usize,
 ) -> usize
-    requires { (place.0 + size ≤ length rec.now) × (at ≤ length out.old) × (start.0 + place.0 < 18446744073709551616) }
-    ensures { PutsThree at kind (start.0 + place.0) (cond (eqb 21 kind && just slash (take size (drop place.0 rec.now))) 0 (length (take size (drop place.0 rec.now)))) out.old out.new result }
+    requires { (field.start.0 + field.length ≤ length rec.now) × (at ≤ length out.old) × (start.0 + field.start.0 < 18446744073709551616) }
+    ensures { PutsThree at kind (start.0 + field.start.0) (cond (eqb 21 kind && just slash (take field.length (drop field.start.0 rec.now))) 0 (length (take field.length (drop field.start.0 rec.now)))) out.old out.new result }
 {
     if out.len() - at < 3 {
         return at;
     }
-    let from = place.0;
-    let to = from + size;
-    let shown = handed_length(kind, &rec[from..to]);
-    put_field(out, at, kind, Place(start.0 + from), shown);
+    let from = field.start.0;
+    let length = handed_length(kind, &rec[from..from + field.length]);
+    let numbers = [kind, (start.0 + from) as u64, length as u64];
+    out[at..at + 3].copy_from_slice(&numbers);
     at + 3
 }
 
@@ -96,27 +77,26 @@ pub fn walk_to(
     code: Code,
     sought: u64,
     out: &mut [u64],
-) -> Reached
+) -> Result<Reached, Refusal>
     ensures { WalksTo (drop start.0 file.now) start.0 least (code_meant code) sought out.old out.new result }
 {
     let rec = base_slices::part(file, start, Place(file.len()));
     let mut walk = find_next::before_record(want::first_want(code));
-    let mut n: usize = 0;
+    let mut n: u64 = 0;
     let mut at: usize = 0;
+    // No `for`: each step is the walk after the field before.
     loop {
-        let want = walk.want;
-        match find_next::next_field(rec, least, walk) {
-            Next::Refused(why) => return refused_there(start, why),
-            Next::Over => return Reached::Over(FieldCount(n as u64)),
-            Next::Field(place, length, after) => {
-                let kind = read_kinds::kind_number(want);
-                if kind == sought {
-                    return Reached::Field(place, length);
-                }
-                at = put_next(rec, kind, start, place, length, out, at);
-                n += 1;
-                walk = after;
-            }
+        let step = match find_next::next_field(rec, least, walk) {
+            Err(why) => return Err(refused_there(start, why)),
+            Ok(None) => return Ok(Reached::Over(FieldCount(n))),
+            Ok(Some(step)) => step,
+        };
+        let kind = read_kinds::kind_number(walk.want);
+        if kind == sought {
+            return Ok(Reached::Field(step.start, step.length));
         }
+        at = put_next(rec, start, kind, step, out, at);
+        n += 1;
+        walk = step.after;
     }
 }

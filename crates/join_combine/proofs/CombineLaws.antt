@@ -2,7 +2,7 @@
 use Prim.Native.Nat.{ℕ, ◌+◌, ◌-◌, ◌≤◌, ◌<◌}
 use native.Mathlib.Omega.{arith}
 use native.Mathlib.Nat.{zero-add}
-use mathlib.Core.Path.{◌≡◌, sym, ap, ◌∙◌}
+use mathlib.Core.Path.{◌≡◌, refl, sym, ap, ◌∙◌}
 use mathlib.Core.Bool.{true, false}
 use mathlib.Core.List.{[], ◌∷◌, ◌++◌, append_assoc, append-nil}
 use borrow.Author.Tests.{le-leb, lt-leb}
@@ -35,9 +35,17 @@ use Rattle.join_groups.proofs.GroupOpens.{Opened, opened}
 use Rattle.read_file.specs.declared.GoodFile.{GoodFile}
 use Rattle.base_totals.specs.SummaryMeaning.{summary_meant}
 use Rattle.read_file.specs.FileAnswers.{IsGood}
-use Rattle.join_combine.specs.CombineAnswers.{combined_result, combined_fitting, combined_accepted}
+use Rattle.std.specs.Prelude.{Err}
+use Rattle.base_refusals.specs.RefusalMeaning.{refusal_meant}
+use Rattle.join_combine.specs.declared.Refused.{Refused}
+use Rattle.join_combine.specs.CombineAnswers.{combined_meant, combined_result, combined_fitting, combined_accepted}
 
 -- ---- combine's first answers
+
+-- a refusal, told as the rules answer it
+pub refused-told : (why : Refused) (before : Bytes) → combined_meant (Err why) before ≡ answered (refused (refusal_meant why.refusal)) why.file before
+unfolding answered
+refused-told why before = refl
 
 module _ (a b before : Bytes) where
   pub first-refused : (why : Refusal) → judge a ≡ refused why → answered (refused why) 1 before ≡ combine a b before

@@ -1,5 +1,6 @@
 -- Lines held against a limit. Assumes nothing.
 use Prim.Native.Nat.{ℕ, ◌+◌, ◌≤◌}
+use Rattle.std.specs.Prelude.{Result, Ok, Err, is_ok}
 use native.Mathlib.Omega.{arith}
 use mathlib.Core.Path.{◌≡◌, refl, sym, ◌∙◌}
 use mathlib.Core.Bool.{true, false}
@@ -11,6 +12,9 @@ use Rattle.rules.specs.Lines.{Line, size_of}
 use Rattle.rules.specs.Verdict.{not_longer, none_longer}
 use Rattle.rules.specs.Combine.{lines_within}
 use Rattle.rules.proofs.Tests.{Known, holds, fails, known, is_true, both, and_left, and_right}
+use Rattle.base_refusals.specs.declared.Refusal as declared
+use Rattle.base_refusals.specs.RefusalMeaning.{refusal_meant}
+use Rattle.read_line_checks.specs.LineChecks.{checked_of}
 use Rattle.rules.proofs.Binds.{refused-fine, from-bind, check-holds}
 
 -- lines within a limit are within a higher one
@@ -44,3 +48,8 @@ module _ (limit : ℕ) where
       by : Known (lines_within limit ls) → false ≡ lines_within limit ls
       by (holds e) = absurd (refused-fine _ tt (sym h ∙ within_none p ls (rw e tt)))
       by (fails e) = sym e
+
+-- as the code tells it
+pub none-told : (limit : ℕ) (ls : List Line) (r : Result (Unit {0}) declared.Refusal) → checked_of r ≡ none_longer 0 limit ls → is_ok r ≡ lines_within limit ls
+none-told limit ls (Ok done) e = none_within limit 0 ls (sym e)
+none-told limit ls (Err why) e = none_over limit 0 ls (refusal_meant why) (sym e)

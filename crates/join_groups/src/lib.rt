@@ -44,35 +44,28 @@ fn read_trailer(rec: &[u8]) -> GroupTrailer
 pub fn take_groups(name: &[u8], file: &[u8], from: Place, out: &mut [u8]) -> Tally
     ensures { (result ≡ tally_of (groups_taken name.now (drop from.0 file.now))) × (out.new ≡ slice_put (groups_taken name.now (drop from.0 file.now)) out.old) }
 {
-    let mut at = from.0;
-    let mut o: usize = 0;
-    let mut groups: u64 = 0;
-    let mut bytes: usize = 0;
-    let mut total = Units(0, 0);
-    let mut records = Records(0);
-    while read_lines::begins(file, Place(at), Code::GroupHeader) {
-        let last = find_lines::next_line_of(
-            file,
-            Place(at),
-            Code::GroupTrailer,
-            Code::FileTrailer,
-        ).0;
-        let e = read_lines::record_end(file, Place(last)).0;
-        let header = read_lines::record_end(file, Place(at)).0;
-        if join_receivers::is_for(name, &file[at..header]) {
-            o += base_slices::put(&mut out[o..], &file[at..e]);
-            let trailer = read_trailer(&file[last..e]);
-            total = total.add(trailer.total);
-            records = records.add(trailer.records);
-            groups += 1;
-            bytes += e - at;
+    let mut tally = Tally {
+        groups: Count(0),
+        bytes: 0,
+        total: Units::none(),
+        records: Records(0),
+    };
+    let mut at = from;
+    let mut o = 0;
+    // By a place, since groups have no iterator here: each starts where the one before ends.
+    while read_lines::begins(file, at, Code::GroupHeader) {
+        let last = find_lines::next_line_of(file, at, Code::GroupTrailer, Code::FileTrailer);
+        let end = read_lines::record_end(file, last);
+        let header = read_lines::record_end(file, at);
+        if join_receivers::is_for(name, &file[at.0..header.0]) {
+            o += base_slices::put(&mut out[o..], &file[at.0..end.0]);
+            let trailer = read_trailer(&file[last.0..end.0]);
+            tally.groups.0 += 1;
+            tally.bytes += end.0 - at.0;
+            tally.total = tally.total.add(trailer.total);
+            tally.records = tally.records.add(trailer.records);
         }
-        at = e;
+        at = end;
     }
-    Tally {
-        groups: Count(groups),
-        bytes,
-        total,
-        records,
-    }
+    tally
 }

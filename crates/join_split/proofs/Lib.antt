@@ -1,4 +1,3 @@
 -- Laws that belong to no one function. Read in this order.
-pub mod MisfitLaws
 pub mod NameLaws
 pub mod SplitLaws

@@ -1,28 +1,32 @@
 -- What split's answers say in document 01's terms. Assumes nothing.
-use Rattle.std.specs.Prelude.{ℕ, ◌+◌, ◌≤◌, ◌≡◌, cond, ◌++◌, leb, length, take, drop}
+use Rattle.std.specs.Prelude.{ℕ, ◌+◌, ◌≤◌, ◌≡◌, Bool, true, false, ◌++◌, length, take, drop, Result, Ok, Err}
 use Rattle.rules.specs.Bytes.{Bytes}
-use Rattle.rules.specs.Outcome.{fine}
+use Rattle.rules.specs.Outcome.{not_refused, Outcome, refused, fine}
 use Rattle.rules.specs.Lines.{lines_of, record_size, record_bytes}
 use Rattle.rules.specs.Totals.{Summary}
 use Rattle.rules.specs.Verdict.{judge}
-use Rattle.rules.specs.Limits.{longest_file}
 use Rattle.rules.specs.Parts.{header_in, groups_in}
 use Rattle.rules.specs.Combine as rules
-use Rattle.rules.specs.Combine.{summary_of_all, fresh_trailer, with_trailer, concat, fitting, answered}
+use Rattle.rules.specs.Combine.{summary_of_all, fresh_trailer, with_trailer, concat}
 use Rattle.rules.specs.Split.{groups_for}
 use Rattle.base_refusals.specs.RefusalMeaning.{refusal_meant}
 use Rattle.base_numerals.specs.PutBytes.{Put}
 use Rattle.read_lines.specs.LineLengths.{first_record}
 use Rattle.join_trailer.specs.declared.Trailer.{Trailer}
-use Rattle.join_split.specs.declared.Answer.{Answer}
+use Rattle.base_refusals.specs.declared.Refusal.{Refusal}
 
 -- an answer, with what the output slice holds
-abbrev pub answer_meant : Answer → Bytes → rules.Answer
-answer_meant r out = record { refusal = refusal_meant r.refusal; which = 0; len = r.length; output = out }
+abbrev pub answer_meant : Result ℕ Refusal → Bytes → rules.Answer
+answer_meant (Ok n) out = record { refusal = not_refused; which = 0; len = n; output = out }
+answer_meant (Err why) out = record { refusal = refusal_meant why; which = 0; len = 0; output = out }
 
 -- the reader accepts the file
+abbrev pub is_fine : Outcome Summary → Bool
+is_fine (refused why) = false
+is_fine (fine s) = true
+
 abbrev pub Accepts : Bytes → Type 0
-Accepts file = (s : Summary) × (judge file ≡ fine s)
+Accepts file = is_fine (judge file) ≡ true
 
 -- so many bytes of an accepted file are its header; stands for `header_in` (rules/specs/Parts.antt), joined by `opened` (join_groups/proofs/GroupOpens.antt)
 abbrev pub Opens : Bytes → ℕ → Type 0
@@ -42,15 +46,6 @@ pub record RestIs (name file before : Bytes) (bytes : ℕ) (last : Trailer) (aft
   pub is_last : take last.length last.bytes ≡ split_last name file
   pub last-most : (last.length ≤ 80) × (length last.bytes ≡ 80)
 
--- what split writes of an accepted file, and its answer after 16 and the reader's refusal; stand for the last line of `split_out` (rules/specs/Split.antt),
--- joined by `split-accepted` (proofs/NameLaws.antt)
+-- what split writes of an accepted file; stands for the last line of `split_out` (rules/specs/Split.antt), joined by `split-accepted` (proofs/NameLaws.antt)
 unfoldable pub split_result : Bytes → Bytes → Bytes
 split_result name file = with_trailer (header_in file ++ concat (groups_for name (groups_in file)))
-
--- 18 where a result is too long, 15 where the room is too short for it, else 0; stands for `has_room` (rules/specs/Combine.antt), joined by `misfit-refused`
--- and `fits_by` (proofs/MisfitLaws.antt)
-unfoldable pub misfit_of : Bytes → ℕ → ℕ
-misfit_of result room = cond (leb (length result) longest_file) (cond (leb (length result) room) 0 15) 18
-
-unfoldable pub split_fitting : Bytes → Bytes → Bytes → rules.Answer
-split_fitting name file before = answered (fitting (split_result name file) (length before)) 0 before

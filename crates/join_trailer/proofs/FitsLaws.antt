@@ -1,31 +1,42 @@
 -- 18, 15, or the result: the answers by the result's length. Assumes nothing.
-use Prim.Native.Nat.{ℕ, ◌≤◌, ◌<◌}
+use Prim.Native.Nat.{ℕ, ◌≤◌}
 use native.Mathlib.Omega.{arith}
 use mathlib.Core.Path.{◌≡◌, sym, ap, ◌∙◌}
-use borrow.Author.Tests.{le-leb, lt-leb}
+use borrow.Author.Tests.{le-leb}
+use lib.Dec.{leb, leb→le}
 use lib.ListN.{length, take, drop, length-take, length-drop}
 use lib.Seq.{length-take-le}
 use Rattle.rules.specs.Bytes.{Bytes}
-use Rattle.rules.specs.Outcome.{not_refused, refuse}
+use Rattle.rules.specs.Outcome.{Refusal, not_refused, Outcome, refused, fine, ◌>>◌, check}
 use Rattle.rules.specs.Limits.{longest_file}
-use Rattle.rules.specs.Combine.{Answer, answered, fitting}
+use Rattle.rules.specs.Combine.{Answer, answered, has_room, fitting}
+use Rattle.rules.proofs.Binds.{first_fine, then-fine, check-holds}
 use Rattle.base_numerals.specs.PutBytes.{Put}
 use Rattle.base_numerals.proofs.PutLaws.{put_count, put-bytes}
 
 module _ (result before : Bytes) (which : ℕ) where
-  pub too_long : longest_file < length result → answered (refuse 18 0) which before ≡ answered (fitting result (length before)) which before
+  -- refused where it has no room
+  pub not-fitting : (why : Refusal) → refused why ≡ has_room (length result) (length before) → answered (refused why) which before ≡ answered (fitting result (length before)) which before
+  unfolding fitting
+  not-fitting why e = ap (λ (o : Outcome (Unit {0})). answered (o >> fine result) which before) e
+
+  pub written : length result ≤ longest_file → length result ≤ length before → (r : ℕ) (after : Bytes) → Put result before r after
+      → ◌≡◌ {A = Answer} (record { refusal = not_refused; which = 0; len = r; output = after }) (answered (fitting result (length before)) which before)
   unfolding fitting answered
-  too_long h = rw (lt-leb (length result) longest_file h)
+  written h k r after p = rw (le-leb (length result) longest_file h, le-leb (length result) (length before) k, put_count p k, put-bytes p k)
 
-  module _ (h : length result ≤ longest_file) where
-    pub no_room : length before < length result → answered (refuse 15 0) which before ≡ answered (fitting result (length before)) which before
-    unfolding fitting answered
-    no_room k = rw (le-leb (length result) longest_file h, lt-leb (length result) (length before) k)
+-- what it says that a result has room
+pub has-room : (n room : ℕ) → n ≤ longest_file → n ≤ room → fine tt ≡ has_room n room
+has-room n room h k = rw (le-leb n longest_file h, le-leb n room k)
 
-    pub written : length result ≤ length before → (r : ℕ) (after : Bytes) → Put result before r after
-        → ◌≡◌ {A = Answer} (record { refusal = not_refused; which = 0; len = r; output = after }) (answered (fitting result (length before)) which before)
-    unfolding fitting answered
-    written k r after p = rw (le-leb (length result) longest_file h, le-leb (length result) (length before) k, put_count p k, put-bytes p k)
+pub room-says : (n room : ℕ) → fine tt ≡ has_room n room → (n ≤ longest_file) × (n ≤ room)
+room-says n room e =
+    let long = check (leb n longest_file) 18 0 in
+    let short = check (leb n room) 15 0 in
+    let f : (long >> short) ≡ fine tt = sym e in (
+      leb→le n longest_file (check-holds (leb n longest_file) 18 0 (first_fine long short tt f)),
+      leb→le n room (check-holds (leb n room) 15 0 (then-fine long short tt f)),
+    )
 
 -- ---- parts of slices
 

@@ -4,7 +4,6 @@ use mathlib.Core.Bool.{cond}
 use mathlib.Core.List.{List, [], ◌∷◌, map}
 use Prim.Native.Nat.{ℕ, zero, suc, ◌+◌, ◌<◌}
 use native.Mathlib.Nat.{add-zero, zero-add, add-suc, suc-add, le_of_suc-le-suc, not-suc-le-zero}
-use borrow.Author.Tests.{ne_eqb}
 use lib.ListN.{get_or, get_or-map}
 use Rattle.rules.specs.Bytes.{letter}
 use Rattle.rules.specs.CodeList.{is_status, is_summary, Entry, unlisted, NA, CR, DB, entry_in, entry_of}
@@ -42,13 +41,3 @@ letter_at code below =
     ∙ ap (λ (es : List Entry). get_or es code (entry_meant 0)) letters-right
     ∙ entry_at 0 1000 code (entry_meant 0) below
     ∙ ap entry_of (zero-add code)
-
--- ---- any other byte
-
--- a byte that is none of the six letters means that the code isn't listed
-pub no-letter : (b : ℕ)
-    → (b ≡ letter "s" → ⊥) → (b ≡ letter "C" → ⊥) → (b ≡ letter "c" → ⊥) → (b ≡ letter "D" → ⊥) → (b ≡ letter "d" → ⊥) → (b ≡ letter "n" → ⊥)
-    → entry_meant b ≡ unlisted
-unfolding entry_meant
-no-letter b s C c D d n =
-    rw (ne_eqb b (letter "s") s, ne_eqb b (letter "C") C, ne_eqb b (letter "c") c, ne_eqb b (letter "D") D, ne_eqb b (letter "d") d, ne_eqb b (letter "n") n) refl

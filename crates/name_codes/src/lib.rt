@@ -52,6 +52,7 @@ fn letter_of(code: u64) -> u8
 }
 
 // The class that a letter of the table stands for.
+#[tactic(auto, unfolding(crate::specs::ClassMeaning::entry_meant))]
 fn class_of(letter: u8) -> CodeClass
     ensures { class_meant result ≡ entry_meant letter }
 {

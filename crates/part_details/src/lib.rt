@@ -13,80 +13,66 @@ use base_amounts::Amount;
 use base_codes::Code;
 use base_quantities::Place;
 use base_refusals::Refusal;
-use find_field::{Sought, Spot};
+use find_field::Sought;
+use part_groups::Part;
 
-// The refusal, by number 0 at place 0 where there is none; and a detail's type, its amount as it was given, and where its first text piece starts in the file, and its length: 0 where there is none.
+// A detail's type, its amount as it was given, and where its first text piece stands in the file, an empty one where it has none: by an Option none and an empty one would
+// mean the same to C, and there would be two answers (`detail-one` in c_laws/proofs/OneAnswer.antt).
 #[derive(Clone, Copy)]
 pub struct DetailAnswer {
-    pub refusal: Refusal,
     pub type_code: u64,
     pub amount: Amount,
-    pub text_start: Place,
-    pub text_length: usize,
+    pub text: Part,
 }
 
-// Where the first text piece of the detail from `from` to `to` starts in the file, and its length; 0 and 0 where there is none.
-fn text_in(file: &[u8], from: Place, to: Place) -> Spot
-    requires { (from.0 ≤ to.0) × (to.0 ≤ length file.now) }
-    ensures { TextIs file.now from.0 to.0 result }
+// Where the first text piece of the detail that is this part stands in the file; an empty one at 0 where that is a lone slash, at the part's start where the record has no such field, as every accepted 16 has.
+fn text_in(file: &[u8], part: Part) -> Part
+    requires { part.start.0 + part.length ≤ length file.now }
+    ensures { TextIs file.now part.start.0 part.length result }
 {
-    let first = from.0;
-    let last = to.0;
-    let rec = &file[first..last];
-    let text = find_field::seek(rec, Code::Detail, Sought::Text);
-    let found = text.start;
-    let start = found.0;
-    let end = start + text.length;
-    if read_values::is_one_of(&rec[start..end], b'/', b'/') {
-        return Spot {
-            start: Place(0),
+    let rec = part.bytes(file);
+    match find_field::seek(rec, Code::Detail, Sought::Text) {
+        None => Part {
+            start: part.start,
             length: 0,
-        };
-    }
-    let in_file = first + start;
-    Spot {
-        start: Place(in_file),
-        length: text.length,
+        },
+        Some(text) => {
+            let start = text.start.0;
+            let end = start + text.length;
+            if read_values::is_one_of(&rec[start..end], b'/', b'/') {
+                return Part {
+                    start: Place(0),
+                    length: 0,
+                };
+            }
+            Part {
+                start: Place(part.start.0 + start),
+                length: text.length,
+            }
+        }
     }
 }
 
 // The detail of this number in that account: reader's refusal, 17.
-pub fn detail(file: &[u8], g: u64, a: u64, n: u64) -> DetailAnswer
-    ensures { (detail_meant result ≡ detail_of_file file.now g a n) × TextStands file.now result (or_else (rules.detail_at file.now g a n) no_detail).text_bytes }
+pub fn detail(file: &[u8], g: u64, a: u64, n: u64) -> Result<DetailAnswer, Refusal>
+    ensures told { detail_meant result ≡ detail_of_file file.now g a n }
+    ensures text { TextStands file.now result (or_else (rules.detail_at file.now g a n) no_detail).text_bytes }
 {
-    let part = part_groups::find_detail(file, g, a, n);
-    let refusal = part.refusal;
-    if refusal.number != 0 {
-        return DetailAnswer {
-            refusal,
-            type_code: 0,
-            amount: Amount::Empty,
-            text_start: Place(0),
-            text_length: 0,
-        };
-    }
-    let start = part.start;
-    let from = start.0;
-    let to = from + part.length;
-    let rec = &file[from..to];
-    let text = text_in(file, start, Place(to));
-    let text_start = text.start;
-    DetailAnswer {
-        refusal,
+    let part = part_groups::find_detail(file, g, a, n)?;
+    let rec = part.bytes(file);
+    Ok(DetailAnswer {
         type_code: find_field::type_of(rec),
         amount: find_field::amount_of(rec),
-        text_start,
-        text_length: text.length,
-    }
+        text: text_in(file, part),
+    })
 }
 
 // The detail's first text piece, in the file; empty if none, and when refused.
 pub fn detail_text(file: &[u8], g: u64, a: u64, n: u64) -> &[u8]
     ensures { result.now ≡ (or_else (rules.detail_at file.now g a n) no_detail).text_bytes }
 {
-    let found = detail(file, g, a, n);
-    let start = found.text_start;
-    let from = start.0;
-    let to = from + found.text_length;
-    &file[from..to]
+    match detail(file, g, a, n) {
+        Ok(found) => found.text.bytes(file),
+        Err(_) => &file[..0],
+    }
 }

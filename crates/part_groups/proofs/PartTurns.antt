@@ -1,5 +1,5 @@
 -- One turn of the search for a part of an envelope, at the places that the code reaches. Assumes nothing.
-use Prim.Native.Nat.{ℕ, zero, suc, ◌+◌, ◌-◌, ◌≤◌, ◌<◌}
+use Prim.Native.Nat.{ℕ, suc, ◌+◌, ◌-◌, ◌≤◌, ◌<◌}
 use native.Mathlib.Omega.{arith}
 use mathlib.Core.Path.{◌≡◌, refl, sym, ap, subst, ◌∙◌}
 use mathlib.Core.Bool.{Bool, true, false, ◌||◌}
@@ -12,7 +12,7 @@ use Rattle.rules.specs.Outcome.{Outcome, not_refused}
 use Rattle.rules.specs.Lines.{lines_of, Code, file_header, group_header, account_header, detail, account_trailer, group_trailer, file_trailer, continuation, code_bytes, Record, record_size, record_bytes, file_records}
 use Rattle.rules.specs.Parts.{heads, cut_at, Placed, Parts, part_from, part_in, part_bytes, size_of_all}
 use Rattle.rules.specs.Combine.{concat}
-use Rattle.rules.specs.Answers.{PartAnswer, part_answer}
+use Rattle.rules.specs.Answers.{part_answer}
 use Rattle.rules.proofs.Tests.{is_true}
 use Rattle.read_lines.specs.LineLengths.{first_record}
 use Rattle.read_lines.proofs.LineLengthLaws.{first_of, line-some}
@@ -23,7 +23,10 @@ use Rattle.laws.proofs.Lists.{all_left, all_right, concat-append}
 use Rattle.laws.proofs.Codes.{of-own, not-of}
 use Rattle.laws.proofs.PartSlices.{size-length}
 use Rattle.join_groups.proofs.GroupRecords.{first-is, heads-front, records-drop, size-joined, before-past, before-first, passed-records, lines_are}
-use Rattle.part_groups.specs.PartsEnclosed.{Apart, Ahead, Envelope}
+use Rattle.std.specs.Prelude.{Err}
+use Rattle.base_refusals.specs.declared.Refusal.{Refusal}
+use Rattle.part_groups.specs.PartMeaning.{part_meant}
+use Rattle.part_groups.specs.PartsEnclosed.{PartEnds, EndsAt, Apart, Ahead, Envelope}
 
 -- ---- any bytes
 
@@ -58,25 +61,20 @@ pub record Left (c d : Code) (others : List Code) (s : Bytes) (sought : Outcome 
   pub ahead : Ahead c d others parts (file_records (drop at s))
   pub same : sought ≡ part_from at parts left
 
--- 17
-abbrev pub no_part : PartAnswer
-no_part = record { refusal = record { number = 17; place = 0 }; start = 0; len = 0 }
-
-no-part : (at left : ℕ) → no_part ≡ part_answer (part_from at [] left)
-unfolding part_answer part_from part_bytes
-no-part at left = refl
-
 -- the first part
-pub started : (c d : Code) (s : Bytes) (n at : ℕ) → at ≡ 0 + record_size (first_record (lines_of (drop 0 s))) → (e : Envelope c d (file_records s))
-    → Left c d e.others s (part_in 0 (cut_at c d (file_records s)) n) at n
+pub started : (c d : Code) (s : Bytes) (n left at : ℕ) → left ≡ n → at ≡ 0 + record_size (first_record (lines_of (drop 0 s))) → (e : Envelope c d (file_records s))
+    → Left c d e.others s (part_in 0 (cut_at c d (file_records s)) n) at left
 unfolding part_in size_of_all
-started c d s n at p e =
+started c d s n left at same p e =
     let size : at ≡ record_size e.first + 0 = p ∙ ap (λ (r : Record). 0 + record_size r) (first-is s e.first e.rest e.whole) ∙ omega arith in
     let place : 0 + (record_size e.first + 0) ≡ at = omega (arith, size) in
     record {
       parts = e.parts;
       ahead = subst (Ahead c d e.others e.parts) (sym (ap (λ (k : ℕ). file_records (drop k s)) size ∙ records-drop (e.first ∷ []) e.rest s e.whole)) e.ahead;
-      same = ap (λ (x : Parts). part_from (0 + size_of_all x.waiting) x.parts n) e.cut ∙ ap (λ (k : ℕ). part_from k e.parts n) place;
+      same =
+          ap (λ (x : Parts). part_from (0 + size_of_all x.waiting) x.parts n) e.cut
+          ∙ ap (λ (k : ℕ). part_from k e.parts n) place
+          ∙ ap (λ (k : ℕ). part_from at e.parts k) (sym same);
     }
 
 module _ (c d : Code) (others : List Code) (a : Apart c d others) where
@@ -134,9 +132,11 @@ module _ (c d : Code) (others : List Code) (a : Apart c d others) where
   unfolding concat
   over xs h = sym (heads-front xs h.last [] h.whole c) ∙ not-of (d ∷ []) c h.last a.d-c (of-own d [] h.last h.is_last)
 
-  -- a part stands at `at`: its first record ends at m, and it ends at e
-  module _ (s : Bytes) (at m e : ℕ) (begun : same_bytes (code_bytes c) (take 3 (drop at s)) ≡ true)
-      (p : m ≡ at + record_size (first_record (lines_of (drop at s)))) (q : e ≡ m + bytes_before c d (lines_of (drop m s))) where
+  -- a part stands at `at`, and ends at e
+  module _ (s : Bytes) (at e : ℕ) (t : PartEnds c d s at e) where
+    abbrev m : ℕ
+    m = t.first_end
+
     record Turn (ps : List (List Record)) : Type 0 where
       part : List Record
       further : List (List Record)
@@ -148,9 +148,9 @@ module _ (c d : Code) (others : List Code) (a : Apart c d others) where
     unfolding size_of_all
     turn-of r rs ps h =
         let xs = drop at s in
-        let m-is : m ≡ at + record_size r = p ∙ ap (λ (k : ℕ). at + k) (first-size-is xs r rs ps h) in
+        let m-is : m ≡ at + record_size r = t.first ∙ ap (λ (k : ℕ). at + k) (first-size-is xs r rs ps h) in
         let from-m : drop m s ≡ drop (record_size r) xs = ap (λ (k : ℕ). drop k s) m-is ∙ sym (drop-drop (record_size r) at s) in
-        let e-is : e ≡ at + (record_size r + size_of_all rs) = q ∙ ap (λ (ys : Bytes). m + bytes_before c d (lines_of ys)) from-m ∙ omega (arith, rest-size xs r rs ps h) in
+        let e-is : e ≡ at + (record_size r + size_of_all rs) = t.end ∙ ap (λ (ys : Bytes). m + bytes_before c d (lines_of ys)) from-m ∙ omega (arith, rest-size xs r rs ps h) in
         let from-e : drop (record_size r + size_of_all rs) xs ≡ drop e s = drop-drop (record_size r + size_of_all rs) at s ∙ ap (λ (k : ℕ). drop k s) (sym e-is) in
         record {
           part = r ∷ rs;
@@ -161,7 +161,7 @@ module _ (c d : Code) (others : List Code) (a : Apart c d others) where
         }
 
     turn : (ps : List (List Record)) → Ahead c d others ps (file_records (drop at s)) → Turn ps
-    turn [] h = let z : false ≡ true = sym (over (drop at s) h) ∙ begun in let y : ◌≡◌ {A = ℕ} 0 1 = cc in absurd (omega arith)
+    turn [] h = let z : false ≡ true = sym (over (drop at s) h) ∙ t.opens in let y : ◌≡◌ {A = ℕ} 0 1 = cc in absurd (omega arith)
     turn ([] ∷ ps) h = absurd h.opens.0
     turn ((r ∷ rs) ∷ ps) h = turn-of r rs ps h
 
@@ -170,34 +170,32 @@ module _ (c d : Code) (others : List Code) (a : Apart c d others) where
       pub hit : (left : ℕ) → left ≡ 0 → Left c d others s sought at left → record { refusal = not_refused; start = at; len = e - at } ≡ part_answer sought
       unfolding part_answer part_from part_bytes
       hit left z l =
-          let t = turn l.parts l.ahead in
-          let is : sought ≡ part_from at (t.part ∷ t.further) 0 = l.same ∙ ap (λ (k : ℕ). part_from at l.parts k) z ∙ ap (λ (ps : List (List Record)). part_from at ps 0) t.split in
-          let size : e - at ≡ length (record_bytes t.part) = omega (arith, t.size, size-length t.part) in
+          let u = turn l.parts l.ahead in
+          let is : sought ≡ part_from at (u.part ∷ u.further) 0 = l.same ∙ ap (λ (k : ℕ). part_from at l.parts k) z ∙ ap (λ (ps : List (List Record)). part_from at ps 0) u.split in
+          let size : e - at ≡ length (record_bytes u.part) = omega (arith, u.size, size-length u.part) in
           rw (is, size)
 
       -- it is not, and the search goes on after it
-      pub go : (left : ℕ) → 0 < left → Left c d others s sought at left → Left c d others s sought e (left - 1)
+      pub go : (left k : ℕ) → left ≡ suc k → Left c d others s sought at left → Left c d others s sought e k
       unfolding part_from
-      go zero z l = absurd (omega arith)
-      go (suc k) z l =
-          let t = turn l.parts l.ahead in
-          let less : k ≡ suc k - 1 = omega arith in
+      go left k z l =
+          let u = turn l.parts l.ahead in
           record {
-            parts = t.further;
-            ahead = t.ahead;
+            parts = u.further;
+            ahead = u.ahead;
             same =
                 l.same
-                ∙ ap (λ (ps : List (List Record)). part_from at ps (suc k)) t.split
-                ∙ ap (λ (n : ℕ). part_from n t.further k) (sym t.size)
-                ∙ ap (λ (n : ℕ). part_from e t.further n) less;
+                ∙ ap (λ (n : ℕ). part_from at l.parts n) z
+                ∙ ap (λ (ps : List (List Record)). part_from at ps (suc k)) u.split
+                ∙ ap (λ (n : ℕ). part_from n u.further k) (sym u.size);
           }
 
   -- where none stands there is none
-  pub missed : (s : Bytes) (sought : Outcome Placed) (at left : ℕ) → same_bytes (code_bytes c) (take 3 (drop at s)) ≡ false → Left c d others s sought at left
-      → no_part ≡ part_answer sought
-  missed s sought at left none l = by_parts l.parts l.ahead l.same
+  pub missed : (why : Refusal) (s : Bytes) (sought : Outcome Placed) (at left : ℕ) → EndsAt c d s at (Err why) → Left c d others s sought at left → part_meant (Err why) ≡ part_answer sought
+  unfolding part_answer part_from part_bytes
+  missed why s sought at left (none, is) l = by_parts l.parts l.ahead l.same
     where
-      by_parts : (ps : List (List Record)) → Ahead c d others ps (file_records (drop at s)) → sought ≡ part_from at ps left → no_part ≡ part_answer sought
-      by_parts [] h e = no-part at left ∙ ap part_answer (sym e)
+      by_parts : (ps : List (List Record)) → Ahead c d others ps (file_records (drop at s)) → sought ≡ part_from at ps left → part_meant (Err why) ≡ part_answer sought
+      by_parts [] h e = rw (e, is)
       by_parts ([] ∷ ps) h e = absurd h.opens.0
       by_parts ((r ∷ rs) ∷ ps) h e = let z : true ≡ false = sym (headed (drop at s) r rs ps h) ∙ none in let y : ◌≡◌ {A = ℕ} 0 1 = cc in absurd (omega arith)

@@ -1,16 +1,23 @@
 -- A part found within a part: its place counted from the file's start, its refusal as it is; and the slice that an answer names. Assumes nothing.
-use Prim.Native.Nat.{ℕ, zero, suc, ◌+◌, ◌-◌, ◌≤◌}
+use Prim.Native.Nat.{ℕ, zero, suc, ◌+◌, ◌≤◌}
 use native.Mathlib.Omega.{arith}
 use mathlib.Core.Path.{◌≡◌, refl, sym, ap, subst, ◌∙◌}
 use mathlib.Core.List.{List, [], ◌∷◌}
 use lib.ListN.{length, take, drop, length-take, length-drop}
 use Rattle.rules.specs.Bytes.{Bytes}
-use Rattle.rules.specs.Outcome.{not_refused, number_of, Outcome, refused, fine, ◌>>=◌}
+use Rattle.rules.specs.Outcome.{not_refused, refusal_of, number_of, Outcome, refused, fine, ◌>>=◌}
 use Rattle.rules.specs.Lines.{Code, Record, record_bytes, file_records}
 use Rattle.rules.specs.Parts.{cut_at, Placed, Parts, part_from, part_in, part_bytes, size_of_all}
 use Rattle.rules.specs.Answers.{PartAnswer, part_answer}
 use Rattle.rules.proofs.Binds.{refused-fine}
-use Rattle.part_groups.specs.PartMeaning.{bytes_at}
+use Rattle.std.specs.Prelude.{eqb, Result, Ok, Err}
+use Rattle.std.specs.Result.{result_err}
+use Rattle.std.proofs.lemmas.Bool.{false≢true}
+use Rattle.base_refusals.specs.declared.Refusal.{Refusal}
+use Rattle.base_refusals.specs.RefusalMeaning.{reason_number}
+use Rattle.base_refusals.proofs.RefusalsBack.{not_numbered_0}
+use Rattle.part_groups.specs.PartMeaning.{part_meant, refusal_told, bytes_at}
+use Rattle.part_groups.specs.declared.Part.{Part}
 use Rattle.part_groups.specs.PartsEnclosed.{Envelope, Finds, Stands, Numbered, Outer}
 
 -- ---- places counted from p bytes before
@@ -49,14 +56,17 @@ pub bind-refuses : {A : Type 0} (o : Outcome A) (f : A → Outcome Placed) → N
 bind-refuses (refused why) f h g w e = let z : why.number ≡ w.number = ap number_of e in omega (arith, h why refl)
 bind-refuses (fine x) f h g w e = g x w e
 
+-- no reason has the number 0
+pub some_number : (why : Refusal) → ¬ (reason_number why.reason ≡ 0)
+some_number why e = absurd (false≢true (sym (not_numbered_0 why.reason) ∙ ap (λ (n : ℕ). eqb n 0) e))
+
 -- ---- the answer within
 
 -- the outer part was refused
-pub same-refusal : (q : PartAnswer) (o : Outcome Placed) (f : Placed → Outcome Placed) → q ≡ part_answer o → ¬ (q.refusal.number ≡ 0)
-    → record { refusal = q.refusal; start = 0; len = 0 } ≡ part_answer (o >>= f)
+pub same-refusal : (why : Refusal) (o : Outcome Placed) (f : Placed → Outcome Placed) → part_meant (Err why) ≡ part_answer o → part_meant (Err why) ≡ part_answer (o >>= f)
 unfolding part_answer part_bytes
-same-refusal q (refused why) f e h = rw e
-same-refusal q (fine x) f e h = absurd (h (ap (λ (a : PartAnswer). a.refusal.number) e))
+same-refusal why (refused w) f e = e
+same-refusal why (fine x) f e = absurd (some_number why (ap (λ (a : PartAnswer). a.refusal.number) e))
 
 -- the inner part was refused
 shifted-refusal : (p : ℕ) (q : PartAnswer) (o : Outcome Placed) → q ≡ part_answer o → ¬ (q.refusal.number ≡ 0) → q ≡ part_answer (shifted p o)
@@ -72,13 +82,13 @@ shifted-found p q (refused why) r e z = let m : q.refusal.number ≡ why.number 
 shifted-found p q (fine x) r e z = rw e
 
 module _ (c d : Code) (file : Bytes) (n : ℕ) (outer : PartAnswer) (inner : PartAnswer) (zero_number : outer.refusal.number ≡ 0)
-    (f : Finds c d (take (outer.start + outer.len - outer.start) (drop outer.start file)) n inner) where
+    (f : Finds c d (take outer.len (drop outer.start file)) n inner) where
   abbrev slice : Bytes
-  slice = take (outer.start + outer.len - outer.start) (drop outer.start file)
+  slice = take outer.len (drop outer.start file)
 
   -- the inner part ends within the outer
   pub inner-fits : outer.start + outer.len ≤ length file → outer.start + (inner.start + inner.len) ≤ length file
-  inner-fits h = omega (arith, f.inside, length-take (outer.start + outer.len - outer.start) (drop outer.start file), length-drop outer.start file)
+  inner-fits h = omega (arith, f.inside, length-take outer.len (drop outer.start file), length-drop outer.start file)
 
   module _ (x : Placed) (e : outer ≡ part_answer (fine x)) (s : Stands c d file x) where
     starts : outer.start ≡ x.place
@@ -88,7 +98,7 @@ module _ (c d : Code) (file : Bytes) (n : ℕ) (outer : PartAnswer) (inner : Par
     slice_is : slice ≡ record_bytes x.records
     unfolding part_answer part_bytes
     slice_is =
-        let size : outer.start + outer.len - outer.start ≡ length (record_bytes x.records) = omega (arith, ap (λ (a : PartAnswer). a.len) e) in
+        let size : outer.len ≡ length (record_bytes x.records) = ap (λ (a : PartAnswer). a.len) e in
         rw (size, starts) s.slice
 
     reads : file_records slice ≡ x.records
@@ -126,3 +136,10 @@ pub named-slice : (file : Bytes) (o : Outcome Placed) (q : PartAnswer) → q ≡
 unfolding part_answer part_bytes
 named-slice file (refused why) q e s = rw (ap (λ (a : PartAnswer). a.len) e)
 named-slice file (fine x) q e s = rw (ap (λ (a : PartAnswer). a.len) e, ap (λ (a : PartAnswer). a.start) e) (s x refl)
+
+-- ---- why there is no part
+
+pub refusal_of-part : (r : Result Part Refusal) (o : Outcome Placed) → part_meant r ≡ part_answer o → refusal_told (result_err r) ≡ refusal_of o
+unfolding part_answer
+refusal_of-part (Ok p) o e = ap (λ (a : PartAnswer). a.refusal) e
+refusal_of-part (Err why) o e = ap (λ (a : PartAnswer). a.refusal) e

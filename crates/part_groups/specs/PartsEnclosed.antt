@@ -1,13 +1,18 @@
 -- Envelopes: records that hold parts, as a file holds groups, a group accounts, an account details; and what is found in one. Assumes nothing.
-use Rattle.std.specs.Prelude.{ℕ, ◌<◌, ◌≡◌, not, List, [], ◌∷◌, ◌++◌, T, length, take, drop}
-use Rattle.rules.specs.Bytes.{Bytes}
+use Rattle.std.specs.Prelude.{ℕ, ◌+◌, ◌<◌, ◌≤◌, ◌≡◌, true, false, not, List, [], ◌∷◌, ◌++◌, T, Result, Ok, Err, length, take, drop}
+use Rattle.rules.specs.Bytes.{Bytes, same_bytes}
 use Rattle.rules.specs.Outcome.{Refusal, Outcome, refused, fine, ◌>>=◌}
-use Rattle.rules.specs.Lines.{Code, continuation, Record, record_bytes, file_records}
+use Rattle.rules.specs.Lines.{Code, continuation, lines_of, code_bytes, Record, record_size, record_bytes, file_records}
 use Rattle.rules.specs.Order.{among}
 use Rattle.rules.specs.Parts.{heads, cut_at, Placed, part_in}
 use Rattle.rules.specs.Combine.{concat}
 use Rattle.rules.specs.Answers.{PartAnswer, part_answer}
 use Rattle.laws.specs.LawWords.{All, Begins, IsRecord}
+use Rattle.base_quantities.specs.declared.Place.{Place}
+use Rattle.base_refusals.specs.declared.Refusal as code
+use Rattle.base_refusals.specs.RefusalMeaning.{refusal_meant}
+use Rattle.read_lines.specs.LineLengths.{first_record}
+use Rattle.find_lines.specs.LinesOfCode.{bytes_before}
 use Rattle.part_groups.specs.PartMeaning.{Inside}
 
 -- c opens a part, d ends the envelope, and within a part the codes after the first are others
@@ -36,6 +41,21 @@ pub record Envelope (c d : Code) (rs : List Record) : Type 0 where
   pub whole : rs ≡ first ∷ rest
   pub ahead : Ahead c d others parts rest
   pub cut : cut_at c d rs ≡ record { waiting = first ∷ []; parts = parts }
+
+-- the part that opens at `at` ends at e: after its first record, where the next line of either code starts; `cut_at` (rules/specs/Parts.antt) cuts there, joined by
+-- `turn-of` (proofs/PartTurns.antt)
+pub record PartEnds (c d : Code) (s : Bytes) (at e : ℕ) : Type 0 where
+  pub opens : same_bytes (code_bytes c) (take 3 (drop at s)) ≡ true
+  pub first_end : ℕ
+  pub first : first_end ≡ at + record_size (first_record (lines_of (drop at s)))
+  pub end : e ≡ first_end + bytes_before c d (lines_of (drop first_end s))
+  pub past : at < e
+  pub within : e ≤ length s
+
+-- or none opens there: 17
+abbrev pub EndsAt : Code → Code → Bytes → ℕ → Result Place code.Refusal → Type 0
+EndsAt c d s at (Ok e) = PartEnds c d s at e.0
+EndsAt c d s at (Err why) = (same_bytes (code_bytes c) (take 3 (drop at s)) ≡ false) × (refusal_meant why ≡ record { number = 17; place = 0 })
 
 -- where these bytes are an envelope: its part of number n, as `part_in` of `cut_at` (rules/specs/Parts.antt) gives it; for a file joined to `group_part` by
 -- `group-accepted` (proofs/PartsStand.antt)

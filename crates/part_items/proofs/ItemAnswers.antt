@@ -24,7 +24,21 @@ use Rattle.find_item.specs.ItemSearch.{yielded, items_read, item_sought}
 use Rattle.find_item.proofs.ItemLaws.{yielded-is}
 use Rattle.part_groups.specs.PartsEnclosed.{Numbered}
 use Rattle.part_groups.proofs.PartsStand.{AccountStands, account-stands, account-refuses}
+use Rattle.std.specs.Prelude.{Option, Some, None, Ok, Err}
+use Rattle.std.specs.Option.{ok_or}
+use Rattle.part_groups.specs.declared.Part.{Part}
+use Rattle.part_groups.specs.PartMeaning.{part_meant}
+use Rattle.part_groups.proofs.PartsMoved.{some_number}
+use Rattle.base_refusals.specs.declared.Refusal.{Refusal}
+use Rattle.base_refusals.specs.declared.Reason.TheVariants.{NoSuchPart}
+use Rattle.find_item.specs.declared.Item.{Item}
+use Rattle.find_item.specs.ItemSearch.{found_meant}
+use Rattle.part_items.specs.ItemMeaning.{item_meant}
 use Rattle.part_items.proofs.ItemsRead.{items-read}
+
+-- 17
+abbrev no_such_part : Refusal
+no_such_part = record { reason = NoSuchPart; place = record { 0 = 0 } }
 
 -- ---- an account that stands
 
@@ -60,48 +74,39 @@ abbrev item_of : Outcome Placed → ℕ → Outcome AccountItem
 item_of o n = o >>= λ account. item_from (items_in (first_fields account_header account.records)) n
 
 -- refused
-no-account : (o : Outcome Placed) (n : ℕ) (q : PartAnswer) → q ≡ part_answer o → ¬ (q.refusal.number ≡ 0)
-    → record { refusal = q.refusal; type = 0; amount = empty; count = none } ≡ item_answer (item_of o n)
+no-account : (why : Refusal) (o : Outcome Placed) (n : ℕ) → part_meant (Err why) ≡ part_answer o → item_meant (Err why) ≡ item_answer (item_of o n)
 unfolding part_answer item_answer
-no-account (refused why) n q e h = rw e
-no-account (fine x) n q e h = absurd (h (ap (λ (y : PartAnswer). y.refusal.number) e))
+no-account why (refused w) n e = ap (λ (q : PartAnswer). record { refusal = q.refusal; type = 0; amount = empty; count = none }) e
+no-account why (fine x) n e = absurd (some_number why (ap (λ (q : PartAnswer). q.refusal.number) e))
 
-pub account-refused : (file : Bytes) (g a n : ℕ) (q : PartAnswer) → q ≡ account_part file g a → ¬ (q.refusal.number ≡ 0)
-    → record { refusal = q.refusal; type = 0; amount = empty; count = none } ≡ item_of_file file g a n
+pub account-refused : (why : Refusal) (file : Bytes) (g a n : ℕ) → part_meant (Err why) ≡ account_part file g a → item_meant (Err why) ≡ item_of_file file g a n
 unfolding account_part item_of_file item_at
-account-refused file g a n q e h = no-account (account_at file g a) n q e h
+account-refused why file g a n e = no-account why (account_at file g a) n e
 
 -- found: the part's bytes are the account's
-module _ (file : Bytes) (n : ℕ) (q : PartAnswer) where
+module _ (file : Bytes) (n : ℕ) (p : Part) where
   abbrev part : Bytes
-  part = take (q.start + q.len - q.start) (drop q.start file)
+  part = take p.length (drop p.start.0 file)
 
-  answers : (x : Placed) → q ≡ part_answer (fine x) → AccountStands file x → item_sought part n ≡ item_of (fine x) n
+  answers : (x : Placed) → part_meant (Ok p) ≡ part_answer (fine x) → AccountStands file x → item_sought part n ≡ item_of (fine x) n
   unfolding part_answer part_bytes
   answers x e s =
-      let at : q.start ≡ x.place = ap (λ (y : PartAnswer). y.start) e in
-      let size : q.start + q.len - q.start ≡ length (record_bytes x.records) = omega (arith, ap (λ (y : PartAnswer). y.len) e) in
+      let at : p.start.0 ≡ x.place = ap (λ (q : PartAnswer). q.start) e in
+      let size : p.length ≡ length (record_bytes x.records) = ap (λ (q : PartAnswer). q.len) e in
       let bytes : part ≡ take (length (record_bytes x.records)) (drop x.place file) = rw (size, at) in
       ap (λ (bs : Bytes). item_sought bs n) bytes ∙ items-are file x s n
 
-  answers_by : (o : Outcome Placed) → q ≡ part_answer o → q.refusal.number ≡ 0 → Numbered o → ((x : Placed) → o ≡ fine x → AccountStands file x)
-      → (item_sought part n ≡ item_of o n) × (q.refusal ≡ not_refused)
+  answers_by : (o : Outcome Placed) → part_meant (Ok p) ≡ part_answer o → Numbered o → ((x : Placed) → o ≡ fine x → AccountStands file x) → item_sought part n ≡ item_of o n
   unfolding part_answer
-  answers_by (refused why) e z never stands =
-      let y : q.refusal.number ≡ why.number = ap (λ (w : PartAnswer). w.refusal.number) e in let x = never why refl in absurd (omega arith)
-  answers_by (fine x) e z never stands = (answers x e (stands x refl), ap (λ (y : PartAnswer). y.refusal) e)
+  answers_by (refused why) e never stands = let y : 0 ≡ why.number = ap (λ (q : PartAnswer). q.refusal.number) e in let x = never why refl in absurd (omega arith)
+  answers_by (fine x) e never stands = answers x e (stands x refl)
 
-  module _ (g a : ℕ) (e : q ≡ account_part file g a) (z : q.refusal.number ≡ 0) where
-    found : (item_answer (item_sought part n) ≡ item_of_file file g a n) × (q.refusal ≡ not_refused)
-    unfolding account_part item_of_file item_at
-    found = let r = answers_by (account_at file g a) e z (account-refuses file g a) (account-stands file g a) in (ap item_answer r.0, r.1)
+  -- this item, or none of that number
+  found-item : (r : Option Item) → item_meant (ok_or r no_such_part) ≡ item_answer (found_meant r)
+  unfolding item_answer
+  found-item None = refl
+  found-item (Some i) = refl
 
-    -- no item of that number
-    pub none_found : refuse 17 0 ≡ item_sought part n → record { refusal = record { number = 17; place = 0 }; type = 0; amount = empty; count = none } ≡ item_of_file file g a n
-    unfolding item_answer
-    none_found h = ap item_answer h ∙ found.0
-
-    -- this one
-    pub one_found : (i : AccountItem) → fine i ≡ item_sought part n → record { refusal = q.refusal; type = i.type; amount = i.amount; count = i.count } ≡ item_of_file file g a n
-    unfolding item_answer
-    one_found i h = rw found.1 (ap item_answer h ∙ found.0)
+  pub item-found : (g a : ℕ) (r : Option Item) → part_meant (Ok p) ≡ account_part file g a → found_meant r ≡ item_sought part n → item_meant (ok_or r no_such_part) ≡ item_of_file file g a n
+  unfolding account_part item_of_file item_at
+  item-found g a r e h = found-item r ∙ ap item_answer (h ∙ answers_by (account_at file g a) e (account-refuses file g a) (account-stands file g a))

@@ -1,43 +1,41 @@
 -- What `record_at` answers at each place that the code reaches. Assumes nothing.
-use Prim.Native.Nat.{ℕ, zero, suc, ◌+◌, ◌-◌, ◌≤◌, ◌<◌}
+use Prim.Native.Nat.{ℕ, ◌+◌, ◌-◌, ◌≤◌, ◌<◌}
 use native.Mathlib.Omega.{arith}
-use mathlib.Core.Path.{◌≡◌, refl, sym, ap, subst, ◌∙◌}
-use mathlib.Core.List.{List, [], ◌∷◌}
+use mathlib.Core.Path.{◌≡◌, refl, sym, ap, ◌∙◌}
+use mathlib.Core.List.{◌∷◌}
 use mathlib.Core.Option.{none, some}
-use mathlib.Core.Bool.{true, false}
-use lib.ListN.{length, take, drop, get_or, length-take, length-drop, drop_of_length-le}
+use lib.ListN.{length, take, drop, length-drop, drop_of_length-le}
 use lib.Seq.{drop-drop, length-take-le}
-use Rattle.rules.specs.Bytes.{Bytes, same_bytes}
-use Rattle.rules.specs.Outcome.{refuse, fine, ◌>>=◌}
-use Rattle.rules.specs.Lines.{Line, Code, file_header, group_header, account_header, detail, continuation, lines_of, code_bytes, code_in, code_of, Record, records_of, record_size, file_records}
-use Rattle.rules.proofs.Tests.{same-eq}
+use Rattle.rules.specs.Bytes.{Bytes}
+use Rattle.rules.specs.Outcome.{refused, fine, ◌>>=◌}
+use Rattle.rules.specs.Lines.{lines_of, code_of, records_of, record_size, file_records}
 use Rattle.rules.specs.Verdict.{coded}
 use Rattle.rules.specs.HandedOut.{first_coded, record_at, record_answer}
-use Rattle.base_quantities.specs.declared.Records.{Records}
 use Rattle.base_codes.specs.declared.Code as code
 use Rattle.base_codes.specs.CodeMeaning.{code_meant}
 use Rattle.read_lines.specs.LineLengths.{line_len, first_line, further, first_record}
 use Rattle.read_lines.proofs.LineLengthLaws.{first_of}
-use Rattle.read_lines.proofs.Fronts.{begins-front}
-use Rattle.read_lines.proofs.LineLaws.{record-start, further-none}
+use Rattle.read_lines.proofs.LineLaws.{record-start}
 use Rattle.read_lines.proofs.OneRecord.{first_part, one-record, lines-size}
-use Rattle.part_records.specs.declared.Found.{Found}
-use Rattle.part_records.specs.declared.Found.TheVariants as found
+use Rattle.std.specs.Prelude.{Ok, Err}
+use Rattle.base_refusals.specs.declared.Refusal.{Refusal}
+use Rattle.base_refusals.specs.declared.Reason.TheVariants as reasons
+use Rattle.base_refusals.specs.RefusalMeaning.{refusal_meant}
 use Rattle.part_records.specs.RecordsFound.{Finds}
 
 module _ (file : Bytes) (start : ℕ) where
   abbrev there : Bytes
   there = drop start file
 
-  -- refused by this number at this place
-  refused-finds : (r : Found) (n p : ℕ) → r ≡ found.Refused (record { number = n; place = record { 0 = p } }) → record_at file start ≡ refuse n p → Finds file start r
+  -- refused
+  refused-finds : (why : Refusal) → record_at file start ≡ refused (refusal_meant why) → Finds file start (Err why)
   unfolding record_answer
-  refused-finds r n p q e = subst (Finds file start) (sym q) (record { answer = sym (ap record_answer e); outcome = e; inside = tt })
+  refused-finds why e = record { answer = sym (ap record_answer e); outcome = e; inside = tt }
 
   -- past the end
-  pub past_finds : (r : Found) → r ≡ found.Refused (record { number = 17; place = record { 0 = 0 } }) → length file ≤ start → Finds file start r
+  pub past_finds : length file ≤ start → Finds file start (Err (record { reason = reasons.NoSuchPart; place = record { 0 = 0 } }))
   unfolding record_at first_coded file_records records_of lines_of
-  past_finds r q h = refused-finds r 17 0 q (rw (drop_of_length-le file {i = start} h))
+  past_finds h = refused-finds _ (rw (drop_of_length-le file {i = start} h))
 
   module _ (h : start < length file) where
     some_byte : 0 < length there
@@ -48,9 +46,9 @@ module _ (file : Bytes) (start : ℕ) where
     unfolding record_at first_coded file_records first_record
     by_code = rw (one-record there (record_size (first_record (lines_of there))) refl some_byte, first_of there some_byte)
 
-    pub uncoded-finds : (r : Found) → r ≡ found.Refused (record { number = 5; place = record { 0 = start } }) → none ≡ code_of (first_line there) → Finds file start r
+    pub uncoded-finds : none ≡ code_of (first_line there) → Finds file start (Err (record { reason = reasons.NoRecordCode; place = record { 0 = start } }))
     unfolding coded
-    uncoded-finds r q e = refused-finds r 5 start q (by_code ∙ rw (← e))
+    uncoded-finds e = refused-finds _ (by_code ∙ rw (← e))
 
     -- n: where the next line starts; it is followed by `lines` 88 lines up to `end`
     module _ (c : code.Code) (e : some (code_meant c) ≡ code_of (first_line there)) (n lines end : ℕ) (hn : n ≡ start + line_len there)
@@ -77,58 +75,8 @@ module _ (file : Bytes) (start : ℕ) where
       count-is : lines + 1 ≡ length (lines_of (take size there))
       count-is = rw (part-is, first) (omega (arith, hl))
 
-      pub coded-finds : start ≤ end → Finds file start (found.Record c (record { 0 = lines + 1 }) size)
+      pub coded-finds : start ≤ end → Finds file start (Ok (record { code = c; lines = record { 0 = lines + 1 }; length = size }))
       unfolding record_answer
       coded-finds low =
           let length-is : record_size (lines_of (take size there)) ≡ size = lines-size (take size there) ∙ length-take-le size there (omega (arith, length-drop start file)) in
           record { answer = sym (ap record_answer outcome-is ∙ rw (length-is, ← count-is)); outcome = outcome-is; inside = omega arith }
-
-    -- it is followed by no 88 line
-    pub single-finds : (c : code.Code) → some (code_meant c) ≡ code_of (first_line there) → (n : ℕ) → n ≡ start + line_len there → same_bytes (code_bytes continuation) (take 3 (drop n file)) ≡ false
-        → n ≤ length file → start ≤ n → Finds file start (found.Record c (record { 0 = 1 }) (n - start))
-    unfolding record_size
-    single-finds c e n hn last within low =
-        let z = further-none file n last in
-        let size : n ≡ n + 0 = omega arith in
-        coded-finds c e n 0 n hn (sym (ap length z)) (size ∙ sym (ap (λ (ls : List Line). n + record_size ls) z)) within low
-
--- ---- the code of a line: a detail's, or sought one after the other
-
-pub detail-found : (xs : Bytes) → same_bytes (code_bytes detail) (take 3 xs) ≡ true → code_of (first_line xs) ≡ some detail
-unfolding code_of code_in same_bytes
-detail-found xs t =
-    let is : take 3 xs ≡ code_bytes detail = sym (same-eq (code_bytes detail) (take 3 xs) (rw t tt)) in
-    rw (begins-front file_header xs, begins-front group_header xs, begins-front account_header xs, begins-front detail xs, is)
-
-unfoldable pub meant : List code.Code → List Code
-meant [] = []
-meant (c ∷ cs) = code_meant c ∷ meant cs
-
-from-here : (cs : List code.Code) (i : ℕ) (d : code.Code) → i < length cs → drop i (meant cs) ≡ code_meant (get_or cs i d) ∷ drop (i + 1) (meant cs)
-unfolding meant
-from-here [] i d h = absurd (omega arith)
-from-here (c ∷ cs) zero d h = refl
-from-here (c ∷ cs) (suc i) d h = let z : suc i + 1 ≡ suc (i + 1) = omega arith in rw z (from-here cs i d (omega arith))
-
-module _ (xs : Bytes) (cs : List code.Code) (i : ℕ) (d : code.Code) (h : i < length cs) where
-  abbrev this : Code
-  this = code_meant (get_or cs i d)
-
-  pub code-found : same_bytes (code_bytes this) (take 3 xs) ≡ true → code_in (drop i (meant cs)) (first_line xs) ≡ some this
-  unfolding code_in
-  code-found t = rw (from-here cs i d h, begins-front this xs, t)
-
-  pub code-passed : same_bytes (code_bytes this) (take 3 xs) ≡ false → code_in (drop i (meant cs)) (first_line xs) ≡ code_in (drop (i + 1) (meant cs)) (first_line xs)
-  unfolding code_in
-  code-passed t = rw (from-here cs i d h, begins-front this xs, t)
-
--- none is left
-pub none_left : (xs : Bytes) (cs : List code.Code) (i : ℕ) → length cs ≤ i → code_in (drop i (meant cs)) (first_line xs) ≡ none
-unfolding code_in meant
-none_left xs [] i h = nothing i
-  where
-    nothing : (n : ℕ) → code_in (drop n []) (first_line xs) ≡ none
-    nothing zero = refl
-    nothing (suc n) = refl
-none_left xs (c ∷ cs) zero h = absurd (omega arith)
-none_left xs (c ∷ cs) (suc i) h = none_left xs cs i (omega arith)

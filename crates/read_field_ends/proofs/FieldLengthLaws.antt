@@ -1,56 +1,45 @@
--- Bytes up to a comma or slash, blanks in front, and trailing blanks, as the loops over a field's bytes meet them. Assumes nothing.
-use Prim.Native.Nat.{ℕ, zero, suc, ◌+◌, ◌-◌, ◌≤◌, ◌<◌}
+-- Bytes up to a comma or slash, blanks in front, and trailing blanks. Assumes nothing.
+use Prim.Native.Nat.{ℕ, suc, ◌+◌, ◌≤◌, ◌<◌, zero-le}
 use mathlib.Core.Path.{◌≡◌, refl, sym, ap, ◌∙◌}
 use mathlib.Core.Bool.{Bool, true, false, cond, not}
-use mathlib.Core.List.{[], ◌∷◌, ◌++◌}
-use native.Mathlib.Numerals.{add-one}
+use mathlib.Core.List.{[], ◌∷◌, ◌++◌, reverse, reverse-cons, reverse-reverse}
 use native.Mathlib.Omega.{arith}
 use lib.Dec.{eqb, ltb}
-use lib.ListN.{length, get_or, take, drop, drop_of_length-le, length-take}
-use lib.Seq.{drop-cons, take_all, take-suc, length-take-le}
-use borrow.Author.Tests.{ne_eqb, ltb-true, ltb-false, lt-ltb, le-ltb}
-use Rattle.rules.specs.Bytes.{Bytes, blank, comma, slash, trimmed, trimmed_before}
+use lib.ListN.{length, take, length-take, length-append, length-reverse}
+use borrow.Author.Tests.{ne_eqb, eq-eqb, eqb-true, ltb-true, ltb-false}
+use Rattle.rules.specs.Bytes.{Bytes, blank, trimmed, trimmed_before}
+use Rattle.rules.proofs.Tests.{Known, holds, fails, known}
 use Rattle.rules.specs.Cells.{leading_blanks}
-use Rattle.read_field_ends.specs.FieldLengths.{until, is_mark, field_len, extent_of}
-use Rattle.read_field_ends.specs.declared.Extent.TheVariants.{Field, Open}
+use Rattle.read_field_ends.specs.FieldLengths.{until, field_len, extent_of}
+use Rattle.std.specs.Prelude.{Some, None}
+use Rattle.std.specs.List.{position_or_len}
+use Rattle.std.proofs.lemmas.Bool.{false≢true}
+use Rattle.std.proofs.lemmas.List.Recursion.{is_position_or_len}
 
 -- ---- up to the first byte that passes a test
 
-module _ (test : ℕ → Bool) (f : Bytes) (i : ℕ) (left : i + until test (drop i f) ≡ until test f) where
-  pub until_stop : i < length f → test (get_or f i 0) ≡ true → i ≡ until test f
-  unfolding until
-  until_stop h e = let z = rw (drop-cons f i 0 h, e) at left in omega arith
+one_more : (t : Bool) (n : ℕ) → cond t 0 (suc n) ≡ cond t 0 (1 + n)
+one_more true n = refl
+one_more false n = omega arith
 
-  pub until-on : i < length f → test (get_or f i 0) ≡ false → i + 1 + until test (drop (i + 1) f) ≡ until test f
-  unfolding until
-  until-on h e = let z = rw (drop-cons f i 0 h, e) at left in rw (add-one i) (omega arith)
+pub until-position : (test : ℕ → Bool) (f : Bytes) → until test f ≡ position_or_len test f
+unfolding until
+until-position test f = is_position_or_len (until test) test refl (λ b bs. one_more (test b) (until test bs)) f
 
-  pub until_end : length f ≤ i → i ≡ until test f
-  unfolding until
-  until_end h = let z = rw (drop_of_length-le f h) at left in omega arith
-
--- ---- a comma or slash
-
-pub mark-comma : (b : ℕ) → b ≡ comma → is_mark b ≡ true
-mark-comma b e = rw e
-
-pub mark-slash : (b : ℕ) → b ≡ slash → is_mark b ≡ true
-mark-slash b e = rw e
-
-pub mark-none : (b : ℕ) → (b ≡ comma → ⊥) → (b ≡ slash → ⊥) → is_mark b ≡ false
-mark-none b h k = rw (ne_eqb b comma h, ne_eqb b slash k)
+pub until-within : (test : ℕ → Bool) (f : Bytes) → until test f ≤ length f
+unfolding until
+until-within test [] = zero-le
+until-within test (b ∷ f) = go (test b) (until-within test f)
+  where
+    go : (t : Bool) → until test f ≤ length f → cond t 0 (suc (until test f)) ≤ suc (length f)
+    go true h = zero-le
+    go false h = omega arith
 
 -- ---- blanks in front
 
 -- a byte that is no blank
 abbrev pub no_blank : ℕ → Bool
 no_blank b = not (eqb b blank)
-
-pub blank_none : (b : ℕ) → (b ≡ blank → ⊥) → no_blank b ≡ true
-blank_none b h = rw (ne_eqb b blank h)
-
-pub blank-here : (b : ℕ) → b ≡ blank → no_blank b ≡ false
-blank-here b e = rw e
 
 pub blanks-until : (f : Bytes) → until no_blank f ≡ leading_blanks f
 unfolding until leading_blanks
@@ -78,29 +67,21 @@ unfolding trimmed trimmed_before
 other_last [] b h = rw (ne_eqb b blank h)
 other_last (c ∷ s) b h = ap (trimmed_before c) (other_last s b h) ∙ before-some c b s
 
-module _ (s : Bytes) (n : ℕ) (some : 0 < n) (long : n ≤ length s) (left : trimmed (take n s) ≡ trimmed s) where
-  last_of : take n s ≡ take (n - 1) s ++ (get_or s (n - 1) 0 ∷ [])
-  last_of =
-      let e : n ≡ suc (n - 1) = omega arith in
-      ap (λ (k : ℕ). take k s) e ∙ take-suc s (n - 1) 0 (omega arith)
+-- so many blanks stand behind: in front of the bytes in reverse
+trimmed-behind : (r : Bytes) → length (trimmed (reverse r)) + until no_blank r ≡ length r
+unfolding until trimmed
+trimmed-behind [] = refl
+trimmed-behind (b ∷ r) = rw (reverse-cons b r) (go (known (eqb b blank)) (trimmed-behind r))
+  where
+    go : Known (eqb b blank) → length (trimmed (reverse r)) + until no_blank r ≡ length r
+        → length (trimmed (reverse r ++ (b ∷ []))) + cond (not (eqb b blank)) 0 (suc (until no_blank r)) ≡ suc (length r)
+    go (holds e) ih = rw (e, eqb-true b blank e, blank-last (reverse r)) (omega arith)
+    go (fails e) ih =
+        rw (e, other_last (reverse r) b (λ h. absurd (false≢true (sym e ∙ eq-eqb b blank h))), length-append (reverse r) (b ∷ []), length-reverse r)
+        (omega arith)
 
-  -- the last byte is no blank: here it ends
-  pub trim-stop : (get_or s (n - 1) 0 ≡ blank → ⊥) → n ≡ length (trimmed s)
-  trim-stop h =
-      let e : take n s ≡ trimmed s = last_of ∙ sym (other_last (take (n - 1) s) (get_or s (n - 1) 0) h) ∙ ap trimmed (sym last_of) ∙ left in
-      sym (length-take-le n s long) ∙ ap length e
-
-  pub trim-on : get_or s (n - 1) 0 ≡ blank → trimmed (take (n - 1) s) ≡ trimmed s
-  trim-on h =
-      sym (blank-last (take (n - 1) s)) ∙ ap (λ (b : ℕ). trimmed (take (n - 1) s ++ (b ∷ []))) (sym h) ∙ ap trimmed (sym last_of) ∙ left
-
-pub trim_start : (s : Bytes) → trimmed (take (length s) s) ≡ trimmed s
-trim_start s = ap trimmed (take_all (length s) s (omega arith))
-
-pub trim-none : (s : Bytes) (n : ℕ) → n ≤ 0 → trimmed (take n s) ≡ trimmed s → n ≡ length (trimmed s)
-unfolding trimmed
-trim-none s zero h e = ap length e
-trim-none s (suc n) h e = absurd (omega arith)
+pub trimmed-rest : (s : Bytes) → length (trimmed s) + until no_blank (reverse s) ≡ length s
+trimmed-rest s = rw (reverse-reverse s, length-reverse s) at (trimmed-behind (reverse s))
 
 -- what is left is the front
 trim-front-step : (b : ℕ) (s t : Bytes) → t ≡ trimmed s → take (length t) s ≡ t → take (length (trimmed_before b t)) (b ∷ s) ≡ trimmed_before b t
@@ -117,49 +98,35 @@ unfolding trimmed
 trim-front [] = refl
 trim-front (b ∷ s) = trim-front-step b s (trimmed s) refl (trim-front s)
 
--- ---- how far a field goes, case by case, and what a caller knows of it
+-- ---- what a caller knows of how far a field goes
 
-module _ (s : Bytes) (n : ℕ) where
-  pub text-extent : n ≡ length (trimmed s) → Field n ≡ extent_of true s
-  unfolding extent_of
-  text-extent e = rw e
-
-  module _ (e : n ≡ field_len s) where
-    pub field-extent : n < length s → Field n ≡ extent_of false s
-    unfolding extent_of
-    field-extent h = rw (← e, lt-ltb n (length s) h)
-
-    pub open-extent : length s ≤ n → Open ≡ extent_of false s
-    unfolding extent_of
-    open-extent h = rw (← e, le-ltb n (length s) h)
-
-cond-field : (t : Bool) (n m : ℕ) → Field n ≡ cond t (Field m) Open → (t ≡ true) × (n ≡ m)
+cond-field : (t : Bool) (n m : ℕ) → Some n ≡ cond t (Some m) None → (t ≡ true) × (n ≡ m)
 cond-field true n m e = (refl, cc)
 cond-field false n m e = absurd (let z : ◌≡◌ {A = ℕ} 0 1 = cc in omega arith)
 
 -- a field that is no text ends at its comma or slash
-pub extent-short : (s : Bytes) (n : ℕ) → Field n ≡ extent_of false s → (n ≡ field_len s) × (n < length s)
+pub extent-short : (s : Bytes) (n : ℕ) → Some n ≡ extent_of false s → (n ≡ field_len s) × (n < length s)
 unfolding extent_of
 extent-short s n e =
     let z = cond-field (ltb (field_len s) (length s)) n (field_len s) e in
     (z.1, rw z.1 (ltb-true (field_len s) (length s) z.0))
 
-cond-open : (t : Bool) (m : ℕ) → Open ≡ cond t (Field m) Open → t ≡ false
+cond-open : (t : Bool) (m : ℕ) → None ≡ cond t (Some m) None → t ≡ false
 cond-open true m e = absurd (let z : ◌≡◌ {A = ℕ} 0 1 = cc in omega arith)
 cond-open false m e = refl
 
 -- where the line is open, it has no comma or slash, and no text was wanted
-pub extent-open : (text : Bool) (s : Bytes) → Open ≡ extent_of text s → (text ≡ false) × (length s ≤ field_len s)
+pub extent-open : (text : Bool) (s : Bytes) → None ≡ extent_of text s → (text ≡ false) × (length s ≤ field_len s)
 unfolding extent_of
 extent-open true s e = absurd (let z : ◌≡◌ {A = ℕ} 0 1 = cc in omega arith)
 extent-open false s e = (refl, ltb-false (field_len s) (length s) (cond-open (ltb (field_len s) (length s)) (field_len s) e))
 
 -- a text is all of the line, less trailing blanks
-pub extent-text : (s : Bytes) (n : ℕ) → Field n ≡ extent_of true s → take n s ≡ trimmed s
+pub extent-text : (s : Bytes) (n : ℕ) → Some n ≡ extent_of true s → take n s ≡ trimmed s
 unfolding extent_of
 extent-text s n e = let z : n ≡ length (trimmed s) = cc in rw z (trim-front s)
 
-pub extent-within : (text : Bool) (s : Bytes) (n : ℕ) → Field n ≡ extent_of text s → n ≤ length s
+pub extent-within : (text : Bool) (s : Bytes) (n : ℕ) → Some n ≡ extent_of text s → n ≤ length s
 unfolding extent_of
 extent-within true s n e =
     let z : n ≡ length (trimmed s) = cc in

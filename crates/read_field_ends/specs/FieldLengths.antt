@@ -1,8 +1,6 @@
 -- "Fields end at a comma or slash": how long the first field is of what is left of a line. Assumes nothing.
-use Rattle.std.specs.Prelude.{ℕ, suc, Bool, true, false, cond, ◌||◌, [], ◌∷◌, eqb, ltb, length}
+use Rattle.std.specs.Prelude.{ℕ, suc, Bool, true, false, cond, ◌||◌, [], ◌∷◌, eqb, ltb, length, Option, Some, None}
 use Rattle.rules.specs.Bytes.{Bytes, comma, slash, trimmed}
-use Rattle.read_field_ends.specs.declared.Extent.{Extent}
-use Rattle.read_field_ends.specs.declared.Extent.TheVariants.{Field, Open}
 
 -- how many bytes stand before the first that passes the test
 unfoldable pub until : (ℕ → Bool) → Bytes → ℕ
@@ -17,7 +15,7 @@ is_mark b = eqb b comma || eqb b slash
 abbrev pub field_len : Bytes → ℕ
 field_len bs = until is_mark bs
 
--- a text takes all, less trailing blanks; any other field ends at a comma or slash
-unfoldable pub extent_of : Bool → Bytes → Extent
-extent_of true bs = Field (length (trimmed bs))
-extent_of false bs = cond (ltb (field_len bs) (length bs)) (Field (field_len bs)) Open
+-- a text takes all, less trailing blanks; any other field ends at a comma or slash; none: the line ends before one
+unfoldable pub extent_of : Bool → Bytes → Option ℕ
+extent_of true bs = Some (length (trimmed bs))
+extent_of false bs = cond (ltb (field_len bs) (length bs)) (Some (field_len bs)) None

@@ -1,74 +1,32 @@
 // How long a field is in what is left of a line: up to a comma or slash, or, of a text, up to its trailing blanks.
 
-#![tactic(auto)]
+#![tactic(auto, unfolding(crate::specs::FieldLengths::extent_of))]
 
 ghost use Rattle.std.specs.Prelude.{◌≡◌, ◌≤◌, length};
 ghost use Rattle.rules.specs.Bytes.{trimmed};
 ghost use Rattle.rules.specs.Cells.{leading_blanks};
-ghost use Rattle.read_field_ends.specs.FieldLengths.{field_len, extent_of};
-
-// How far a field goes: so many bytes; or the line ends before a comma or slash.
-#[derive(Clone, Copy)]
-pub enum Extent {
-    Field(usize),
-    Open,
-}
-
-// How many bytes stand before the first comma or slash.
-fn field_len(f: &[u8]) -> usize
-    ensures { (result ≡ field_len f.now) × (result ≤ length f.now) }
-{
-    let mut i: usize = 0;
-    while i < f.len() {
-        if f[i] == b',' {
-            return i;
-        }
-        if f[i] == b'/' {
-            return i;
-        }
-        i += 1;
-    }
-    i
-}
+ghost use Rattle.read_field_ends.specs.FieldLengths.{extent_of};
 
 // How many blanks stand in front.
 pub fn blanks_len(f: &[u8]) -> usize
     ensures { (result ≡ leading_blanks f.now) × (result ≤ length f.now) }
 {
-    let mut i: usize = 0;
-    while i < f.len() {
-        if f[i] != b' ' {
-            return i;
-        }
-        i += 1;
-    }
-    i
+    f.iter().position(|&b| b != b' ').unwrap_or(f.len())
 }
 
 // How many bytes are left without the trailing blanks.
 fn trimmed_len(f: &[u8]) -> usize
     ensures { result ≡ length (trimmed f.now) }
 {
-    let mut n = f.len();
-    while 0 < n {
-        if f[n - 1] != b' ' {
-            return n;
-        }
-        n -= 1;
-    }
-    n
+    f.len() - f.iter().rev().position(|&b| b != b' ').unwrap_or(f.len())
 }
 
-// How long the first field is of what is left of a line; a text takes all of it, less trailing blanks.
-pub fn field_extent(text: bool, rest: &[u8]) -> Extent
+// How long the first field is of what is left of a line, unless the line ends before a comma or slash; a text takes all of it, less trailing blanks.
+pub fn field_extent(text: bool, rest: &[u8]) -> Option<usize>
     ensures { result ≡ extent_of text rest.now }
 {
     if text {
-        return Extent::Field(trimmed_len(rest));
+        return Some(trimmed_len(rest));
     }
-    let n = field_len(rest);
-    if n < rest.len() {
-        return Extent::Field(n);
-    }
-    Extent::Open
+    rest.iter().position(|&b| b == b',' || b == b'/')
 }

@@ -1,6 +1,6 @@
 // A record's fields: what one must be as the first of what is wanted.
 
-#![tactic(auto)]
+#![tactic(auto, unfolding(rules::specs::Grammar::take_next, rules::specs::Grammar::judged, rules::specs::Grammar::fields_of, read_wanted::specs::Wants::wanted_of, read_wanted::specs::Wants::wanted_after, read_wanted::specs::Wants::references, read_wanted::specs::TakenMeaning::judged_of))]
 
 ghost use Rattle.std.specs.Prelude.{◌≡◌};
 ghost use Rattle.rules.specs.Grammar.{take_next};
@@ -8,7 +8,7 @@ ghost use Rattle.read_wanted.specs.Wants.{wanted_of};
 ghost use Rattle.read_wanted.specs.TakenMeaning.{judged_of};
 
 use base_digits::{is_digits, is_signed, is_unsigned};
-use base_refusals::WRONG_FIELD;
+use base_refusals::Reason;
 use read_values::date::is_date;
 use read_values::{
     is_currency, is_empty, is_length, is_name, is_one_of, is_reference, is_time, type_class,
@@ -19,7 +19,7 @@ use read_wanted::{
     take_pair_count, take_piece, take_version,
 };
 
-// The answer on a field with these bytes, as the first of what is wanted; of a text, these are the line from its place on, trimmed.
+// The answer on a field with these bytes, as the first of what is wanted; of a text, these are the line from its place on, trimmed. One table, a line for each place of a field.
 pub fn take_field(want: Want, f: &[u8]) -> Taken
     ensures { judged_of result ≡ take_next (wanted_of want) f.now }
 {
@@ -71,28 +71,13 @@ pub fn take_field(want: Want, f: &[u8]) -> Taken
         Want::Total => fitted(is_signed(f), Want::Count),
         Want::Count => fitted(is_digits(f, 1, 9), Want::Records),
         Want::Records => fitted(is_digits(f, 1, 9), Want::End),
-        Want::End => Taken::Refused(WRONG_FIELD),
+        Want::End => Err(Reason::WrongField),
     }
 }
 
-// The same answer. The fields of a detail, most of a file's fields, stand in a short table, which the compiler draws into the walk; the rest go by the whole one.
+// The same answer. The fields of a detail, most of a file's fields, stand in a short table, which is drawn into each walk that calls it; the rest go by the whole one.
+#[inline(always)]
 pub fn take_detail_first(want: Want, f: &[u8]) -> Taken
-    ensures { judged_of result ≡ take_next (wanted_of want) f.now }
-{
-    match want {
-        Want::DetailType => detail(type_class(f)),
-        Want::DetailAmount => fitted_or_none(f, is_unsigned(f), Want::DetailFunds),
-        Want::DetailFunds => take_funds(f, After::References),
-        Want::BankReference => fitted(is_reference(f), Want::CustomerReference),
-        Want::CustomerReference => fitted(is_reference(f), Want::Text),
-        Want::Text => take_first_piece(f),
-        Want::FurtherText => take_piece(f),
-        _ => take_field(want, f),
-    }
-}
-
-// The same answer once more, for the walk that yields fields (`find_next`): a table that two walks call is drawn into neither.
-pub fn take_yielded(want: Want, f: &[u8]) -> Taken
     ensures { judged_of result ≡ take_next (wanted_of want) f.now }
 {
     match want {

@@ -5,6 +5,7 @@ use native.Mathlib.Nat.{zero-add}
 use mathlib.Core.Path.{◌≡◌, sym, ap, ◌∙◌}
 use mathlib.Core.List.{◌∷◌, [], ◌++◌, append_assoc}
 use lib.ListN.{length}
+use Rattle.std.specs.Prelude.{Result, Ok, Err}
 use Rattle.rules.specs.Bytes.{Bytes}
 use Rattle.rules.specs.Outcome.{fine}
 use Rattle.rules.specs.Lines.{file_records}
@@ -13,13 +14,13 @@ use Rattle.rules.specs.Limits.{longest_file}
 use Rattle.rules.specs.Parts.{header_in, groups_in}
 use Rattle.rules.specs.Combine.{concat}
 use Rattle.laws.proofs.Groups.{decomposed, limit_is}
+use Rattle.base_refusals.specs.declared.Refusal.{Refusal}
 use Rattle.base_totals.specs.SummaryMeaning.{summary_meant}
 use Rattle.read_file.specs.FileMeanings.{state_meant, Held}
 use Rattle.read_file.proofs.FileRunLaws.{run_from, last_start, last_from, last_of, judge-end}
 use Rattle.read_file.specs.FileAnswers.{EndIs, IsGood, JudgedIs}
 use Rattle.read_file.specs.declared.state.State.{State}
-use Rattle.read_file.specs.declared.Judged.{Judged}
-use Rattle.read_file.specs.declared.Judged.TheVariants as judged
+use Rattle.read_file.specs.declared.GoodFile.{GoodFile}
 
 -- the state after the last record, and where that starts
 module _ (file : Bytes) (s : State) (last : ℕ) (some : 0 < length file) (short : length file ≤ longest_file) (held : Held s) (few : s.file.records.0 ≤ longest_file)
@@ -40,6 +41,6 @@ module _ (file : Bytes) (s : State) (last : ℕ) (some : 0 < length file) (short
         records = few;
       }
 
-  pub judged-end : (r : Judged) → EndIs r s last (length file) → JudgedIs r file
-  judged-end (judged.Refused why) e = judge-end file some short (state_meant s) runs ∙ e
-  judged-end (judged.Accepted g) (e, is) = rw is (good (judge-end file some short (state_meant s) runs ∙ e))
+  pub judged-end : (r : Result GoodFile Refusal) → EndIs r s last (length file) → JudgedIs r file
+  judged-end (Err why) e = judge-end file some short (state_meant s) runs ∙ e
+  judged-end (Ok g) (e, is) = rw is (good (judge-end file some short (state_meant s) runs ∙ e))

@@ -9,6 +9,8 @@ use Rattle.rules.specs.Lines.{Code, Record}
 use Rattle.rules.specs.Totals.{Summary, ◌⊞◌, no_summary}
 use Rattle.rules.specs.Order.{may_follow, group_open, account_open}
 use Rattle.rules.specs.Verdict.{State, own_lines}
+use Rattle.std.specs.Prelude.{Some, None}
+use Rattle.base_quantities.specs.declared.Place.{Place}
 use Rattle.read_kept.specs.declared.Kept.{Kept}
 use Rattle.read_trailers.specs.TrailerChecks.{balanced_k}
 use Rattle.read_file.specs.RecordSteps.{limit_k, this_k, next_k, settled_k}
@@ -19,12 +21,12 @@ module _ (s : State) (r : Record) (c : Code) (k : Kept) where
   settle-long why e = rw e
 
   module _ (l : own_lines c (limit_k c s.limit k) r ≡ fine tt) where
-    pub settle-over : k.over ≡ true → settled_k s r c k ≡ refuse 10 k.past.0
+    pub settle-over : (p : Place) → k.past ≡ Some p → settled_k s r c k ≡ refuse 10 p.0
     unfolding settled_k
-    settle-over o = rw (l, o)
+    settle-over p o = rw (l, o)
 
     -- with what the record adds, and the summaries with it
-    module _ (o : k.over ≡ false) (t a g f : Summary) (is : t ≡ this_k c (length r) k) (ea : a ≡ s.account ⊞ t) (eg : g ≡ s.group ⊞ t) (ef : f ≡ s.file ⊞ t) where
+    module _ (o : k.past ≡ None) (t a g f : Summary) (is : t ≡ this_k c (length r) k) (ea : a ≡ s.account ⊞ t) (eg : g ≡ s.group ⊞ t) (ef : f ≡ s.file ⊞ t) where
       pub settle-wrong : (why : Refusal) → balanced_k c a g f k ≡ refused why → settled_k s r c k ≡ refused why
       unfolding settled_k
       settle-wrong why b = let w = rw (ea, eg, ef, is) at b in rw (l, w, o)

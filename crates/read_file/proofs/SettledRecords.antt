@@ -13,7 +13,8 @@ use Rattle.rules.specs.Grammar.{total, count, records, physical_length}
 use Rattle.rules.specs.Records.{Field, the}
 use Rattle.rules.specs.Totals.{Summary, ◌⊞◌, of_record, balanced, right_total, right_count, right_records, sum_within}
 use Rattle.rules.specs.Verdict.{State, limit_given, limit_after, own_lines, state_after, settled}
-use Rattle.rules.proofs.Tests.{Known, holds, fails, known}
+use Rattle.std.specs.Prelude.{Option, Some, None, unwrap_or}
+use Rattle.base_quantities.specs.declared.Place.{Place}
 use Rattle.read_kept.specs.declared.Kept.{Kept}
 use Rattle.read_kept.specs.KeptOfFields.{KeptOf, over_of}
 use Rattle.read_trailers.specs.TrailerChecks.{within_k, total_k, count_k, records_k, account_k, trailer_k, balanced_k}
@@ -22,11 +23,11 @@ use Rattle.read_file.specs.RecordSteps.{limit_k, this_k, next_k, settled_k}
 -- what is kept of these fields, after records with magnitudes m
 module _ (m : ℕ) (fs : List Field) (k : Kept) (is : KeptOf m fs k) where
   -- ---- L
-  given-right : (limit : ℕ) → cond k.length_given k.length limit ≡ limit_given limit fs
+  given-right : (limit : ℕ) → unwrap_or k.length limit ≡ limit_given limit fs
   unfolding limit_given
-  given-right limit = rw (ap (λ x. x.0) is.length, ap (λ x. x.1) is.length) (by-empty (is_empty (the physical_length fs).bytes))
+  given-right limit = rw is.length (by-empty (is_empty (the physical_length fs).bytes))
     where
-      by-empty : (t : Bool) → cond (not t) (number (the physical_length fs).bytes) limit ≡ cond t limit (number (the physical_length fs).bytes)
+      by-empty : (t : Bool) → unwrap_or (cond (not t) (Some (number (the physical_length fs).bytes)) None) limit ≡ cond t limit (number (the physical_length fs).bytes)
       by-empty true = refl
       by-empty false = refl
 
@@ -68,23 +69,23 @@ module _ (m : ℕ) (fs : List Field) (k : Kept) (is : KeptOf m fs k) where
 
   -- ---- all together
   module _ (s : State) (r : Record) (c : Code) where
-    this-right : k.over ≡ false → this_k c (length r) k ≡ of_record c r fs
+    this-right : k.past ≡ None → this_k c (length r) k ≡ of_record c r fs
     unfolding this_k of_record
     this-right o = rw (is.sum o)
 
-    next-right : k.over ≡ false → next_k s c (length r) k ≡ state_after s r (record { code = c; fields = fs })
+    next-right : k.past ≡ None → next_k s c (length r) k ≡ state_after s r (record { code = c; fields = fs })
     unfolding next_k state_after
     next-right o = rw (this-right o, limit-right c s.limit)
 
-    by_over : (o : Outcome (Unit {0})) → Known k.over
+    by_over : (o : Outcome (Unit {0})) (q : Option Place) → k.past ≡ q
         → (o >>= λ _. over_of k >>= λ _. balanced_k c (s.account ⊞ this_k c (length r) k) (s.group ⊞ this_k c (length r) k) (s.file ⊞ this_k c (length r) k) k >>= λ _. fine (next_k s c (length r) k))
         ≡ (o >>= λ _. over_of k >>= λ _. balanced c (s.account ⊞ of_record c r fs) (s.group ⊞ of_record c r fs) (s.file ⊞ of_record c r fs) fs >>= λ _. fine (state_after s r (record { code = c; fields = fs })))
-    by_over (refused why) t = refl
-    by_over (fine u) (holds e) = rw e
-    by_over (fine u) (fails e) =
+    by_over (refused why) q e = refl
+    by_over (fine u) (Some p) e = rw e
+    by_over (fine u) None e =
         rw (this-right e, balanced-right c (s.account ⊞ of_record c r fs) (s.group ⊞ of_record c r fs) (s.file ⊞ of_record c r fs), next-right e)
 
     pub settled-right : m ≡ magnitudes s.file.sum → settled_k s r c k ≡ settled s r (record { code = c; fields = fs })
     unfolding settled_k settled
     settled-right e =
-        rw (limit-right c s.limit, ← e, is.bound) (by_over (own_lines c (limit_after c s.limit fs) r) (known k.over))
+        rw (limit-right c s.limit, ← e, is.bound) (by_over (own_lines c (limit_after c s.limit fs) r) k.past refl)

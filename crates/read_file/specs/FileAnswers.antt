@@ -1,5 +1,5 @@
 -- What the answers for one record and for a file say. Assumes nothing.
-use Rattle.std.specs.Prelude.{ℕ, ◌+◌, ◌≤◌, ◌<◌, ◌≡◌, cond, ◌++◌, length}
+use Rattle.std.specs.Prelude.{ℕ, ◌+◌, ◌≤◌, ◌<◌, ◌≡◌, cond, ◌++◌, length, Option, Some, None, Result, Ok, Err}
 use Rattle.rules.specs.Bytes.{Bytes}
 use Rattle.rules.specs.Outcome.{Refusal, Outcome, refused, fine, ◌>>=◌, ◌>>◌, check}
 use Rattle.rules.specs.Numbers.{magnitudes}
@@ -14,6 +14,7 @@ use Rattle.rules.specs.Parts.{header_in, groups_in, size_of_all}
 use Rattle.rules.specs.Combine.{concat, limit_of}
 use Rattle.base_quantities.specs.QuantityMeanings.{sum_meant}
 use Rattle.base_refusals.specs.RefusalMeaning.{refusal_meant}
+use Rattle.base_refusals.specs.declared.Refusal as code
 use Rattle.read_lines.specs.LineLengths.{first_record}
 use Rattle.read_order.specs.ExpectedCodes.{expected_meant}
 use Rattle.read_kept.specs.declared.Kept.{Kept}
@@ -23,13 +24,8 @@ use Rattle.base_totals.specs.SummaryMeaning.{summary_meant}
 use Rattle.read_file.specs.FileMeanings.{state_meant, Held}
 use Rattle.read_file.specs.RecordSteps.{settled_k}
 use Rattle.read_file.specs.declared.GoodFile.{GoodFile}
-use Rattle.read_file.specs.declared.Judged.{Judged}
-use Rattle.read_file.specs.declared.Judged.TheVariants as judged
 use Rattle.read_file.specs.declared.state.State.{State}
-use Rattle.read_file.specs.declared.record.Settled.{Settled}
-use Rattle.read_file.specs.declared.record.Settled.TheVariants as settled
 use Rattle.read_file.specs.declared.record.Stepped.{Stepped}
-use Rattle.read_file.specs.declared.record.Stepped.TheVariants as stepped
 
 -- ---- the state after a record
 
@@ -52,9 +48,9 @@ pub record Settling (s : State) (rec : Bytes) (n : ℕ) (k : Kept) : Type 0 wher
   pub sums : s.file.total.0 + s.file.total.1 + magnitudes (sum_meant k.sum) ≤ most
   pub kept : Within (length rec) (s.file.total.0 + s.file.total.1) k
 
-abbrev pub SettledIs : Settled → State → Bytes → Code → ℕ → Kept → Type 0
-SettledIs (settled.Refused why) s rec c n k = (settled_k (state_meant s) (lines_of rec) c k ≡ refused (refusal_meant why)) × (why.place.0 ≤ length rec)
-SettledIs (settled.Next t) s rec c n k = (settled_k (state_meant s) (lines_of rec) c k ≡ fine (state_meant t)) × Held t × (t.file.records.0 ≡ s.file.records.0 + n)
+abbrev pub SettledIs : Result State code.Refusal → State → Bytes → Code → ℕ → Kept → Type 0
+SettledIs (Err why) s rec c n k = (settled_k (state_meant s) (lines_of rec) c k ≡ refused (refusal_meant why)) × (why.place.0 ≤ length rec)
+SettledIs (Ok t) s rec c n k = (settled_k (state_meant s) (lines_of rec) c k ≡ fine (state_meant t)) × Held t × (t.file.records.0 ≡ s.file.records.0 + n)
 
 -- ---- the record in front of the rest of a file
 
@@ -74,10 +70,10 @@ pub record Passed (s : State) (rest : Bytes) (t : State) (size : ℕ) : Type 0 w
   pub records : t.file.records.0 ≤ s.file.records.0 + size
 
 -- or nothing is left
-abbrev pub StepIs : Stepped → State → Bytes → Type 0
-StepIs stepped.End s rest = length rest ≡ 0
-StepIs (stepped.Refused why) s rest = Stopped s rest (refusal_meant why)
-StepIs (stepped.Next t size) s rest = Passed s rest t size
+abbrev pub StepIs : Result (Option Stepped) code.Refusal → State → Bytes → Type 0
+StepIs (Ok None) s rest = length rest ≡ 0
+StepIs (Ok (Some next)) s rest = Passed s rest next.state next.size
+StepIs (Err why) s rest = Stopped s rest (refusal_meant why)
 
 -- ---- after the last record, which starts at `last`, of a file of n bytes
 
@@ -87,9 +83,9 @@ at_end s n = do
   check (ended s.expected) 6 n
   fine s.file
 
-abbrev pub EndIs : Judged → State → ℕ → ℕ → Type 0
-EndIs (judged.Accepted g) s last n = (at_end (state_meant s) n ≡ fine (summary_meant s.file)) × (g ≡ record { summary = s.file; limit = s.limit; last = record { 0 = last } })
-EndIs (judged.Refused why) s last n = at_end (state_meant s) n ≡ refused (refusal_meant why)
+abbrev pub EndIs : Result GoodFile code.Refusal → State → ℕ → ℕ → Type 0
+EndIs (Ok g) s last n = (at_end (state_meant s) n ≡ fine (summary_meant s.file)) × (g ≡ record { summary = s.file; limit = s.limit; last = record { 0 = last } })
+EndIs (Err why) s last n = at_end (state_meant s) n ≡ refused (refusal_meant why)
 
 -- ---- a file
 
@@ -101,6 +97,6 @@ pub record IsGood (g : GoodFile) (file : Bytes) : Type 0 where
   pub groups : g.summary.groups.0 ≤ longest_file
   pub records : g.summary.records.0 ≤ longest_file
 
-abbrev pub JudgedIs : Judged → Bytes → Type 0
-JudgedIs (judged.Accepted g) file = IsGood g file
-JudgedIs (judged.Refused why) file = judge file ≡ refused (refusal_meant why)
+abbrev pub JudgedIs : Result GoodFile code.Refusal → Bytes → Type 0
+JudgedIs (Ok g) file = IsGood g file
+JudgedIs (Err why) file = judge file ≡ refused (refusal_meant why)

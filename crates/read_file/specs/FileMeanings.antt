@@ -1,16 +1,15 @@
 -- What the reader's states and verdicts say in document 01's terms. Assumes nothing.
-use Rattle.std.specs.Prelude.{◌+◌, ◌≤◌}
+use Rattle.std.specs.Prelude.{◌+◌, ◌≤◌, Result, Ok, Err}
 use Rattle.rules.specs.Outcome.{Outcome, refused, fine}
 use Rattle.rules.specs.Limits.{most}
 use Rattle.rules.specs.Totals as totals
 use Rattle.rules.specs.Verdict as verdict
+use Rattle.base_refusals.specs.declared.Refusal.{Refusal}
 use Rattle.base_refusals.specs.RefusalMeaning.{refusal_meant}
 use Rattle.read_order.specs.ExpectedCodes.{expected_meant}
 use Rattle.base_totals.specs.declared.Summary.{Summary}
 use Rattle.base_totals.specs.SummaryMeaning.{summary_meant}
 use Rattle.read_file.specs.declared.state.State.{State}
-use Rattle.read_file.specs.declared.Verdict.{Verdict}
-use Rattle.read_file.specs.declared.Verdict.TheVariants.{Accepted, Refused}
 
 -- ---- meanings
 
@@ -24,9 +23,9 @@ state_meant s =
       account = summary_meant s.account;
     }
 
-abbrev pub verdict_meant : Verdict → Outcome totals.Summary
-verdict_meant (Accepted s) = fine (summary_meant s)
-verdict_meant (Refused why) = refused (refusal_meant why)
+abbrev pub verdict_meant : Result Summary Refusal → Outcome totals.Summary
+verdict_meant (Ok s) = fine (summary_meant s)
+verdict_meant (Err why) = refused (refusal_meant why)
 
 -- ---- what keeps sums and counts in range
 

@@ -1,6 +1,6 @@
 -- One record, with what the walk keeps in place of its fields. Each definition stands for the one of rules/specs/Verdict.antt without the K (`limit_k`: `limit_after`; `next_k`:
 -- `state_after`; `this_k`: `of_record` of rules/specs/Totals.antt); joined by `settled-right` (proofs/SettledRecords.antt) and `step_right` (proofs/StepAgrees.antt). Assumes nothing.
-use Rattle.std.specs.Prelude.{ℕ, cond, length}
+use Rattle.std.specs.Prelude.{ℕ, cond, length, unwrap_or}
 use Rattle.rules.specs.Outcome.{Outcome, fine, ◌>>=◌, ◌>>◌}
 use Rattle.rules.specs.Numbers.{magnitudes}
 use Rattle.rules.specs.Lines.{Code, file_header, same_code, Record}
@@ -19,7 +19,7 @@ use Rattle.read_walk.specs.WalkKept.{walk_from}
 
 -- the limit after a record of this code: only a 01 gives one
 unfoldable pub limit_k : Code → ℕ → Kept → ℕ
-limit_k c limit k = cond (same_code c file_header) (cond k.length_given k.length limit) limit
+limit_k c limit k = cond (same_code c file_header) (unwrap_or k.length limit) limit
 
 -- what a record of this code and so many lines adds
 unfoldable pub this_k : Code → ℕ → Kept → Summary

@@ -12,50 +12,40 @@ ghost use Rattle.read_file.specs.FileMeanings.{Held};
 
 use crate::state::State;
 use base_codes::Code;
-use base_quantities::{Magnitude, Place, Records};
-use base_refusals::{AMOUNTS_TOO_LARGE, RECORD_OUT_OF_ORDER, Refusal};
+use base_quantities::{Magnitude, Place};
+use base_refusals::{Reason, Refusal};
 use base_totals::Summary;
 use read_kept::Kept;
-use read_line_checks::{Checked, Scanned};
-use read_walk::Walked;
+use read_line_checks::Scanned;
 use read_wanted::want;
 
-// The state after a record and how many bytes it has; a refusal with its place in the record; or no record is left.
+// The state after a record, and how many bytes it has.
 #[derive(Clone, Copy)]
-pub enum Stepped {
-    End,
-    Refused(Refusal),
-    Next(State, usize),
-}
-
-// The state after a record, or a refusal with its place in the record.
-#[derive(Clone, Copy)]
-enum Settled {
-    Refused(Refusal),
-    Next(State),
+pub struct Stepped {
+    pub state: State,
+    pub size: usize,
 }
 
 // L, where a header gives it; else the limit that held before.
+#[tactic(auto, using(base_codes::proofs::SameCodes::same_codes), unfolding(crate::specs::RecordSteps::limit_k))]
 fn limit_after(code: Code, limit: usize, kept: Kept) -> usize
     ensures { result ≡ limit_k (code_meant code) limit kept }
 {
-    if base_codes::same_code(code, Code::FileHeader) {
-        if kept.length_given {
-            return kept.length;
-        }
-        return limit;
+    if code == Code::FileHeader {
+        return kept.length.unwrap_or(limit);
     }
     limit
 }
 
 // 3, of the header's own lines against L.
-fn own_lines(code: Code, limit: usize, rec: &[u8]) -> Checked
+#[tactic(auto, using(base_codes::proofs::SameCodes::same_codes), unfolding(rules::specs::Verdict::own_lines))]
+fn own_lines(code: Code, limit: usize, rec: &[u8]) -> Result<(), Refusal>
     ensures { (checked_of result ≡ own_lines (code_meant code) limit (lines_of rec.now)) × place_within result (length rec.now) }
 {
-    if base_codes::same_code(code, Code::FileHeader) {
+    if code == Code::FileHeader {
         return read_line_checks::none_longer(rec, limit);
     }
-    Checked::Fine
+    Ok(())
 }
 
 // The state after a record of this code: these are the summaries of the file, the open group and the open account, the record included.
@@ -72,60 +62,42 @@ fn next_state(code: Code, limit: usize, file: Summary, group: Summary, account: 
 }
 
 // After the fields of a record with so many lines: its header's own lines, 10, then a trailer's 14, 11, 12, 13.
-fn settle(st: State, rec: &[u8], code: Code, records: Records, kept: Kept) -> Settled
-    requires { Settling st rec.now records.0 kept }
-    ensures { SettledIs result st rec.now (code_meant code) records.0 kept }
+fn settle(st: State, rec: &[u8], scanned: Scanned, kept: Kept) -> Result<State, Refusal>
+    requires { Settling st rec.now scanned.records.0 kept }
+    ensures { SettledIs result st rec.now (code_meant scanned.code) scanned.records.0 kept }
 {
+    let code = scanned.code;
     let limit = limit_after(code, st.limit, kept);
-    match own_lines(code, limit, rec) {
-        Checked::Refused(why) => return Settled::Refused(why),
-        Checked::Fine => {}
+    own_lines(code, limit, rec)?;
+    if let Some(past) = kept.past {
+        return Err(Reason::AmountsTooLarge.at(past));
     }
-    if kept.over {
-        let past = kept.past;
-        return Settled::Refused(Refusal {
-            number: AMOUNTS_TOO_LARGE,
-            place: past,
-        });
-    }
-    let this = base_totals::adding(code, kept.sum, records);
+    let this = base_totals::adding(code, kept.sum, scanned.records);
     let file = base_totals::add(st.file, this);
     let group = base_totals::add(st.group, this);
     let account = base_totals::add(st.account, this);
-    match read_trailers::balance(code, account, group, file, kept) {
-        Checked::Refused(why) => return Settled::Refused(why),
-        Checked::Fine => {}
-    }
-    Settled::Next(next_state(code, limit, file, group, account))
+    read_trailers::balance(code, account, group, file, kept)?;
+    Ok(next_state(code, limit, file, group, account))
 }
 
-// The record in front of the rest of the file.
-pub(crate) fn step(st: State, rest: &[u8]) -> Stepped
+// The record in front of the rest of the file, if there is one; a refusal with its place in the record.
+pub(crate) fn step(st: State, rest: &[u8]) -> Result<Option<Stepped>, Refusal>
     requires { (Held st) × (st.file.records.0 + length rest.now ≤ longest_file) }
     ensures { StepIs result st rest.now }
 {
-    match read_line_checks::scan_record(rest, st.limit) {
-        Scanned::End => return Stepped::End,
-        Scanned::Refused(why) => return Stepped::Refused(why),
-        Scanned::Record(code, records, size) => {
-            let expected = st.expected;
-            if !read_order::allows(expected, code) {
-                return Stepped::Refused(Refusal {
-                    number: RECORD_OUT_OF_ORDER,
-                    place: Place(0),
-                });
-            }
-            let file = st.file;
-            let total = file.total;
-            let rec = &rest[0..size];
-            let before = Magnitude(total.0 + total.1);
-            match read_walk::walk_record(rest, size, want::first_want(code), before) {
-                Walked::Refused(why) => return Stepped::Refused(why),
-                Walked::Done(kept) => match settle(st, rec, code, records, kept) {
-                    Settled::Refused(why) => return Stepped::Refused(why),
-                    Settled::Next(next) => return Stepped::Next(next, size),
-                },
-            }
-        }
+    let Some(scanned) = read_line_checks::scan_record(rest, st.limit)? else {
+        return Ok(None);
+    };
+    if !read_order::allows(st.expected, scanned.code) {
+        return Err(Reason::RecordOutOfOrder.at(Place(0)));
     }
+    let total = st.file.total;
+    let before = Magnitude(total.0 + total.1);
+    let kept = read_walk::walk_record(rest, scanned.size, want::first_want(scanned.code), before)?;
+    let rec = &rest[..scanned.size];
+    let state = settle(st, rec, scanned, kept)?;
+    Ok(Some(Stepped {
+        state,
+        size: scanned.size,
+    }))
 }

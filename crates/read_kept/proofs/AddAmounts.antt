@@ -1,10 +1,11 @@
 -- What is kept, by the cases of the code. Assumes nothing.
-use Prim.Native.Nat.{ℕ, ◌+◌, ◌-◌, ◌≤◌, ◌<◌}
+use Prim.Native.Nat.{ℕ, ◌+◌, ◌≤◌, ◌<◌}
 use mathlib.Core.Path.{◌≡◌, refl, ap, sym, ◌∙◌}
-use mathlib.Core.Bool.{Bool, true, false, not}
+use mathlib.Core.Bool.{true, false, not}
 use native.Mathlib.Omega.{arith}
-use borrow.Author.Tests.{le-leb, lt-leb, lt-ltb, le-ltb, ltb-true, ltb-false}
-use lib.Dec.{ltb}
+use borrow.Author.Tests.{le-leb, lt-leb}
+use Rattle.std.specs.Prelude.{Some}
+use Rattle.std.specs.Option.{is_some}
 use Rattle.rules.specs.Bytes.{Bytes}
 use Rattle.rules.specs.Numbers.{Sum, ◌⊕◌, magnitudes}
 use Rattle.rules.specs.Amounts.{Amount, empty, unsigned, with_plus, with_minus, magnitude_of, amount_adds}
@@ -16,20 +17,6 @@ use Rattle.read_wanted.specs.Wants.{Purpose, for_amount, for_total, for_count, f
 use Rattle.read_kept.specs.declared.Kept.{Kept}
 use Rattle.read_kept.specs.KeepFields.{place, Amounts, add_to, keep_with, keep_read}
 
--- ---- the largest
-
-module _ (m a b n : ℕ) where
-  pub pass : most < m + (a + b) + n → true ≡ ltb most (m + (a + b) + n)
-  pass h = sym (lt-ltb most (m + (a + b) + n) h)
-
-  -- by what is left below it
-  pub pass-left : m + (a + b) ≤ most → ltb (most - m - a - b) n ≡ ltb most (m + (a + b) + n)
-  pass-left h = go (ltb (most - m - a - b) n) refl
-    where
-      go : (t : Bool) → ltb (most - m - a - b) n ≡ t → t ≡ ltb most (m + (a + b) + n)
-      go true e = let z = ltb-true (most - m - a - b) n e in sym (lt-ltb most (m + (a + b) + n) (omega arith))
-      go false e = let z = ltb-false (most - m - a - b) n e in sym (le-ltb most (m + (a + b) + n) (omega arith))
-
 -- ---- an amount
 
 amount-magnitude : (a : Amount) → magnitudes (amount_adds a) ≡ magnitude_of a
@@ -39,27 +26,27 @@ amount-magnitude (with_plus n) = omega arith
 amount-magnitude (with_minus n) = omega arith
 
 module _ (m : ℕ) (x : Amounts) (p : ℕ) (a : Amount) where
-  pub add-over : x.over ≡ true → x ≡ add_to m x p a
+  pub add-over : is_some x.past ≡ true → x ≡ add_to m x p a
   unfolding add_to
   add-over h = rw h
 
-  module _ (h : x.over ≡ false) where
-    pub add-past : most < m + magnitudes (sum_meant x.sum) + magnitude_of a → record { sum = x.sum; over = true; past = place p } ≡ add_to m x p a
+  module _ (h : is_some x.past ≡ false) where
+    pub add-past : most < m + magnitudes (sum_meant x.sum) + magnitude_of a → record { sum = x.sum; past = Some (place p) } ≡ add_to m x p a
     unfolding add_to
     add-past g = rw (h, lt-leb (m + magnitudes (sum_meant x.sum ⊕ amount_adds a)) most (omega (arith, amount-magnitude a)))
 
     module _ (g : m + magnitudes (sum_meant x.sum) + magnitude_of a ≤ most) where
-      add-fits : add_to m x p a ≡ record { sum = units_of (sum_meant x.sum ⊕ amount_adds a); over = x.over; past = x.past }
+      add-fits : add_to m x p a ≡ record { sum = units_of (sum_meant x.sum ⊕ amount_adds a); past = x.past }
       unfolding add_to
       add-fits = rw (h, le-leb (m + magnitudes (sum_meant x.sum ⊕ amount_adds a)) most (omega (arith, amount-magnitude a)))
 
       -- the units that were added are the rules' sum: neither side wraps
       pub add-more : (u v : Units) → sum_meant v ≡ amount_adds a → sum_meant u ≡ wrapped_sum (sum_meant x.sum ⊕ sum_meant v)
-          → record { sum = u; over = x.over; past = x.past } ≡ add_to m x p a
+          → record { sum = u; past = x.past } ≡ add_to m x p a
       add-more u v is-v is-u =
           let sum : sum_meant u ≡ sum_meant x.sum ⊕ amount_adds a =
           is-u ∙ ap (λ (b : Sum). wrapped_sum (sum_meant x.sum ⊕ b)) is-v ∙ sum-not-wrapped (sum_meant x.sum) (amount_adds a) (omega (arith, amount-magnitude a)) (omega (arith, amount-magnitude a)) in
-          ap (λ (b : Sum). record { sum = units_of b; over = x.over; past = x.past }) sum ∙ sym add-fits
+          ap (λ (b : Sum). record { sum = units_of b; past = x.past }) sum ∙ sym add-fits
 
 -- ---- a field that is kept for nothing
 

@@ -13,7 +13,7 @@ use Rattle.base_amounts.proofs.AmountLaws.{adds-signed}
 use Rattle.read_wanted.specs.Wants.{for_total, for_count, for_records, for_length, same_purpose, purpose}
 use Rattle.read_kept.specs.declared.Kept.{Kept}
 use Rattle.read_kept.specs.KeepFields.{first_of, nothing_kept, keep_with, keep_field, keep_all}
-use Rattle.read_kept.specs.KeptOfFields.{kept_total, kept_count, kept_records, kept_length, total_of, count_of, length_of, KeptOf}
+use Rattle.read_kept.specs.KeptOfFields.{kept_total, kept_count, kept_records, total_of, count_of, length_of, KeptOf}
 use Rattle.read_kept.proofs.EachKind.{told}
 use Rattle.read_kept.proofs.KeptSums.{bounded, sums}
 use Rattle.read_kept.proofs.StatedLaws.{first-is}
@@ -41,7 +41,7 @@ records-gets k f (holds e) (fails h) = rw (e, h)
 records-gets k f (fails e) h = rw e
 
 length-gets : (k : Kept) (f : Field) → Known (same_purpose for_length (purpose f.kind)) → Known k.length_seen
-    → kept_length (keep_field k f) ≡ first_of (same_purpose for_length (purpose f.kind)) k.length_seen (kept_length k) (length_of f)
+    → (keep_field k f).length ≡ first_of (same_purpose for_length (purpose f.kind)) k.length_seen k.length (length_of f)
 unfolding keep_field keep_with
 length-gets k f (holds e) (holds h) = rw (e, h)
 length-gets k f (holds e) (fails h) = rw (e, h)
@@ -63,6 +63,6 @@ kept_of m fs h =
           first-is kept_records (λ k. k.records_seen) count_of for_records records (λ j. (told j).3)
           (λ k f. records-gets k f (known (same_purpose for_records (purpose f.kind))) (known k.records_seen)) (λ k f. refl) fs (nothing_kept m) refl refl;
       length =
-          first-is kept_length (λ k. k.length_seen) length_of for_length physical_length (λ j. (told j).4)
+          first-is (λ k. k.length) (λ k. k.length_seen) length_of for_length physical_length (λ j. (told j).4)
           (λ k f. length-gets k f (known (same_purpose for_length (purpose f.kind))) (known k.length_seen)) (λ k f. refl) fs (nothing_kept m) refl refl;
     }

@@ -4,6 +4,8 @@ use mathlib.Core.Path.{refl}
 use mathlib.Core.Bool.{Bool, true, false}
 use native.Mathlib.Omega.{arith}
 use lib.Dec.{leb}
+use Rattle.std.specs.Prelude.{IfSome}
+use Rattle.std.specs.Option.{is_some}
 use borrow.Author.Tests.{leb-true}
 use Rattle.rules.specs.Bytes.{Bytes}
 use Rattle.rules.specs.Numbers.{◌⊕◌, magnitudes}
@@ -17,7 +19,7 @@ use Rattle.read_kept.specs.KeepFields.{nothing_kept, first_of, Amounts, amounts_
 
 pub nothing-within : (n m : ℕ) → Within n m (nothing_kept m)
 nothing-within n m =
-    record { before = refl; sum = λ h. omega arith; past = zero-le; total = zero-le; count = zero-le; records = zero-le }
+    record { before = refl; sum = λ h. omega arith; past = tt; total = zero-le; count = zero-le; records = zero-le }
 
 module _ (n : ℕ) (p : ℕ) (at : p ≤ n) where
   -- a figure's place
@@ -28,13 +30,13 @@ module _ (n : ℕ) (p : ℕ) (at : p ≤ n) where
 
   -- the sum with magnitudes m before it, and the place of the amount that passed
   abbrev Fits : ℕ → Amounts → Type 0
-  Fits m x = (m ≤ most → m + magnitudes (sum_meant x.sum) ≤ most) × (x.past.0 ≤ n)
+  Fits m x = (m ≤ most → m + magnitudes (sum_meant x.sum) ≤ most) × IfSome x.past (λ q. q.0 ≤ n)
 
   amounts-within : (t : Bool) (m : ℕ) (x : Amounts) (a : Amount) → Fits m x → Fits m (add_if t m x p a)
   unfolding add_to
-  amounts-within true m x a h = go (known x.over) (known (leb (m + magnitudes (sum_meant x.sum ⊕ amount_adds a)) most))
+  amounts-within true m x a h = go (known (is_some x.past)) (known (leb (m + magnitudes (sum_meant x.sum ⊕ amount_adds a)) most))
     where
-      go : Known x.over → Known (leb (m + magnitudes (sum_meant x.sum ⊕ amount_adds a)) most) → Fits m (add_to m x p a)
+      go : Known (is_some x.past) → Known (leb (m + magnitudes (sum_meant x.sum ⊕ amount_adds a)) most) → Fits m (add_to m x p a)
       go (holds o) l = rw o h
       go (fails o) (holds l) = rw (o, l) (λ _. leb-true (m + magnitudes (sum_meant x.sum ⊕ amount_adds a)) most l, h.1)
       go (fails o) (fails l) = rw (o, l) (h.0, at)

@@ -1,7 +1,8 @@
 -- What is kept of a record's fields in place of them: the sum of its amounts, the first amount that passes the largest, what a trailer states, L.
 -- It stands for what the rules read of the list of fields: `sum_of` and `bounded_from` (rules/specs/Totals.antt), the first total, count and record count, and `limit_given`
 -- (rules/specs/Verdict.antt); joined by `kept_of` (proofs/KeepAllLaws.antt), whose words are in specs/KeptOfFields.antt. Assumes nothing.
-use Rattle.std.specs.Prelude.{ℕ, ◌+◌, ◌≤◌, ◌≡◌, Bool, true, false, cond, not, ◌||◌, List, [], ◌∷◌, leb}
+use Rattle.std.specs.Prelude.{ℕ, ◌+◌, ◌≤◌, ◌≡◌, Bool, true, false, cond, not, ◌||◌, List, [], ◌∷◌, leb, Option, Some, None, IfSome}
+use Rattle.std.specs.Option.{is_some}
 use Rattle.rules.specs.Bytes.{Bytes, is_empty}
 use Rattle.rules.specs.Numbers.{number, zero_sum, ◌⊕◌, magnitudes}
 use Rattle.rules.specs.Amounts.{Amount, amount_in, magnitude_of, amount_adds}
@@ -26,22 +27,20 @@ first_of false seen old new = old
 
 -- ---- amounts
 
--- the sum, whether an amount passed the largest, and where
+-- the sum, and where an amount passed the largest, if one did
 pub record Amounts : Type 0 where
   pub sum : Units
-  pub over : Bool
-  pub past : Place
+  pub past : Option Place
 
 -- what is kept of amounts, and with another such
 abbrev pub amounts_of : Kept → Amounts
-amounts_of k = record { sum = k.sum; over = k.over; past = k.past }
+amounts_of k = record { sum = k.sum; past = k.past }
 
 abbrev pub with_amounts : Kept → Amounts → Kept
 with_amounts k x =
     record {
       before = k.before;
       sum = x.sum;
-      over = x.over;
       past = x.past;
       total = k.total;
       total_seen = k.total_seen;
@@ -52,17 +51,16 @@ with_amounts k x =
       records_seen = k.records_seen;
       length = k.length;
       length_seen = k.length_seen;
-      length_given = k.length_given;
     }
 
 -- with an amount at p, after magnitudes m: added, unless it or one before it passes the largest
 unfoldable pub add_to : ℕ → Amounts → ℕ → Amount → Amounts
 add_to m x p a =
     let next = sum_meant x.sum ⊕ amount_adds a in
-    cond x.over x
+    cond (is_some x.past) x
     (cond (leb (m + magnitudes next) most)
-    (record { sum = units_of next; over = x.over; past = x.past })
-    (record { sum = x.sum; over = true; past = place p }))
+    (record { sum = units_of next; past = x.past })
+    (record { sum = x.sum; past = Some (place p) }))
 
 -- where the field is an amount
 abbrev pub add_if : Bool → ℕ → Amounts → ℕ → Amount → Amounts
@@ -77,18 +75,16 @@ nothing_kept m =
     record {
       before = record { 0 = m };
       sum = units_of zero_sum;
-      over = false;
-      past = place 0;
-      total = record { at = place 0; magnitude = record { 0 = 0 } };
+      past = None;
+      total = record { at = place 0; value = record { 0 = 0 } };
       total_seen = false;
       total_negative = false;
-      count = record { at = place 0; count = record { 0 = 0 } };
+      count = record { at = place 0; value = record { 0 = 0 } };
       count_seen = false;
-      records = record { at = place 0; records = record { 0 = 0 } };
+      records = record { at = place 0; value = record { 0 = 0 } };
       records_seen = false;
-      length = 0;
+      length = None;
       length_seen = false;
-      length_given = false;
     }
 
 -- with a field at p for this purpose, given or empty, that is the amount a and the number n: amounts and totals take the one, counts and L the other
@@ -98,18 +94,16 @@ keep_with u k p g a n =
     record {
       before = k.before;
       sum = x.sum;
-      over = x.over;
       past = x.past;
-      total = first_of (same_purpose for_total u) k.total_seen k.total (record { at = place p; magnitude = record { 0 = magnitude_of a } });
+      total = first_of (same_purpose for_total u) k.total_seen k.total (record { at = place p; value = record { 0 = magnitude_of a } });
       total_seen = same_purpose for_total u || k.total_seen;
       total_negative = first_of (same_purpose for_total u) k.total_seen k.total_negative (is_minus a);
-      count = first_of (same_purpose for_count u) k.count_seen k.count (record { at = place p; count = record { 0 = n } });
+      count = first_of (same_purpose for_count u) k.count_seen k.count (record { at = place p; value = record { 0 = n } });
       count_seen = same_purpose for_count u || k.count_seen;
-      records = first_of (same_purpose for_records u) k.records_seen k.records (record { at = place p; records = record { 0 = n } });
+      records = first_of (same_purpose for_records u) k.records_seen k.records (record { at = place p; value = record { 0 = n } });
       records_seen = same_purpose for_records u || k.records_seen;
-      length = first_of (same_purpose for_length u) k.length_seen k.length n;
+      length = first_of (same_purpose for_length u) k.length_seen k.length (cond g (Some n) None);
       length_seen = same_purpose for_length u || k.length_seen;
-      length_given = first_of (same_purpose for_length u) k.length_seen k.length_given g;
     }
 
 -- with an amount at p
@@ -133,7 +127,7 @@ keep_all k (f ∷ fs) = keep_all (keep_field k f) fs
 pub record Within (n m : ℕ) (k : Kept) : Type 0 where
   pub before : k.before.0 ≡ m
   pub sum : m ≤ most → m + magnitudes (sum_meant k.sum) ≤ most
-  pub past : k.past.0 ≤ n
+  pub past : IfSome k.past (λ p. p.0 ≤ n)
   pub total : k.total.at.0 ≤ n
   pub count : k.count.at.0 ≤ n
   pub records : k.records.at.0 ≤ n

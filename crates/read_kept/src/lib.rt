@@ -1,73 +1,57 @@
 // What a walk keeps of a record's fields for the checks that come after it: 10, a trailer's 11 to 14, and L.
 
-#![tactic(auto)]
+#![tactic(auto, unfolding(crate::specs::KeepFields::keep_read, crate::specs::KeepFields::keep_with))]
 
-ghost use Rattle.std.specs.Prelude.{◌≡◌, not, ◌+◌, ltb};
+ghost use Rattle.std.specs.Prelude.{◌≡◌, true, not, ◌+◌, ltb};
 ghost use Rattle.rules.specs.Numbers.{magnitudes};
 ghost use Rattle.rules.specs.Limits.{most};
 ghost use Rattle.rules.specs.Grammar.{next_kind};
 ghost use Rattle.base_quantities.specs.QuantityMeanings.{sum_meant};
 ghost use Rattle.base_amounts.specs.AmountsRead.{amount_read};
 ghost use Rattle.read_wanted.specs.Wants.{wanted_of, for_total, for_count, for_records, for_length, for_nothing, same_purpose, purpose};
-ghost use Rattle.read_kept.specs.KeepFields.{nothing_kept, added_to, keep_read};
+ghost use Rattle.read_kept.specs.KeepFields.{first_of, nothing_kept, added_to, keep_read};
 
 use base_limits::MOST;
 use base_quantities::{Count, Magnitude, Place, Records, Units};
 use read_wanted::want::{Keep, Want};
 
-// A trailer's total, less its sign, and where it stands.
+// What a trailer states, and where it stands: its total less its sign, its count of accounts or groups, or its record count.
 #[derive(Clone, Copy)]
-pub struct StatedTotal {
+pub struct Stated<T> {
     pub at: Place,
-    pub magnitude: Magnitude,
+    pub value: T,
 }
 
-// A trailer's count of accounts or groups, and where it stands.
-#[derive(Clone, Copy)]
-pub struct StatedCount {
-    pub at: Place,
-    pub count: Count,
-}
-
-// A trailer's record count, and where it stands.
-#[derive(Clone, Copy)]
-pub struct StatedRecords {
-    pub at: Place,
-    pub records: Records,
-}
-
-// before: the magnitudes of the records before; sum: of this record's amounts; over: one of them passed the largest, the first at `past`; length: L.
-// seen: the field was there; given: it was not empty. The flags stand together and last, for speed: copies have no gaps.
+// before: the magnitudes of the records before; sum: of this record's amounts; past: where the first of them passed the largest; length: L, where it is given.
+// seen: the field was there. A figure that wasn't there is 0 at place 0, as in the rules, so only `keep` asks whether it was.
 #[derive(Clone, Copy)]
 pub struct Kept {
     pub before: Magnitude,
     pub sum: Units,
-    pub past: Place,
-    pub total: StatedTotal,
-    pub count: StatedCount,
-    pub records: StatedRecords,
-    pub length: usize,
-    pub over: bool,
+    pub past: Option<Place>,
+    pub total: Stated<Magnitude>,
+    pub count: Stated<Count>,
+    pub records: Stated<Records>,
+    pub length: Option<usize>,
     pub total_seen: bool,
     pub total_negative: bool,
     pub count_seen: bool,
     pub records_seen: bool,
     pub length_seen: bool,
-    pub length_given: bool,
+}
+
+// The figure that was stated first: the old one where one was seen, else the new one.
+fn first<T: Copy>(seen: bool, old: Stated<T>, new: Stated<T>) -> Stated<T>
+    ensures { result ≡ first_of true seen old new }
+{
+    if seen { old } else { new }
 }
 
 // The next field is kept for something.
 pub fn is_kept(want: Want) -> bool
     ensures { result ≡ not (same_purpose for_nothing (purpose (next_kind (wanted_of want)))) }
 {
-    match read_wanted::want::kept_for(want) {
-        Keep::Amount => true,
-        Keep::Total => true,
-        Keep::Count => true,
-        Keep::Records => true,
-        Keep::Length => true,
-        Keep::Nothing => false,
-    }
+    !matches!(read_wanted::want::kept_for(want), Keep::Nothing)
 }
 
 impl Kept {
@@ -78,27 +62,25 @@ impl Kept {
         Kept {
             before,
             sum: Units(0, 0),
-            past: Place(0),
-            total: StatedTotal {
+            past: None,
+            total: Stated {
                 at: Place(0),
-                magnitude: Magnitude(0),
+                value: Magnitude(0),
             },
-            count: StatedCount {
+            count: Stated {
                 at: Place(0),
-                count: Count(0),
+                value: Count(0),
             },
-            records: StatedRecords {
+            records: Stated {
                 at: Place(0),
-                records: Records(0),
+                value: Records(0),
             },
-            length: 0,
-            over: false,
+            length: None,
             total_seen: false,
             total_negative: false,
             count_seen: false,
             records_seen: false,
             length_seen: false,
-            length_given: false,
         }
     }
 
@@ -107,37 +89,27 @@ impl Kept {
         ensures { result ≡ ltb most (self.before.0 + magnitudes (sum_meant self.sum) + n.0) }
     {
         let sum = self.sum;
-        let before = self.before;
-        if MOST < before.0 {
+        if MOST < self.before.0 {
             return true;
         }
-        let room = MOST - before.0;
-        if room < sum.0 {
-            return true;
-        }
-        if room - sum.0 < sum.1 {
-            return true;
-        }
-        room - sum.0 - sum.1 < n.0
+        let room = MOST - self.before.0;
+        room < sum.0 || room - sum.0 < sum.1 || room - sum.0 - sum.1 < n.0
     }
 
     // With an amount more, unless it or one before it passes the largest.
     fn add_amount(self, at: Place, f: &[u8]) -> Kept
         ensures { result ≡ added_to self at.0 (amount_read f.now) }
     {
-        if self.over {
+        if self.past.is_some() {
             return self;
         }
         let mut kept = self;
         let a = base_amounts::amount_in(f);
         if self.passes(base_amounts::magnitude_of(a)) {
-            kept.over = true;
-            kept.past = at;
+            kept.past = Some(at);
             return kept;
         }
-        let sum = self.sum;
-        let more = sum.add(base_amounts::adds(a));
-        kept.sum = more;
+        kept.sum = self.sum.add(base_amounts::adds(a));
         kept
     }
 
@@ -150,9 +122,10 @@ impl Kept {
         }
         let mut kept = self;
         let a = base_amounts::amount_in(f);
-        let magnitude = base_amounts::magnitude_of(a);
-        let total = StatedTotal { at, magnitude };
-        kept.total = total;
+        kept.total = Stated {
+            at,
+            value: base_amounts::magnitude_of(a),
+        };
         kept.total_negative = base_amounts::is_minus(a);
         kept.total_seen = true;
         kept
@@ -162,16 +135,9 @@ impl Kept {
     fn keep_count(self, at: Place, f: &[u8]) -> Kept
         ensures { result ≡ keep_read for_count self at.0 f.now }
     {
-        if self.count_seen {
-            return self;
-        }
+        let value = Count(base_digits::value(f));
         let mut kept = self;
-        let n = base_digits::value(f);
-        let count = StatedCount {
-            at,
-            count: Count(n),
-        };
-        kept.count = count;
+        kept.count = first(self.count_seen, self.count, Stated { at, value });
         kept.count_seen = true;
         kept
     }
@@ -180,16 +146,9 @@ impl Kept {
     fn keep_records(self, at: Place, f: &[u8]) -> Kept
         ensures { result ≡ keep_read for_records self at.0 f.now }
     {
-        if self.records_seen {
-            return self;
-        }
+        let value = Records(base_digits::value(f));
         let mut kept = self;
-        let n = base_digits::value(f);
-        let records = StatedRecords {
-            at,
-            records: Records(n),
-        };
-        kept.records = records;
+        kept.records = first(self.records_seen, self.records, Stated { at, value });
         kept.records_seen = true;
         kept
     }
@@ -202,8 +161,11 @@ impl Kept {
             return self;
         }
         let mut kept = self;
-        kept.length = base_digits::value(f) as usize;
-        kept.length_given = !read_values::is_empty(f);
+        kept.length = if read_values::is_empty(f) {
+            None
+        } else {
+            Some(base_digits::value(f) as usize)
+        };
         kept.length_seen = true;
         kept
     }

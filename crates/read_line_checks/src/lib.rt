@@ -2,47 +2,32 @@
 
 #![tactic(auto)]
 
-ghost use Rattle.std.specs.Prelude.{◌≡◌, ◌<◌, length, drop};
+ghost use Rattle.std.specs.Prelude.{◌≡◌, ◌<◌, Ok, length, drop};
 ghost use Rattle.rules.specs.Lines.{lines_of};
 ghost use Rattle.rules.specs.Verdict.{none_longer};
 ghost use Rattle.read_line_checks.specs.LineChecks.{checked_of, place_within, CleanIs, LineIs, ScanIs};
 
 use base_codes::Code;
 use base_quantities::{Place, Records};
-use base_refusals::{BYTE_NOT_ALLOWED, LINE_TOO_LONG, NO_RECORD_CODE, Refusal};
-use read_lines::Coded;
+use base_refusals::{Reason, Refusal};
 
-// Fine, or refused.
+// A line's code, and the place after the line.
 #[derive(Clone, Copy)]
-pub enum Checked {
-    Fine,
-    Refused(Refusal),
+struct GoodLine {
+    code: Code,
+    next: Place,
 }
 
-// Where a line ends, without its end, or a refusal.
+// A record's code, how many lines it has, and how many bytes.
 #[derive(Clone, Copy)]
-enum Clean {
-    Refused(Refusal),
-    Ends(Place),
+pub struct Scanned {
+    pub code: Code,
+    pub records: Records,
+    pub size: usize,
 }
 
-// A line's code and the place after the line, or a refusal.
-#[derive(Clone, Copy)]
-enum GoodLine {
-    Refused(Refusal),
-    Good(Code, Place),
-}
-
-// A record's code, how many lines it has, and how many bytes; a refusal; or no record is left.
-#[derive(Clone, Copy)]
-pub enum Scanned {
-    End,
-    Refused(Refusal),
-    Record(Code, Records, usize),
-}
-
-// 3, 4 of the line that starts there.
-fn clean_line(s: &[u8], start: Place, limit: usize) -> Clean
+// 3, 4 of the line that starts there; or where it ends, without its end.
+fn clean_line(s: &[u8], start: Place, limit: usize) -> Result<Place, Refusal>
     requires { start.0 < length s.now }
     ensures { CleanIs result start.0 limit (drop start.0 s.now) }
 {
@@ -50,81 +35,72 @@ fn clean_line(s: &[u8], start: Place, limit: usize) -> Clean
     let i = read_lines::scan::plain_end(s, start, b'~').0;
     let e = read_lines::body_end(s, Place(i)).0;
     if limit < e - at {
-        return Clean::Refused(Refusal {
-            number: LINE_TOO_LONG,
-            place: Place(at + limit),
-        });
+        return Err(Reason::LineTooLong.at(Place(at + limit)));
     }
     if i < e {
-        return Clean::Refused(Refusal {
-            number: BYTE_NOT_ALLOWED,
-            place: Place(i),
-        });
+        return Err(Reason::ByteNotAllowed.at(Place(i)));
     }
-    Clean::Ends(Place(e))
+    Ok(Place(e))
 }
 
 // 3, 4, 5 of the line that starts there.
-fn good_line(s: &[u8], start: Place, limit: usize) -> GoodLine
+fn good_line(s: &[u8], start: Place, limit: usize) -> Result<GoodLine, Refusal>
     requires { start.0 < length s.now }
     ensures { LineIs result start.0 limit (drop start.0 s.now) }
 {
-    match clean_line(s, start, limit) {
-        Clean::Refused(why) => GoodLine::Refused(why),
-        Clean::Ends(e) => match read_lines::code_at(s, start) {
-            Coded::None => GoodLine::Refused(Refusal {
-                number: NO_RECORD_CODE,
-                place: start,
-            }),
-            Coded::With(code) => GoodLine::Good(code, Place(e.0 + read_lines::end_len(s, e))),
-        },
-    }
+    let e = clean_line(s, start, limit)?;
+    let Some(code) = read_lines::code_at(s, start) else {
+        return Err(Reason::NoRecordCode.at(start));
+    };
+    Ok(GoodLine {
+        code,
+        next: Place(e.0 + read_lines::end_len(s, e)),
+    })
 }
 
-// 3, 4, 5 of the 88 lines from `next` on, after a good first line of this code.
-fn scan_further(s: &[u8], limit: usize, code: Code, next: Place) -> Scanned
-    requires { (0 < length s.now) × LineIs (GoodLine.Good code next) 0 limit s.now }
+// 3, 4, 5 of the 88 lines that follow a good first line.
+fn scan_further(s: &[u8], limit: usize, first: GoodLine) -> Result<Option<Scanned>, Refusal>
+    requires { (0 < length s.now) × LineIs (Ok first) 0 limit s.now }
     ensures { ScanIs result limit s.now }
 {
-    let mut at = next.0;
+    let mut at = first.next.0;
     let mut n: u64 = 1;
-    while read_lines::begins_with(s, Place(at), b'8', b'8') {
-        match clean_line(s, Place(at), limit) {
-            Clean::Refused(why) => return Scanned::Refused(why),
-            Clean::Ends(e) => at = e.0 + read_lines::end_len(s, e),
-        }
+    // No `for`: a step goes as far as the line does.
+    while read_lines::begins(s, Place(at), Code::Continuation) {
+        let e = clean_line(s, Place(at), limit)?;
+        at = e.0 + read_lines::end_len(s, e);
         n += 1;
     }
-    Scanned::Record(code, Records(n), at)
+    Ok(Some(Scanned {
+        code: first.code,
+        records: Records(n),
+        size: at,
+    }))
 }
 
-// 3, 4, 5 of each line of the record in front of s.
-pub fn scan_record(s: &[u8], limit: usize) -> Scanned
+// 3, 4, 5 of each line of the record in front of s; none is left where s is empty.
+pub fn scan_record(s: &[u8], limit: usize) -> Result<Option<Scanned>, Refusal>
     ensures { ScanIs result limit s.now }
 {
     if s.len() == 0 {
-        return Scanned::End;
+        return Ok(None);
     }
-    match good_line(s, Place(0), limit) {
-        GoodLine::Refused(why) => Scanned::Refused(why),
-        GoodLine::Good(code, next) => scan_further(s, limit, code, next),
-    }
+    let first = good_line(s, Place(0), limit)?;
+    scan_further(s, limit, first)
 }
 
 // 3 alone, of each line.
-pub fn none_longer(s: &[u8], limit: usize) -> Checked
+pub fn none_longer(s: &[u8], limit: usize) -> Result<(), Refusal>
     ensures { (checked_of result ≡ none_longer 0 limit (lines_of s.now)) × place_within result (length s.now) }
 {
     let mut start: usize = 0;
+    // No `for`: a step goes as far as the line does.
     while start < s.len() {
         let e = read_lines::body_end(s, Place(start)).0;
         if limit < e - start {
-            return Checked::Refused(Refusal {
-                number: LINE_TOO_LONG,
-                place: Place(start + limit),
-            });
+            return Err(Reason::LineTooLong.at(Place(start + limit)));
         }
         start = e + read_lines::end_len(s, Place(e));
     }
-    Checked::Fine
+    Ok(())
 }

@@ -14,6 +14,9 @@ use lib.Dec.{T, eqb, leb, leb→le}
 use Rattle.rules.specs.Bytes.{Bytes, allowed, between, same_bytes, all}
 use Rattle.rules.specs.Lines.{Code, code_bytes, begins, continuation, file_header, group_header, account_header, detail, account_trailer, group_trailer, file_trailer, code_in}
 use Rattle.rules.proofs.Tests.{Known, holds, fails, known, and_left, and_right}
+use Rattle.std.specs.Prelude.{map}
+use Rattle.base_codes.specs.declared.Code as base
+use Rattle.base_codes.specs.CodeMeaning.{code_meant}
 use Rattle.read_lines.specs.LineLengths.{run, is_end, stops_at, body_len, first_line}
 use Rattle.read_lines.proofs.RunLengths.{plain_byte}
 
@@ -120,13 +123,14 @@ module _ (s : Bytes) (i x y : ℕ) where
       three_third f =
           sym (three-at h ∙ rw (eq-eqb x (get_or s i 0) (sym e), eq-eqb y (get_or s (i + 1) 0) (sym f)) (and-true (eqb 44 (get_or s (i + 2) 0)) ∙ eqb_swap 44 (get_or s (i + 2) 0)))
 
--- ---- the line's code, test by test in the codes' order
+-- ---- the line's code, sought among codes one by one, from the one at i on
 
-module _ (s : Bytes) (at : ℕ) (c : Code) (cs : List Code) (t : Bool) (e : t ≡ same_bytes (code_bytes c) (take 3 (drop at s))) where
-  pub code_here : t ≡ true → code_in (c ∷ cs) (first_line (drop at s)) ≡ some c
+module _ (s : Bytes) (at : ℕ) (cs : List base.Code) (i : ℕ) (d : base.Code) (h : i < length cs) (t : Bool)
+    (e : t ≡ same_bytes (code_bytes (code_meant (get_or cs i d))) (take 3 (drop at s))) where
+  pub code_here : t ≡ true → code_in (map code_meant (drop i cs)) (first_line (drop at s)) ≡ some (code_meant (get_or cs i d))
   unfolding code_in
-  code_here h = rw (begins-front c (drop at s) ∙ sym e ∙ h)
+  code_here q = rw (drop-cons cs i d h, begins-front (code_meant (get_or cs i d)) (drop at s) ∙ sym e ∙ q)
 
-  pub code-after : t ≡ false → code_in (c ∷ cs) (first_line (drop at s)) ≡ code_in cs (first_line (drop at s))
+  pub code-after : t ≡ false → code_in (map code_meant (drop i cs)) (first_line (drop at s)) ≡ code_in (map code_meant (drop (i + 1) cs)) (first_line (drop at s))
   unfolding code_in
-  code-after h = rw (begins-front c (drop at s) ∙ sym e ∙ h)
+  code-after q = rw (drop-cons cs i d h, add-one, begins-front (code_meant (get_or cs i d)) (drop at s) ∙ sym e ∙ q)

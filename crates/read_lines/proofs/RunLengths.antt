@@ -4,13 +4,12 @@ use mathlib.Core.Path.{◌≡◌, refl}
 use mathlib.Core.Bool.{Bool, true, false}
 use native.Mathlib.Omega.{arith}
 use native.Mathlib.Numerals.{add-one}
-use borrow.Author.Tests.{ne_eqb, le-leb, lt-leb}
+use borrow.Author.Tests.{ne_eqb}
 use lib.ListN.{length, drop, get_or, drop_of_length-le}
 use lib.Seq.{drop-cons}
-use lib.Dec.{eqb}
 use Rattle.rules.specs.Bytes.{Bytes, LF, CR}
 use Rattle.rules.specs.Lines.{end_bytes, LineEnd, lacking, lf, crlf}
-use Rattle.read_lines.specs.LineLengths.{begins_lf, end_by, end_of, is_line_end, run, is_end, outside}
+use Rattle.read_lines.specs.LineLengths.{end_of, is_line_end, run, is_end}
 
 module _ (p : ℕ → Bytes → Bool) (xs : Bytes) (i : ℕ) where
   pub run_none : length xs ≤ i → i + run p (drop i xs) ≡ i
@@ -29,31 +28,7 @@ module _ (p : ℕ → Bytes → Bool) (xs : Bytes) (i : ℕ) where
 pub plain_byte : (b : ℕ) (bs : Bytes) → 32 ≤ b → is_end b bs ≡ false
 plain_byte b bs h = rw (ne_eqb b LF (λ e. omega arith), ne_eqb b CR (λ e. omega arith))
 
--- bytes below a blank, above the highest, and between
-pub byte_low : (high b : ℕ) → b < 32 → outside high b ≡ true
-byte_low high b h = rw (lt-leb 32 b h)
-
-pub byte_high : (high b : ℕ) → 32 ≤ b → high < b → outside high b ≡ true
-byte_high high b h k = rw (le-leb 32 b h, lt-leb b high k)
-
-pub byte-good : (high b : ℕ) → 32 ≤ b → b ≤ high → outside high b ≡ false
-byte-good high b h k = rw (le-leb 32 b h, le-leb b high k)
-
 -- ---- line ends at an index
-
-pub end_none : (s : Bytes) (i : ℕ) → length s ≤ i → end_of (drop i s) ≡ lacking
-end_none s i h = rw (drop_of_length-le s {i = i} h)
-
-pub begins-none : (s : Bytes) (i : ℕ) → length s ≤ i → begins_lf (drop i s) ≡ false
-begins-none s i h = rw (drop_of_length-le s {i = i} h)
-
-pub begins-at : (s : Bytes) (i : ℕ) → i < length s → begins_lf (drop i s) ≡ eqb (get_or s i 0) 10
-begins-at s i h = rw (drop-cons s i 0 h)
-
--- with the tests of the byte and of the next one decided
-pub end-at : (s : Bytes) (i : ℕ) (x y z : Bool) → i < length s → eqb (get_or s i 0) 10 ≡ x → eqb (get_or s i 0) 13 ≡ y → begins_lf (drop (i + 1) s) ≡ z
-    → end_of (drop i s) ≡ end_by x y z
-end-at s i x y z h p q r = rw (drop-cons s i 0 h, p, q, ← add-one, r)
 
 -- a line end that has bytes is one
 pub end-some : (e : LineEnd) → 0 < length (end_bytes e) → is_line_end e ≡ true

@@ -14,13 +14,6 @@ use base_quantities::{Place, Records};
 
 pub mod scan;
 
-// A line's code, if it has one.
-#[derive(Clone, Copy)]
-pub enum Coded {
-    None,
-    With(Code),
-}
-
 // Some lines: how many, and where they end.
 #[derive(Clone, Copy)]
 pub struct Lines {
@@ -39,16 +32,10 @@ pub fn end_len(s: &[u8], start: Place) -> usize
     if s[at] == b'\n' {
         return 1;
     }
-    if s[at] != b'\r' {
-        return 0;
+    if s[at] == b'\r' && 1 < s.len() - at && s[at + 1] == b'\n' {
+        return 2;
     }
-    if s.len() - at < 2 {
-        return 0;
-    }
-    if s[at + 1] != b'\n' {
-        return 0;
-    }
-    2
+    0
 }
 
 // Where the line that starts there ends, without its end.
@@ -56,6 +43,7 @@ pub fn body_end(s: &[u8], start: Place) -> Place
     ensures { (result.0 ≡ start.0 + body_len (drop start.0 s.now)) × (result.0 ≤ length s.now + (start.0 - length s.now)) }
 {
     let mut i = start.0;
+    // No `for`: a step goes as far as the next byte that may end a line.
     while i < s.len() {
         if 0 < end_len(s, Place(i)) {
             return Place(i);
@@ -89,19 +77,7 @@ pub fn begins_with(s: &[u8], start: Place, x: u8, y: u8) -> bool
     ensures { result ≡ same_bytes (x ∷ y ∷ comma ∷ []) (take 3 (drop start.0 s.now)) }
 {
     let at = start.0;
-    if s.len() < 3 {
-        return false;
-    }
-    if s.len() - 3 < at {
-        return false;
-    }
-    if s[at] != x {
-        return false;
-    }
-    if s[at + 1] != y {
-        return false;
-    }
-    s[at + 2] == b','
+    at < s.len() && 2 < s.len() - at && s[at] == x && s[at + 1] == y && s[at + 2] == b','
 }
 
 // A line of this code starts there.
@@ -112,35 +88,29 @@ pub fn begins(s: &[u8], start: Place, code: Code) -> bool
     begins_with(s, start, d.0, d.1)
 }
 
-// The code of the line that starts there.
-pub fn code_at(s: &[u8], start: Place) -> Coded
+// The codes: the records' by their numbers, then 88.
+const CODES: [Code; 8] = [
+    Code::FileHeader,
+    Code::GroupHeader,
+    Code::AccountHeader,
+    Code::Detail,
+    Code::AccountTrailer,
+    Code::GroupTrailer,
+    Code::FileTrailer,
+    Code::Continuation,
+];
+
+// The code of the line that starts there, if it has one. Drawn into each caller: the reader asks it of every record.
+#[inline(always)]
+pub fn code_at(s: &[u8], start: Place) -> Option<Code>
     ensures { code_found result ≡ code_of (first_line (drop start.0 s.now)) }
 {
-    if begins(s, start, Code::FileHeader) {
-        return Coded::With(Code::FileHeader);
+    for code in CODES {
+        if begins(s, start, code) {
+            return Some(code);
+        }
     }
-    if begins(s, start, Code::GroupHeader) {
-        return Coded::With(Code::GroupHeader);
-    }
-    if begins(s, start, Code::AccountHeader) {
-        return Coded::With(Code::AccountHeader);
-    }
-    if begins(s, start, Code::Detail) {
-        return Coded::With(Code::Detail);
-    }
-    if begins(s, start, Code::AccountTrailer) {
-        return Coded::With(Code::AccountTrailer);
-    }
-    if begins(s, start, Code::GroupTrailer) {
-        return Coded::With(Code::GroupTrailer);
-    }
-    if begins(s, start, Code::FileTrailer) {
-        return Coded::With(Code::FileTrailer);
-    }
-    if begins(s, start, Code::Continuation) {
-        return Coded::With(Code::Continuation);
-    }
-    Coded::None
+    None
 }
 
 // The 88 lines from a place on.
@@ -149,6 +119,7 @@ pub fn further_lines(s: &[u8], start: Place) -> Lines
 {
     let mut end = start;
     let mut n: u64 = 0;
+    // No `for`: a step goes as far as the line does.
     while begins(s, end, Code::Continuation) {
         end = next_line(s, end);
         n += 1;

@@ -1,2 +1,2 @@
--- Codes are the same exactly where their numbers are.
+-- A list of one code holds what that code is.
 mod OrderLaws

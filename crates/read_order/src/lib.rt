@@ -22,14 +22,14 @@ pub fn expected_after(code: Code) -> Expected
     ensures { expected_meant result ≡ may_follow (code_meant code) }
 {
     match code {
-        Code::FileHeader => Expected::Either(Code::GroupHeader, Code::FileTrailer),
+        Code::FileHeader | Code::GroupTrailer => Expected::Either(
+            Code::GroupHeader,
+            Code::FileTrailer,
+        ),
         Code::GroupHeader => Expected::One(Code::AccountHeader),
-        Code::AccountHeader => Expected::Either(Code::Detail, Code::AccountTrailer),
-        Code::Detail => Expected::Either(Code::Detail, Code::AccountTrailer),
+        Code::AccountHeader | Code::Detail => Expected::Either(Code::Detail, Code::AccountTrailer),
         Code::AccountTrailer => Expected::Either(Code::AccountHeader, Code::GroupTrailer),
-        Code::GroupTrailer => Expected::Either(Code::GroupHeader, Code::FileTrailer),
-        Code::FileTrailer => Expected::Nothing,
-        Code::Continuation => Expected::Nothing,
+        Code::FileTrailer | Code::Continuation => Expected::Nothing,
     }
 }
 
@@ -37,16 +37,10 @@ pub fn expected_after(code: Code) -> Expected
 pub fn allows(expected: Expected, code: Code) -> bool
     ensures { result ≡ among (code_meant code) (expected_meant expected) }
 {
-    let n = base_codes::number_of(code);
     match expected {
         Expected::Nothing => false,
-        Expected::One(only) => n == base_codes::number_of(only),
-        Expected::Either(one, other) => {
-            if n == base_codes::number_of(one) {
-                return true;
-            }
-            n == base_codes::number_of(other)
-        }
+        Expected::One(only) => code == only,
+        Expected::Either(one, other) => code == one || code == other,
     }
 }
 
@@ -54,41 +48,25 @@ pub fn allows(expected: Expected, code: Code) -> bool
 pub fn has_ended(expected: Expected) -> bool
     ensures { result ≡ ended (expected_meant expected) }
 {
-    match expected {
-        Expected::Nothing => true,
-        Expected::One(_) => false,
-        Expected::Either(_, _) => false,
-    }
+    matches!(expected, Expected::Nothing)
 }
 
 // After a record of this code a group is open.
 pub fn group_open(code: Code) -> bool
     ensures { result ≡ group_open (code_meant code) }
 {
-    match code {
-        Code::FileHeader => false,
-        Code::GroupHeader => true,
-        Code::AccountHeader => true,
-        Code::Detail => true,
-        Code::AccountTrailer => true,
-        Code::GroupTrailer => false,
-        Code::FileTrailer => false,
-        Code::Continuation => true,
-    }
+    !matches!(
+        code,
+        Code::FileHeader | Code::GroupTrailer | Code::FileTrailer
+    )
 }
 
 // After a record of this code an account is open.
 pub fn account_open(code: Code) -> bool
     ensures { result ≡ account_open (code_meant code) }
 {
-    match code {
-        Code::FileHeader => false,
-        Code::GroupHeader => false,
-        Code::AccountHeader => true,
-        Code::Detail => true,
-        Code::AccountTrailer => false,
-        Code::GroupTrailer => false,
-        Code::FileTrailer => false,
-        Code::Continuation => true,
-    }
+    matches!(
+        code,
+        Code::AccountHeader | Code::Detail | Code::Continuation
+    )
 }

@@ -31,11 +31,11 @@ then-most n (fine u) r h l = l
 module _ (n m : ℕ) (k : Kept) (w : Within n m k) where
   total-most : (s : Summary) → AtMost n (total_k s k)
   unfolding total_k
-  total-most s = check-most n 11 k.total.at.0 (equals s.sum (as_sum (record { negative = k.total_negative; magnitude = k.total.magnitude.0 }))) w.total
+  total-most s = check-most n 11 k.total.at.0 (equals s.sum (as_sum (record { negative = k.total_negative; magnitude = k.total.value.0 }))) w.total
 
   records-most : (s : Summary) → AtMost n (records_k s k)
   unfolding records_k
-  records-most s = check-most n 13 k.records.at.0 (eqb s.records k.records.records.0) w.records
+  records-most s = check-most n 13 k.records.at.0 (eqb s.records k.records.value.0) w.records
 
   account-most : (s : Summary) → AtMost n (account_k s k)
   unfolding account_k
@@ -46,7 +46,7 @@ module _ (n m : ℕ) (k : Kept) (w : Within n m k) where
   trailer-most s i =
       then-most n (within_k s k) _ (check-most n 14 k.total.at.0 (within_most s.sum) w.total)
       (then-most n (total_k s k) _ (total-most s)
-      (then-most n (count_k i k) (records_k s k) (check-most n 12 k.count.at.0 (eqb i k.count.count.0) w.count) (records-most s)))
+      (then-most n (count_k i k) (records_k s k) (check-most n 12 k.count.at.0 (eqb i k.count.value.0) w.count) (records-most s)))
 
   pub balanced-most : (c : Code) (a g f : Summary) (why : Refusal) → balanced_k c a g f k ≡ refused why → why.place ≤ n
   unfolding balanced_k

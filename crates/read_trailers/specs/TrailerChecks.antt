@@ -13,15 +13,15 @@ within_k s k = check (within_most s.sum) 14 k.total.at.0
 
 -- 11: `right_total`; `total_right`
 unfoldable pub total_k : totals.Summary → Kept → Outcome (Unit {0})
-total_k s k = check (equals s.sum (as_sum (record { negative = k.total_negative; magnitude = k.total.magnitude.0 }))) 11 k.total.at.0
+total_k s k = check (equals s.sum (as_sum (record { negative = k.total_negative; magnitude = k.total.value.0 }))) 11 k.total.at.0
 
 -- 12: `right_count`; `count-right`
 unfoldable pub count_k : ℕ → Kept → Outcome (Unit {0})
-count_k n k = check (eqb n k.count.count.0) 12 k.count.at.0
+count_k n k = check (eqb n k.count.value.0) 12 k.count.at.0
 
 -- 13: `right_records`; `records-right`
 unfoldable pub records_k : totals.Summary → Kept → Outcome (Unit {0})
-records_k s k = check (eqb s.records k.records.records.0) 13 k.records.at.0
+records_k s k = check (eqb s.records k.records.value.0) 13 k.records.at.0
 
 -- an account's trailer; a group's or the file's, with the number of its accounts or groups
 unfoldable pub account_k : totals.Summary → Kept → Outcome (Unit {0})

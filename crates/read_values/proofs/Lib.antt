@@ -1,5 +1,2 @@
 -- Laws of the tests that the code makes.
-pub mod ValueShapes
-pub mod NumberValues
-pub mod TypeLaws
-pub mod FieldBytes
+pub mod DateLaws

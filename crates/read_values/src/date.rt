@@ -1,4 +1,6 @@
 // Dates: YYMMDD, years 2000 to 2099, a day that its month has.
+#![tactic(auto, unfolding(rules::specs::Numbers::digits, rules::specs::Dates::days_of, rules::specs::Dates::is_date, crate::specs::ValueMeanings::date_in))]
+
 ghost use Rattle.std.specs.Prelude.{◌≡◌};
 ghost use Rattle.rules.specs.Dates.{is_date, days_of};
 ghost use Rattle.read_values.specs.ValueMeanings.{date_in};
@@ -9,13 +11,6 @@ pub struct Date {
     pub year: u64,
     pub month: u64,
     pub day: u64,
-}
-
-// What reading a date finds.
-#[derive(Clone, Copy)]
-pub enum DateRead {
-    Given(Date),
-    NoDate,
 }
 
 impl Date {
@@ -32,50 +27,29 @@ impl Date {
     pub fn days_in(year: u64, month: u64) -> u64
         ensures { result ≡ days_of year month }
     {
-        if month == Date::FEBRUARY {
-            if year % Date::LEAP_YEARS == 0 {
-                return 29;
-            }
-            return 28;
+        match month {
+            Date::FEBRUARY if year % Date::LEAP_YEARS == 0 => 29,
+            Date::FEBRUARY => 28,
+            4 | 6 | 9 | 11 => 30,
+            _ => 31,
         }
-        if month == 4 {
-            return 30;
-        }
-        if month == 6 {
-            return 30;
-        }
-        if month == 9 {
-            return 30;
-        }
-        if month == 11 {
-            return 30;
-        }
-        31
     }
 
-    // The date that six digits give.
-    pub fn read(f: &[u8]) -> DateRead
+    // The date that six digits give, if they give one.
+    pub fn read(f: &[u8]) -> Option<Date>
         ensures { result ≡ date_in f.now }
     {
         if !base_digits::is_digits(f, Date::DIGITS, Date::DIGITS) {
-            return DateRead::NoDate;
+            return None;
         }
         let year = base_digits::value(&f[0..2]);
         let month = base_digits::value(&f[2..4]);
         let day = base_digits::value(&f[4..6]);
-        if month < 1 {
-            return DateRead::NoDate;
+        // By `<` and no ranges: the tests are those of the definition, and so the proof finds them.
+        if month < 1 || Date::MONTHS < month || day < 1 || Date::days_in(year, month) < day {
+            return None;
         }
-        if Date::MONTHS < month {
-            return DateRead::NoDate;
-        }
-        if day < 1 {
-            return DateRead::NoDate;
-        }
-        if Date::days_in(year, month) < day {
-            return DateRead::NoDate;
-        }
-        DateRead::Given(Date { year, month, day })
+        Some(Date { year, month, day })
     }
 }
 
@@ -83,8 +57,5 @@ impl Date {
 pub fn is_date(f: &[u8]) -> bool
     ensures { result ≡ is_date f.now }
 {
-    match Date::read(f) {
-        DateRead::Given(_) => true,
-        DateRead::NoDate => false,
-    }
+    Date::read(f).is_some()
 }

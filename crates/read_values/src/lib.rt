@@ -1,6 +1,6 @@
 // What a field's bytes may be: names, single bytes, currencies, lengths, times and types. Dates are in `date`; numbers are in `base_digits`.
 
-#![tactic(auto)]
+#![tactic(auto, unfolding(rules::specs::Bytes::is_empty, rules::specs::Bytes::one_of, rules::specs::Grammar::is_currency, rules::specs::Grammar::is_length, rules::specs::Numbers::digits, rules::specs::Dates::is_time, rules::specs::TypeCodes::class_of, rules::specs::TypeCodes::type_class))]
 
 ghost use Rattle.std.specs.Prelude.{◌≡◌, length, leb};
 ghost use Rattle.rules.specs.Limits.{longest_name};
@@ -33,87 +33,50 @@ pub fn is_reference(f: &[u8]) -> bool
 pub fn is_name(f: &[u8]) -> bool
     ensures { result ≡ between 1 longest_name (length f.now) }
 {
-    if f.len() < 1 {
-        return false;
-    }
-    is_reference(f)
+    !is_empty(f) && is_reference(f)
 }
 
 // A byte that may stand in a field: an allowed one, no comma and no slash.
 fn in_field(b: u8) -> bool
     ensures { result ≡ in_field b }
 {
-    if b < b' ' {
-        return false;
-    }
-    if b'~' < b {
-        return false;
-    }
-    if b == b',' {
-        return false;
-    }
-    b != b'/'
+    matches!(b, b' '..=b'~') && b != b',' && b != b'/'
 }
 
 // Bytes that may all stand in a field.
 pub fn is_clean(f: &[u8]) -> bool
     ensures { result ≡ clean f.now }
 {
-    let mut i: usize = 0;
-    while i < f.len() {
-        if !in_field(f[i]) {
-            return false;
-        }
-        i += 1;
-    }
-    true
+    f.iter().all(|&b| in_field(b))
 }
 
 // No byte.
 pub fn is_empty(f: &[u8]) -> bool
     ensures { result ≡ is_empty f.now }
 {
-    f.len() == 0
+    f.is_empty()
 }
 
 // One byte from lo to hi.
 pub fn is_one_of(f: &[u8], lo: u8, hi: u8) -> bool
     ensures { result ≡ one_of lo hi f.now }
 {
-    if f.len() != 1 {
-        return false;
-    }
-    if f[0] < lo {
-        return false;
-    }
-    f[0] <= hi
+    f.len() == 1 && lo <= f[0] && f[0] <= hi
 }
 
 // Empty, or three of A to Z.
 pub fn is_currency(f: &[u8]) -> bool
     ensures { result ≡ is_currency f.now }
 {
-    if f.len() == 0 {
-        return true;
-    }
-    if f.len() != 3 {
-        return false;
-    }
-    base_digits::all_between(f, b'A', b'Z')
+    is_empty(f) || f.len() == 3 && base_digits::all_between(f, b'A', b'Z')
 }
 
 // The physical length: 1 to 4 digits, 48 to 4096.
 pub fn is_length(f: &[u8]) -> bool
     ensures { result ≡ is_length f.now }
 {
-    if !base_digits::is_digits(f, 1, 4) {
-        return false;
-    }
-    let n = base_digits::value(f);
-    if n < SHORTEST_LENGTH {
-        return false;
-    }
-    n <= LONGEST_LINE as u64
+    base_digits::is_digits(f, 1, 4)
+        && (SHORTEST_LENGTH..=LONGEST_LINE as u64).contains(&base_digits::value(f))
 }
 
 // Hours 00 to 23 with minutes 00 to 59, or 2400, or 9999.
@@ -124,18 +87,9 @@ pub fn is_time(f: &[u8]) -> bool
         return false;
     }
     let n = base_digits::value(f);
-    if n == END_OF_DAY {
-        return true;
-    }
-    if n == NO_TIME {
-        return true;
-    }
     let hours = base_digits::value(&f[0..2]);
     let minutes = base_digits::value(&f[2..4]);
-    if 23 < hours {
-        return false;
-    }
-    minutes <= 59
+    hours <= 23 && minutes <= 59 || n == END_OF_DAY || n == NO_TIME
 }
 
 // The classes of type codes.
@@ -152,42 +106,22 @@ pub enum Class {
 pub fn class_of(n: u64) -> Class
     ensures { class_meant result ≡ class_of n }
 {
-    if n < 1 {
-        return Class::Unknown;
+    match n {
+        1..=99 | 900..=919 => Class::Status,
+        100 | 400 => Class::SummaryOnly,
+        101..=799 | 920..=999 => Class::SummaryOrDetail,
+        890 => Class::NonMonetary,
+        _ => Class::Unknown,
     }
-    if n < 100 {
-        return Class::Status;
-    }
-    if n == 100 {
-        return Class::SummaryOnly;
-    }
-    if n == 400 {
-        return Class::SummaryOnly;
-    }
-    if n < 800 {
-        return Class::SummaryOrDetail;
-    }
-    if n == 890 {
-        return Class::NonMonetary;
-    }
-    if n < 900 {
-        return Class::Unknown;
-    }
-    if n < 920 {
-        return Class::Status;
-    }
-    if n < 1000 {
-        return Class::SummaryOrDetail;
-    }
-    Class::Unknown
 }
 
 // The class of a type field: three digits; anything else is of none.
 pub fn type_class(f: &[u8]) -> Class
     ensures { class_meant result ≡ type_class f.now }
 {
-    if !base_digits::is_digits(f, 3, 3) {
-        return Class::Unknown;
+    if base_digits::is_digits(f, 3, 3) {
+        class_of(base_digits::value(f))
+    } else {
+        Class::Unknown
     }
-    class_of(base_digits::value(f))
 }

@@ -11,8 +11,8 @@ use Rattle.read_wanted.specs.Wants.{purpose}
 use Rattle.read_kept.specs.declared.Kept.{Kept}
 use Rattle.read_kept.specs.KeepFields.{nothing_kept, keep_read, Within}
 use Rattle.read_kept.proofs.KeptBounds.{nothing-within, read-within}
-use Rattle.read_walk.specs.declared.Walked.{Walked}
-use Rattle.read_walk.specs.declared.Walked.TheVariants.{Refused, Done}
+use Rattle.base_refusals.specs.declared.Refusal.{Refusal}
+use Rattle.std.specs.Prelude.{Result, Ok, Err}
 use Rattle.read_walk.specs.WalkKept.{WalkK, point, walk_after_k, taken_k, end_k}
 use Rattle.read_walk.specs.WalkAnswers.{walked_of, Bounds}
 
@@ -39,12 +39,12 @@ module _ (n m : ℕ) where
   taken-fits p bs w v e h f =
       after-fits (take_next w.wanted bs) p (keep_read (purpose (next_kind w.wanted)) w.kept p bs) w v e (read-within n m (purpose (next_kind w.wanted)) w.kept p bs h f.kept) f
 
-  end_by : (r : Walked) (t : Bool) (w : WalkK) → walked_of r ≡ (check t 8 w.last_slash >>= λ _. fine w.kept) → Fits n m w → Bounds n m r
-  end_by (Refused why) true w e f = absurd (refused-fine _ w.kept e)
-  end_by (Refused why) false w e f = let q : why.place.0 ≡ w.last_slash = ap place_of e in omega (arith, f.slash)
-  end_by (Done k) true w e f = rw (fine-same k w.kept e) f.kept
-  end_by (Done k) false w e f = absurd (refused-fine _ k (sym e))
+  end_by : (r : Result Kept Refusal) (t : Bool) (w : WalkK) → walked_of r ≡ (check t 8 w.last_slash >>= λ _. fine w.kept) → Fits n m w → Bounds n m r
+  end_by (Err why) true w e f = absurd (refused-fine _ w.kept e)
+  end_by (Err why) false w e f = let q : why.place.0 ≡ w.last_slash = ap place_of e in omega (arith, f.slash)
+  end_by (Ok k) true w e f = rw (fine-same k w.kept e) f.kept
+  end_by (Ok k) false w e f = absurd (refused-fine _ k (sym e))
 
-  pub end-bounds : (r : Walked) (w : WalkK) → walked_of r ≡ end_k w → Fits n m w → Bounds n m r
+  pub end-bounds : (r : Result Kept Refusal) (w : WalkK) → walked_of r ≡ end_k w → Fits n m w → Bounds n m r
   unfolding end_k
   end-bounds r w e f = end_by r (may_lack w.wanted) w e f

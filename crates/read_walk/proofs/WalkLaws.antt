@@ -16,7 +16,7 @@ use Rattle.rules.specs.Grammar.{Kind, bad, good, and_then, take_next, next_kind,
 use Rattle.rules.proofs.Tests.{Known, holds, fails, known}
 use Rattle.read_lines.specs.LineLengths.{body_len, line_len, first_line}
 use Rattle.read_wanted.specs.Wants.{purpose}
-use Rattle.read_field_ends.specs.declared.Extent.TheVariants.{Field, Open}
+use Rattle.std.specs.Prelude.{Some, None}
 use Rattle.read_field_ends.specs.FieldLengths.{field_len, extent_of}
 use Rattle.read_field_ends.proofs.FieldLengthLaws.{extent-short, extent-open, extent-text, extent-within}
 use Rattle.read_kept.specs.declared.Kept.{Kept}
@@ -48,13 +48,13 @@ module _ (w : WalkK) (a : ℕ) (xs : Bytes) where
   whole cs (starts bs m rest) t = rw t
 
   -- the line ends before a comma or slash
-  pub at_open : Open ≡ extent_of (is_text (next_kind w.wanted)) xs → walk_cells_k w (cells_from a xs) ≡ refuse 7 (a + length xs)
+  pub at_open : None ≡ extent_of (is_text (next_kind w.wanted)) xs → walk_cells_k w (cells_from a xs) ≡ refuse 7 (a + length xs)
   unfolding walk_cells_k taken_to_k
   at_open extent =
       let z = extent-open (is_text (next_kind w.wanted)) xs extent in
       rw (first-open a xs z.1, z.0)
 
-  module _ (n : ℕ) (extent : Field n ≡ extent_of (is_text (next_kind w.wanted)) xs) where
+  module _ (n : ℕ) (extent : Some n ≡ extent_of (is_text (next_kind w.wanted)) xs) where
     pub at-text : is_text (next_kind w.wanted) ≡ true → walk_cells_k w (cells_from a xs) ≡ taken_k a (take n xs) w
     at-text t = whole (cells_from a xs) (cells-start a xs) t ∙ ap (λ (bs : Bytes). taken_k a bs w) (sym (extent-text xs n (rw t at extent)))
 
@@ -85,10 +85,10 @@ module _ (s : Bytes) (w : WalkK) (a e : ℕ) (ae : a ≤ e) (es : e ≤ length s
   long : length (slice a e s) ≡ e - a
   long = length-slice a e s es
 
-  pub open-here : Open ≡ extent_of (is_text (next_kind w.wanted)) (slice a e s) → walk_cells_k w (cells_from a (slice a e s)) ≡ refuse 7 e
+  pub open-here : None ≡ extent_of (is_text (next_kind w.wanted)) (slice a e s) → walk_cells_k w (cells_from a (slice a e s)) ≡ refuse 7 e
   open-here extent = at_open w a (slice a e s) extent ∙ ap (λ (n : ℕ). refuse 7 n) (omega (arith, long))
 
-  module _ (n : ℕ) (extent : Field n ≡ extent_of (is_text (next_kind w.wanted)) (slice a e s)) where
+  module _ (n : ℕ) (extent : Some n ≡ extent_of (is_text (next_kind w.wanted)) (slice a e s)) where
     pub field-within : a + n ≤ e
     field-within = omega (arith, long, extent-within (is_text (next_kind w.wanted)) (slice a e s) n extent)
 

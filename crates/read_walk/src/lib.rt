@@ -2,49 +2,30 @@
 
 #![tactic(auto)]
 
-ghost use Rattle.std.specs.Prelude.{◌≡◌, length, take};
+ghost use Rattle.std.specs.Prelude.{◌≡◌, Err, length, take};
 ghost use Rattle.read_wanted.specs.Wants.{wanted_of};
 ghost use Rattle.read_walk.specs.WalkKept.{point, end_k};
-ghost use Rattle.read_walk.specs.declared.Walked.TheVariants.{Refused};
 ghost use Rattle.read_walk.specs.WalkAnswers.{walked_of, Walks};
 
 use base_quantities::{Magnitude, Place};
-use base_refusals::{LINE_BADLY_ENDED, Refusal, WRONG_FIELD};
-use read_field_ends::Extent;
+use base_refusals::{Reason, Refusal};
 use read_kept::Kept;
+use read_wanted::want;
 use read_wanted::want::Want;
-use read_wanted::{Taken, want};
-
-// A refusal with its place in the record, or what was kept.
-#[derive(Clone, Copy)]
-pub enum Walked {
-    Refused(Refusal),
-    Done(Kept),
-}
 
 // After the record's last line, with this wanted, this kept and the last slash that ended a line: what is missing.
-fn finish(want: Want, kept: Kept, slash: Place) -> Walked
+fn finish(want: Want, kept: Kept, slash: Place) -> Result<Kept, Refusal>
     ensures { walked_of result ≡ end_k (point (wanted_of want) kept slash.0) }
 {
     if want::may_lack(want) {
-        return Walked::Done(kept);
+        return Ok(kept);
     }
-    Walked::Refused(Refusal {
-        number: WRONG_FIELD,
-        place: slash,
-    })
-}
-
-// The walk stops at this place of the record.
-fn stop(number: u64, place: Place) -> Walked
-    ensures { result ≡ Refused (record { number = number; place = place }) }
-{
-    Walked::Refused(Refusal { number, place })
+    Err(Reason::WrongField.at(slash))
 }
 
 // The walk over the record in front of rest stops at the first fault found; places are counted from the record's start. `before`: the magnitudes of the
 // records before.
-fn walk_lines(rest: &[u8], rec: &[u8], first: Want, before: Magnitude) -> Walked
+fn walk_lines(rest: &[u8], rec: &[u8], first: Want, before: Magnitude) -> Result<Kept, Refusal>
     requires { rec.now ≡ take (length rec.now) rest.now }
     ensures { Walks rec.now first before.0 result }
 {
@@ -52,28 +33,27 @@ fn walk_lines(rest: &[u8], rec: &[u8], first: Want, before: Magnitude) -> Walked
     let mut kept = Kept::none(before);
     let mut slash = Place(0);
     let mut at: usize = 0;
-    'walk: loop {
-        if rec.len() <= at {
-            break 'walk finish(want, kept, slash);
-        }
+    // No `for`: a step is a line, and below a field, as long as they are.
+    while at < rec.len() {
         let e = read_lines::body_end_in(rest, rec.len(), Place(at)).0;
         let mut a = at + 3;
         at = e + read_lines::end_len(rec, Place(e));
         if e < a {
-            break 'walk stop(LINE_BADLY_ENDED, Place(a));
+            return Err(Reason::LineBadlyEnded.at(Place(a)));
         }
         loop {
             let text = want::is_text(want);
-            let Extent::Field(n) = read_field_ends::field_extent(text, &rec[a..e]) else {
-                break 'walk stop(LINE_BADLY_ENDED, Place(e));
+            let Some(n) = read_field_ends::field_extent(text, &rec[a..e]) else {
+                return Err(Reason::LineBadlyEnded.at(Place(e)));
             };
             let f = a + n;
             if read_kept::is_kept(want) {
                 kept = kept.keep(want, Place(a), &rec[a..f]);
             }
+            // A match and no `map_err`: what a closure answers does not reach the proof as an equation.
             match read_fields::take_detail_first(want, &rec[a..f]) {
-                Taken::Refused(number) => break 'walk stop(number, Place(a)),
-                Taken::Next(next) => want = next,
+                Err(reason) => return Err(reason.at(Place(a))),
+                Ok(next) => want = next,
             }
             if text {
                 break;
@@ -82,17 +62,23 @@ fn walk_lines(rest: &[u8], rec: &[u8], first: Want, before: Magnitude) -> Walked
             if rec[f] == b'/' {
                 let t = a + read_field_ends::blanks_len(&rec[a..e]);
                 if t < e {
-                    break 'walk stop(LINE_BADLY_ENDED, Place(t));
+                    return Err(Reason::LineBadlyEnded.at(Place(t)));
                 }
                 slash = Place(f);
                 break;
             }
         }
     }
+    finish(want, kept, slash)
 }
 
 // The walk over a record, the first `size` bytes of what is left of the file; `before`: the magnitudes of the records before.
-pub fn walk_record(rest: &[u8], size: usize, first: Want, before: Magnitude) -> Walked
+pub fn walk_record(
+    rest: &[u8],
+    size: usize,
+    first: Want,
+    before: Magnitude,
+) -> Result<Kept, Refusal>
     ensures { Walks (take size rest.now) first before.0 result }
 {
     walk_lines(rest, base_slices::front(rest, size), first, before)

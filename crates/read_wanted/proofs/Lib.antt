@@ -1,5 +1,2 @@
--- Laws of wants, by the tests of the code.
-pub mod OtherWants
-pub mod NextWants
-pub mod TakeLaws
+-- Laws of wants: no two mean the same.
 pub mod WantsApart

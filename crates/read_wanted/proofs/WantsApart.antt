@@ -7,10 +7,11 @@ use lib.Dec.{eqb}
 use lib.ListN.{length}
 use Rattle.rules.specs.Grammar as kind
 use Rattle.rules.specs.Grammar.{Kind, same_kind, next_kind, pairs, fields_of, Judged}
+use Rattle.base_refusals.specs.declared.Reason.{Reason}
+use Rattle.base_refusals.proofs.RefusalsBack.{reason_from, same_reason}
 use Rattle.read_wanted.specs.Wants.{wanted_of, wanted_after, references, splits, Purpose, for_amount, for_total, for_count, for_records, for_length, for_nothing, keep_meant}
 use Rattle.read_wanted.specs.TakenMeaning.{judged_of}
-use Rattle.read_wanted.specs.declared.Taken.{Taken}
-use Rattle.read_wanted.specs.declared.Taken.TheVariants.{Next, Refused}
+use Rattle.std.specs.Prelude.{Result, Ok, Err}
 use Rattle.read_wanted.specs.declared.want.After.{After}
 use Rattle.read_wanted.specs.declared.want.After.TheVariants.{FurtherItem, References}
 use Rattle.read_wanted.specs.declared.want.Keep.{Keep}
@@ -167,17 +168,17 @@ want-fixed v w e = sym (want-back v) ∙ ap want_of e ∙ want-back w
 
 -- ---- every answer
 
-abbrev taken_of : Judged → Taken
-taken_of (kind.bad n) = Refused n
-taken_of (kind.good ks) = Next (want_of ks)
+abbrev taken_of : Judged → Result Want Reason
+taken_of (kind.bad n) = Err (reason_from n)
+taken_of (kind.good ks) = Ok (want_of ks)
 
-taken_back : (t : Taken) → taken_of (judged_of t) ≡ t
+taken_back : (t : Result Want Reason) → taken_of (judged_of t) ≡ t
 unfolding judged_of
-taken_back (Next w) = ap Next (want-back w)
-taken_back (Refused n) = refl
+taken_back (Ok w) = ap Ok (want-back w)
+taken_back (Err r) = ap Err (same_reason r)
 
 -- Two answers that say the same of a field are the same answer.
-pub taken-fixed : (s t : Taken) → judged_of s ≡ judged_of t → s ≡ t
+pub taken-fixed : (s t : Result Want Reason) → judged_of s ≡ judged_of t → s ≡ t
 taken-fixed s t e = sym (taken_back s) ∙ ap taken_of e ∙ taken_back t
 
 -- ---- every `Keep`

@@ -1,4 +1,6 @@
 // What the next fields of a record must be.
+#![tactic(auto, unfolding(crate::specs::Wants::wanted_of, crate::specs::Wants::wanted_after, crate::specs::Wants::references, crate::specs::Wants::splits, crate::specs::Wants::purpose, rules::specs::Grammar::fields_of, rules::specs::Grammar::pairs))]
+
 ghost use Rattle.std.specs.Prelude.{◌≡◌, ◌++◌};
 ghost use Rattle.rules.specs.Grammar.{fields_of, may_lack, is_text, next_kind, pairs};
 ghost use Rattle.base_codes.specs.CodeMeaning.{code_meant};
@@ -87,8 +89,7 @@ pub fn first_want(code: Code) -> Want
         Code::AccountHeader => Want::Account,
         Code::Detail => Want::DetailType,
         Code::AccountTrailer => Want::AccountTotal,
-        Code::GroupTrailer => Want::Total,
-        Code::FileTrailer => Want::Total,
+        Code::GroupTrailer | Code::FileTrailer => Want::Total,
         Code::Continuation => Want::End,
     }
 }
@@ -97,23 +98,14 @@ pub fn first_want(code: Code) -> Want
 pub fn may_lack(want: Want) -> bool
     ensures { result ≡ may_lack (wanted_of want) }
 {
-    match want {
-        Want::End => true,
-        Want::FurtherType => true,
-        Want::FurtherText => true,
-        _ => false,
-    }
+    matches!(want, Want::End | Want::FurtherType | Want::FurtherText)
 }
 
 // The next field is a text: it takes the line from its place on.
 pub fn is_text(want: Want) -> bool
     ensures { result ≡ is_text (next_kind (wanted_of want)) }
 {
-    match want {
-        Want::Text => true,
-        Want::FurtherText => true,
-        _ => false,
-    }
+    matches!(want, Want::Text | Want::FurtherText)
 }
 
 // What the next field is kept for.
@@ -121,11 +113,8 @@ pub fn kept_for(want: Want) -> Keep
     ensures { keep_meant result ≡ purpose (next_kind (wanted_of want)) }
 {
     match want {
-        Want::StatusAmount => Keep::Amount,
-        Want::ItemAmount => Keep::Amount,
-        Want::DetailAmount => Keep::Amount,
-        Want::AccountTotal => Keep::Total,
-        Want::Total => Keep::Total,
+        Want::StatusAmount | Want::ItemAmount | Want::DetailAmount => Keep::Amount,
+        Want::AccountTotal | Want::Total => Keep::Total,
         Want::Count => Keep::Count,
         Want::Records => Keep::Records,
         Want::Length => Keep::Length,

@@ -6,7 +6,6 @@ ghost use Rattle.std.specs.Prelude.{◌≤◌, IfOk, vec_len};
 
 use base_amounts::Amount;
 use base_refusals::Refusal;
-use find_item::ItemCount;
 use std::rt::{Files, Runtime};
 use std::{fs, io};
 
@@ -41,12 +40,12 @@ fn splits(rt: &impl Runtime) -> io::Result<()> {
 // One call of split.
 fn split(rt: &impl Runtime, name: &[u8], path: &str, out: &mut [u8]) -> io::Result<()> {
     let file = load(rt, path)?;
-    let r = join_split::split(name, file.as_slice(), out);
+    let length = join_split::split(name, file.as_slice(), out);
     print!(rt; "split ")?;
     say(rt, name)?;
     print!(rt; " {path}")?;
-    answer(rt, r.refusal)?;
-    given(rt, r.length, out)
+    answer(rt, length.err())?;
+    given(rt, length.unwrap_or(0), out)
 }
 
 // K4, and combinations that are refused.
@@ -68,11 +67,19 @@ fn combinations(rt: &impl Runtime) -> io::Result<()> {
 fn combine(rt: &impl Runtime, a: &str, b: &str, out: &mut [u8]) -> io::Result<()> {
     let first = load(rt, a)?;
     let second = load(rt, b)?;
-    let r = join_combine::combine(first.as_slice(), second.as_slice(), out);
     print!(rt; "combine {a} {b}")?;
-    answer(rt, r.refusal)?;
-    figure(rt, r.file)?;
-    given(rt, r.length, out)
+    match join_combine::combine(first.as_slice(), second.as_slice(), out) {
+        Ok(length) => {
+            answer(rt, None)?;
+            figure(rt, 0)?;
+            given(rt, length, out)
+        }
+        Err(why) => {
+            answer(rt, Some(why.refusal))?;
+            figure(rt, why.file)?;
+            given(rt, 0, out)
+        }
+    }
 }
 
 // The length and the bytes that a call wrote.
@@ -131,7 +138,7 @@ fn details(rt: &impl Runtime) -> io::Result<()> {
     detail(rt, "k05.bai", 0, 0, 0)
 }
 
-// One call for a detail: its type, how its amount was given and its magnitude, and its text.
+// One call for a detail: its type, how its amount was given and its magnitude, or three times 0; and its text.
 fn detail(rt: &impl Runtime, path: &str, g: u64, a: u64, n: u64) -> io::Result<()> {
     let file = load(rt, path)?;
     let d = part_details::detail(file.as_slice(), g, a, n);
@@ -139,9 +146,14 @@ fn detail(rt: &impl Runtime, path: &str, g: u64, a: u64, n: u64) -> io::Result<(
     figure(rt, g)?;
     figure(rt, a)?;
     figure(rt, n)?;
-    answer(rt, d.refusal)?;
-    figure(rt, d.type_code)?;
-    say_amount(rt, d.amount)?;
+    answer(rt, d.err())?;
+    match d {
+        Ok(told) => {
+            figure(rt, told.type_code)?;
+            say_amount(rt, told.amount)?;
+        }
+        Err(_) => print!(rt; " 0 0 0")?,
+    }
     print!(rt; " \"")?;
     say(rt, part_details::detail_text(file.as_slice(), g, a, n))?;
     println!(rt; "\"")
@@ -157,7 +169,7 @@ fn items(rt: &impl Runtime) -> io::Result<()> {
     item(rt, "k05.bai", 0, 0, 0)
 }
 
-// One call for an item: its type, how its amount was given and its magnitude, and its item count or none.
+// One call for an item: its type, how its amount was given and its magnitude, and its item count or none; or three times 0.
 fn item(rt: &impl Runtime, path: &str, g: u64, a: u64, n: u64) -> io::Result<()> {
     let file = load(rt, path)?;
     let i = part_items::item(file.as_slice(), g, a, n);
@@ -165,12 +177,16 @@ fn item(rt: &impl Runtime, path: &str, g: u64, a: u64, n: u64) -> io::Result<()>
     figure(rt, g)?;
     figure(rt, a)?;
     figure(rt, n)?;
-    answer(rt, i.refusal)?;
-    figure(rt, i.type_code)?;
-    say_amount(rt, i.amount)?;
-    match i.count {
-        ItemCount::NoCount => {}
-        ItemCount::Given(given) => figure(rt, given.0)?,
+    answer(rt, i.err())?;
+    match i {
+        Ok(told) => {
+            figure(rt, told.type_code)?;
+            say_amount(rt, told.amount)?;
+            if let Some(given) = told.count {
+                figure(rt, given.0)?;
+            }
+        }
+        Err(_) => print!(rt; " 0 0 0")?,
     }
     println!(rt)
 }
@@ -191,12 +207,16 @@ fn load<R: Files + Alloc>(rt: &R, path: &str) -> io::Result<Vec<u8, R::A>>
     Ok(bytes)
 }
 
-// A colon, and a refusal's number and place.
-fn answer(rt: &impl Print, why: Refusal) -> io::Result<()> {
-    let place = why.place;
-    print!(rt; ":")?;
-    figure(rt, why.number)?;
-    figure(rt, place.0 as u64)
+// A colon, and a refusal's number and place, or 0 and 0.
+fn answer(rt: &impl Print, refused: Option<Refusal>) -> io::Result<()> {
+    match refused {
+        None => print!(rt; ": 0 0"),
+        Some(why) => {
+            print!(rt; ":")?;
+            figure(rt, why.reason.number())?;
+            figure(rt, why.place.0 as u64)
+        }
+    }
 }
 
 // A blank and a number.

@@ -1,5 +1,5 @@
 -- The line of a report by its two cases. Assumes nothing.
-use Prim.Native.Nat.{ℕ, ◌-◌, ◌≤◌, ◌<◌}
+use Prim.Native.Nat.{ℕ, ◌≤◌, ◌<◌}
 use native.Mathlib.Omega.{arith}
 use mathlib.Core.Path.{◌≡◌}
 use mathlib.Core.List.{[], ◌∷◌, ◌++◌}
@@ -27,10 +27,9 @@ report-judged input h = rw (le-leb (length input) most_input h)
 
 -- the line for a verdict is put into a space of its own, and the part of it that was filled at the front of a slice
 pub put-judged : (input : Bytes) (verdict : Outcome Summary) (space line out : Bytes) (k r : ℕ) (after : Bytes) → length input ≤ most_input → verdict ≡ judge input
-    → longest_report ≤ length space → PutLine (as_line (verdict_words verdict)) space k line → Put (take (k - 0) line) out r after → PutLine (report input) out r after
+    → longest_report ≤ length space → PutLine (as_line (verdict_words verdict)) space k line → Put (take k line) out r after → PutLine (report input) out r after
 put-judged input verdict space line out k r after h v room (in-space, most) p =
-    let whole : k - 0 ≡ k = omega arith in
-    let stands : take (k - 0) line ≡ as_line (verdict_words verdict) = rw whole (put-stands in-space (omega (arith, most))).0 in
+    let stands : take k line ≡ as_line (verdict_words verdict) = (put-stands in-space (omega (arith, most))).0 in
     rw (report-judged input h, ← v, ← stands) (p, rw (← stands) at most)
 
 -- one answer, and one content of the slice

@@ -14,7 +14,6 @@ ghost use Rattle.run_report.specs.PutLines.{counts, longest_report, PutLine};
 use base_limits::MOST_INPUT;
 use base_refusals::Refusal;
 use base_totals::Summary;
-use read_file::Verdict;
 
 // The longest line: `ok`, five numbers of up to 20 digits, each after a blank and the first with a sign, and a line feed.
 pub const LONGEST_REPORT: usize = 109;
@@ -24,14 +23,10 @@ fn put_counts(out: &mut [u8], summary: Summary) -> usize
     requires { length (counts (summary_meant summary)) ≤ length out.old }
     ensures { Put (counts (summary_meant summary)) out.old result out.new }
 {
-    let groups = summary.groups;
-    let accounts = summary.accounts;
-    let details = summary.details;
-    let records = summary.records;
-    let mut o = base_numerals::put_digits_after(out, b' ', groups.0);
-    o += base_numerals::put_digits_after(&mut out[o..], b' ', accounts.0);
-    o += base_numerals::put_digits_after(&mut out[o..], b' ', details.0);
-    o += base_numerals::put_digits_after(&mut out[o..], b' ', records.0);
+    let mut o = base_numerals::put_digits_after(out, b' ', summary.groups.0);
+    o += base_numerals::put_digits_after(&mut out[o..], b' ', summary.accounts.0);
+    o += base_numerals::put_digits_after(&mut out[o..], b' ', summary.details.0);
+    o += base_numerals::put_digits_after(&mut out[o..], b' ', summary.records.0);
     o
 }
 
@@ -40,9 +35,8 @@ fn put_summary(out: &mut [u8], summary: Summary) -> usize
     requires { longest_report ≤ length out.old }
     ensures { PutLine (as_line (verdict_words (fine (summary_meant summary)))) out.old result out.new }
 {
-    let total = summary.total;
     let mut o = base_slices::put(out, b"ok ");
-    o += base_numerals::put_total(&mut out[o..], total);
+    o += base_numerals::put_total(&mut out[o..], summary.total);
     o += put_counts(&mut out[o..], summary);
     o += base_slices::put(&mut out[o..], b"\n");
     o
@@ -53,22 +47,21 @@ fn put_refusal(out: &mut [u8], why: Refusal) -> usize
     requires { longest_report ≤ length out.old }
     ensures { PutLine (as_line (verdict_words (refused (refusal_meant why)))) out.old result out.new }
 {
-    let place = why.place;
     let mut o = base_slices::put(out, b"refused");
-    o += base_numerals::put_digits_after(&mut out[o..], b' ', why.number);
-    o += base_numerals::put_digits_after(&mut out[o..], b' ', place.0 as u64);
+    o += base_numerals::put_digits_after(&mut out[o..], b' ', why.reason.number());
+    o += base_numerals::put_digits_after(&mut out[o..], b' ', why.place.0 as u64);
     o += base_slices::put(&mut out[o..], b"\n");
     o
 }
 
 // The line for a verdict at the front of out: how many bytes.
-fn put_verdict(out: &mut [u8], verdict: Verdict) -> usize
+fn put_verdict(out: &mut [u8], verdict: Result<Summary, Refusal>) -> usize
     requires { longest_report ≤ length out.old }
     ensures { PutLine (as_line (verdict_words (verdict_meant verdict))) out.old result out.new }
 {
     match verdict {
-        Verdict::Accepted(summary) => put_summary(out, summary),
-        Verdict::Refused(why) => put_refusal(out, why),
+        Ok(summary) => put_summary(out, summary),
+        Err(why) => put_refusal(out, why),
     }
 }
 
@@ -81,5 +74,5 @@ pub fn report(input: &[u8], out: &mut [u8]) -> usize
     }
     let mut line = [0u8; LONGEST_REPORT];
     let length = put_verdict(&mut line, read_file::read(input));
-    base_slices::put(out, &line[0..length])
+    base_slices::put(out, &line[..length])
 }

@@ -39,5 +39,5 @@ fn load<R: Files + Alloc>(rt: &R, path: &str) -> io::Result<Vec<u8, R::A>> {
 fn write_line(rt: &impl Print, input: &[u8]) -> io::Result<()> {
     let mut line = [0u8; LONGEST_REPORT];
     let length = run_report::report(input, &mut line);
-    rt.write_all(&line[0..length])
+    rt.write_all(&line[..length])
 }

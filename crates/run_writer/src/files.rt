@@ -1,8 +1,10 @@
 // Two files: K1, and one with every call of the writer.
 use crate::amounts::{minus, plus};
 use crate::printing::after;
+use base_quantities::Signed;
 use std::io;
-use write_line::{Items, MaybeAmount, MaybeItems};
+use write_line::Items;
+use write_records::{Detail, Group, Header, Item};
 use write_state::Writer;
 
 // K1 of document 01; the writer leaves the 16's funds empty.
@@ -10,32 +12,49 @@ pub fn k1(rt: &impl Print, out: &mut [u8]) -> io::Result<Writer> {
     let w = Writer::new();
     let w = after(
         rt,
-        write_calls::header(w, b"122099999", b"123456789", b"040621", b"0200", b"1", out),
+        w,
+        write_calls::header(
+            w,
+            Header {
+                sender: b"122099999",
+                receiver: b"123456789",
+                date: b"040621",
+                time: b"0200",
+                file_number: b"1",
+            },
+            out,
+        ),
     )?;
     let w = after(
         rt,
+        w,
         write_calls::group(
             w,
-            b"031001234",
-            b"122099999",
-            b"1",
-            b"040620",
-            b"2359",
-            b"",
-            b"2",
+            Group {
+                receiver: b"031001234",
+                originator: b"122099999",
+                status: b"1",
+                date: b"040620",
+                time: b"2359",
+                currency: b"",
+                modifier: b"2",
+            },
             out,
         ),
     )?;
     let w = status_account(rt, w, b"0975312468", b"USD", b"010", minus(500), out)?;
     let w = after(
         rt,
+        w,
         write_calls::detail(
             w,
-            b"165",
-            plus(1500),
-            b"DD1620",
-            b"",
-            b"DEALER PAYMENTS",
+            Detail {
+                type_code: b"165",
+                amount: plus(1500),
+                bank_reference: b"DD1620",
+                customer_reference: b"",
+                text: b"DEALER PAYMENTS",
+            },
             out,
         ),
     )?;
@@ -49,19 +68,21 @@ fn status_account(
     number: &[u8],
     currency: &[u8],
     type_code: &[u8],
-    amount: MaybeAmount,
+    amount: Option<Signed>,
     out: &mut [u8],
 ) -> io::Result<Writer> {
     after(
         rt,
+        w,
         write_calls::account(
             w,
             number,
             currency,
-            true,
-            type_code,
-            amount,
-            MaybeItems::NoItems,
+            Some(Item {
+                type_code,
+                amount,
+                count: None,
+            }),
             out,
         ),
     )
@@ -69,9 +90,9 @@ fn status_account(
 
 // The ends of account, group and file.
 fn end_all(rt: &impl Print, w: Writer, out: &mut [u8]) -> io::Result<Writer> {
-    let w = after(rt, write_ends::end_account(w, out))?;
-    let w = after(rt, write_ends::end_group(w, out))?;
-    after(rt, write_ends::end_file(w, out))
+    let w = after(rt, w, write_ends::end_account(w, out))?;
+    let w = after(rt, w, write_ends::end_group(w, out))?;
+    after(rt, w, write_ends::end_file(w, out))
 }
 
 // A file of two groups with every call.
@@ -79,28 +100,34 @@ pub fn every_call(rt: &impl Print, out: &mut [u8]) -> io::Result<Writer> {
     let w = Writer::new();
     let w = after(
         rt,
+        w,
         write_calls::header(
             w,
-            b"BANK A",
-            b"0087654",
-            b"240229",
-            b"2400",
-            b"000000001",
+            Header {
+                sender: b"BANK A",
+                receiver: b"0087654",
+                date: b"240229",
+                time: b"2400",
+                file_number: b"000000001",
+            },
             out,
         ),
     )?;
     let w = two_accounts(rt, w, out)?;
     let w = after(
         rt,
+        w,
         write_calls::group(
             w,
-            b"031001234",
-            b"BANK A",
-            b"4",
-            b"240229",
-            b"9999",
-            b"",
-            b"3",
+            Group {
+                receiver: b"031001234",
+                originator: b"BANK A",
+                status: b"4",
+                date: b"240229",
+                time: b"9999",
+                currency: b"",
+                modifier: b"3",
+            },
             out,
         ),
     )?;
@@ -112,41 +139,45 @@ pub fn every_call(rt: &impl Print, out: &mut [u8]) -> io::Result<Writer> {
 fn two_accounts(rt: &impl Print, w: Writer, out: &mut [u8]) -> io::Result<Writer> {
     let w = after(
         rt,
-        write_calls::group(w, b"", b"BANK A", b"1", b"240228", b"", b"USD", b"", out),
+        w,
+        write_calls::group(
+            w,
+            Group {
+                receiver: b"",
+                originator: b"BANK A",
+                status: b"1",
+                date: b"240228",
+                time: b"",
+                currency: b"USD",
+                modifier: b"",
+            },
+            out,
+        ),
     )?;
     let w = without_items(rt, w, out)?;
     let w = with_items(rt, w, out)?;
-    after(rt, write_ends::end_group(w, out))
+    after(rt, w, write_ends::end_group(w, out))
 }
 
 // An account without an item, and a detail without an amount.
 fn without_items(rt: &impl Print, w: Writer, out: &mut [u8]) -> io::Result<Writer> {
+    let w = after(rt, w, write_calls::account(w, b"0012345", b"", None, out))?;
     let w = after(
         rt,
-        write_calls::account(
-            w,
-            b"0012345",
-            b"",
-            false,
-            b"",
-            MaybeAmount::NoAmount,
-            MaybeItems::NoItems,
-            out,
-        ),
-    )?;
-    let w = after(
-        rt,
+        w,
         write_calls::detail(
             w,
-            b"890",
-            MaybeAmount::NoAmount,
-            b"",
-            b"",
-            b"PLEASE CALL 9/5, ROOM 7",
+            Detail {
+                type_code: b"890",
+                amount: None,
+                bank_reference: b"",
+                customer_reference: b"",
+                text: b"PLEASE CALL 9/5, ROOM 7",
+            },
             out,
         ),
     )?;
-    after(rt, write_ends::end_account(w, out))
+    after(rt, w, write_ends::end_account(w, out))
 }
 
 // An account with three items, a credit and a debit.
@@ -154,11 +185,29 @@ fn with_items(rt: &impl Print, w: Writer, out: &mut [u8]) -> io::Result<Writer> 
     let w = status_account(rt, w, b"0099887766", b"CAD", b"010", minus(250_075), out)?;
     let w = after(
         rt,
-        write_calls::item(w, b"100", plus(300_000), MaybeItems::Given(Items(2)), out),
+        w,
+        write_calls::item(
+            w,
+            Item {
+                type_code: b"100",
+                amount: plus(300_000),
+                count: Some(Items(2)),
+            },
+            out,
+        ),
     )?;
     let w = after(
         rt,
-        write_calls::item(w, b"400", plus(50_000), MaybeItems::NoItems, out),
+        w,
+        write_calls::item(
+            w,
+            Item {
+                type_code: b"400",
+                amount: plus(50_000),
+                count: None,
+            },
+            out,
+        ),
     )?;
     credit_and_debit(rt, w, out)
 }
@@ -167,11 +216,33 @@ fn with_items(rt: &impl Print, w: Writer, out: &mut [u8]) -> io::Result<Writer> 
 fn credit_and_debit(rt: &impl Print, w: Writer, out: &mut [u8]) -> io::Result<Writer> {
     let w = after(
         rt,
-        write_calls::detail(w, b"165", plus(300_000), b"DD1620", b"REF 7", b"", out),
+        w,
+        write_calls::detail(
+            w,
+            Detail {
+                type_code: b"165",
+                amount: plus(300_000),
+                bank_reference: b"DD1620",
+                customer_reference: b"REF 7",
+                text: b"",
+            },
+            out,
+        ),
     )?;
     let w = after(
         rt,
-        write_calls::detail(w, b"475", plus(50_000), b"", b"", b"CHECK 000123", out),
+        w,
+        write_calls::detail(
+            w,
+            Detail {
+                type_code: b"475",
+                amount: plus(50_000),
+                bank_reference: b"",
+                customer_reference: b"",
+                text: b"CHECK 000123",
+            },
+            out,
+        ),
     )?;
-    after(rt, write_ends::end_account(w, out))
+    after(rt, w, write_ends::end_account(w, out))
 }

@@ -1,8 +1,10 @@
 // Calls that are refused: 19, 20, 10 and 15. Each leaves all that was written as it stood.
 use crate::amounts::{minus, plus};
 use crate::printing::{after, print_answer, print_file};
+use base_quantities::Signed;
 use std::io;
-use write_line::{Items, MaybeAmount, MaybeItems};
+use write_line::Items;
+use write_records::{Detail, Group, Header, Item};
 use write_state::Writer;
 
 // A writer after a header, a group and an account without an item.
@@ -10,25 +12,37 @@ fn in_account(rt: &impl Print, out: &mut [u8]) -> io::Result<Writer> {
     let w = Writer::new();
     let w = after(
         rt,
-        write_calls::header(w, b"A", b"B", b"240229", b"0000", b"0", out),
+        w,
+        write_calls::header(
+            w,
+            Header {
+                sender: b"A",
+                receiver: b"B",
+                date: b"240229",
+                time: b"0000",
+                file_number: b"0",
+            },
+            out,
+        ),
     )?;
     let w = after(
         rt,
-        write_calls::group(w, b"B", b"A", b"1", b"240229", b"", b"", b"", out),
-    )?;
-    after(
-        rt,
-        write_calls::account(
+        w,
+        write_calls::group(
             w,
-            b"7",
-            b"",
-            false,
-            b"",
-            MaybeAmount::NoAmount,
-            MaybeItems::NoItems,
+            Group {
+                receiver: b"B",
+                originator: b"A",
+                status: b"1",
+                date: b"240229",
+                time: b"",
+                currency: b"",
+                modifier: b"",
+            },
             out,
         ),
-    )
+    )?;
+    after(rt, w, write_calls::account(w, b"7", b"", None, out))
 }
 
 // Prints what a header answers.
@@ -43,7 +57,18 @@ fn try_header(
     print_answer(
         rt,
         tried,
-        write_calls::header(w, sender, b"B", date, b"0000", b"0", out),
+        w,
+        write_calls::header(
+            w,
+            Header {
+                sender,
+                receiver: b"B",
+                date,
+                time: b"0000",
+                file_number: b"0",
+            },
+            out,
+        ),
     )
 }
 
@@ -52,7 +77,16 @@ fn try_item(rt: &impl Print, tried: &[u8], w: Writer, out: &mut [u8]) -> io::Res
     print_answer(
         rt,
         tried,
-        write_calls::item(w, b"010", plus(1), MaybeItems::NoItems, out),
+        w,
+        write_calls::item(
+            w,
+            Item {
+                type_code: b"010",
+                amount: plus(1),
+                count: None,
+            },
+            out,
+        ),
     )
 }
 
@@ -62,14 +96,25 @@ fn try_detail(
     tried: &[u8],
     w: Writer,
     type_code: &[u8],
-    amount: MaybeAmount,
+    amount: Option<Signed>,
     text: &[u8],
     out: &mut [u8],
 ) -> io::Result<()> {
     print_answer(
         rt,
         tried,
-        write_calls::detail(w, type_code, amount, b"", b"", text, out),
+        w,
+        write_calls::detail(
+            w,
+            Detail {
+                type_code,
+                amount,
+                bank_reference: b"",
+                customer_reference: b"",
+                text,
+            },
+            out,
+        ),
     )
 }
 
@@ -78,12 +123,23 @@ fn short_detail(
     rt: &impl Print,
     w: Writer,
     type_code: &[u8],
-    amount: MaybeAmount,
+    amount: Option<Signed>,
     out: &mut [u8],
 ) -> io::Result<Writer> {
     after(
         rt,
-        write_calls::detail(w, type_code, amount, b"", b"", b"", out),
+        w,
+        write_calls::detail(
+            w,
+            Detail {
+                type_code,
+                amount,
+                bank_reference: b"",
+                customer_reference: b"",
+                text: b"",
+            },
+            out,
+        ),
     )
 }
 
@@ -92,6 +148,7 @@ pub fn out_of_turn(rt: &impl Print, out: &mut [u8]) -> io::Result<()> {
     print_answer(
         rt,
         b"end of a file that was not begun",
+        Writer::new(),
         write_ends::end_file(Writer::new(), out),
     )?;
     let w = in_account(rt, out)?;
@@ -99,6 +156,7 @@ pub fn out_of_turn(rt: &impl Print, out: &mut [u8]) -> io::Result<()> {
     print_answer(
         rt,
         b"end of a group with an open account",
+        w,
         write_ends::end_group(w, out),
     )?;
     try_item(rt, b"item after an account with none", w, out)?;
@@ -109,7 +167,7 @@ pub fn out_of_turn(rt: &impl Print, out: &mut [u8]) -> io::Result<()> {
 fn after_a_detail(rt: &impl Print, w: Writer, out: &mut [u8]) -> io::Result<()> {
     let w = short_detail(rt, w, b"165", plus(1), out)?;
     try_item(rt, b"item after a detail", w, out)?;
-    let w = after(rt, write_ends::end_account(w, out))?;
+    let w = after(rt, w, write_ends::end_account(w, out))?;
     try_detail(
         rt,
         b"detail after its account",
@@ -149,18 +207,20 @@ pub fn bad_fields(rt: &impl Print, out: &mut [u8]) -> io::Result<()> {
 
 // 20: a count beside a customised status.
 fn counted_status(rt: &impl Print, w: Writer, out: &mut [u8]) -> io::Result<()> {
-    let w = after(rt, write_ends::end_account(w, out))?;
+    let w = after(rt, w, write_ends::end_account(w, out))?;
     print_answer(
         rt,
         b"count of a customised status",
+        w,
         write_calls::account(
             w,
             b"8",
             b"",
-            true,
-            b"905",
-            minus(1),
-            MaybeItems::Given(Items(1)),
+            Some(Item {
+                type_code: b"905",
+                amount: minus(1),
+                count: Some(Items(1)),
+            }),
             out,
         ),
     )
@@ -225,8 +285,9 @@ pub fn too_much(rt: &impl Print, out: &mut [u8]) -> io::Result<()> {
     print_answer(
         rt,
         b"slice of 10 bytes",
+        w,
         write_ends::end_account(w, &mut short[0..10]),
     )?;
-    let w = after(rt, write_ends::end_account(w, out))?;
+    let w = after(rt, w, write_ends::end_account(w, out))?;
     print_file(rt, w, out)
 }

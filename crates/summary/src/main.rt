@@ -14,5 +14,5 @@ fn main(rt: HostRuntime) -> io::Result<()> {
         .take(MOST_INPUT as u64 + 1)
         .read_to_end(&mut input)?;
     let length = run_report::report(input.as_slice(), &mut line);
-    rt.write_all(&line[0..length])
+    rt.write_all(&line[..length])
 }

@@ -22,48 +22,49 @@ use Rattle.write_line.specs.DrawnLine.{drawn_of, text_drawn}
 use Rattle.write_line.specs.declared.Draft.{Draft}
 use Rattle.write_records.specs.RecordLines.{line_drawn}
 use Rattle.write_records.proofs.LinesSaid.{line-said, line-text-said}
+use Rattle.std.specs.Prelude as prelude
+use Rattle.std.specs.Prelude.{Some, None, unwrap_or}
+use Rattle.write_records.specs.ItemMeaning.{item_meant, item_given}
+use Rattle.write_records.specs.declared.Item as records
 use Rattle.write_line.proofs.FieldChains.{no_text, line_sofar, chain-is, fields_fit}
-use Rattle.write_line.specs.declared.MaybeAmount.{MaybeAmount}
-use Rattle.write_line.specs.declared.MaybeItems.{MaybeItems}
-use Rattle.write_commit.proofs.LinesCommitted.{Drafts, good-line, bad-field, bad-text, slash_line, slash-drafts, none-wanted, answered, answers, zero_space}
-use Rattle.write_calls.specs.ItemMeaning.{item_meant, given_item}
+use Rattle.write_commit.proofs.LinesCommitted.{Drafts, good-line, bad-field, bad-text, slash_line, slash-drafts, none-wanted, answered, answers}
 
 -- ---- each call: its drafted line committed is what the rules write
 
--- the line of this draft, in this space
-module _ (w : Writer) (out space : Bytes) (draft : Draft) (sum : Sum) where
+-- the line of this draft
+module _ (w : Writer) (out : Bytes) (draft : Draft) (sum : Sum) where
   -- that a slash ends
   slash-written : (call : Call) (c : Code) (ks : List Kind) (f : Bytes) (fs : List Bytes) (a : Option Signed) (items : Bool) → given w call ≡ slash_line c ks (f ∷ fs) a
       → ((left : List Kind) → kinds_after ks (f ∷ fs) ≡ fine left → wants_item left ≡ items) → no_text ks ≡ true → length (f ∷ fs) ≤ 8 → sum ≡ sum_given a
-      → drawn_of space draft ≡ line_drawn c ks (f ∷ fs) slash zero_space → answered w out c (draft_of space draft) sum items ≡ write w call out
+      → drawn_of draft ≡ line_drawn c ks (f ∷ fs) slash → answered w out c (draft_of draft) sum items ≡ write w call out
   slash-written call c ks f fs a items g wants n few z e =
-      answers w out (draft_of space draft) sum call (slash_line c ks (f ∷ fs) a) items g z (λ _.
-      slash-drafts c ks f fs a items wants (draft_of space draft) n few (line-said c ks (f ∷ fs) slash zero_space refl space draft e))
+      answers w out (draft_of draft) sum call (slash_line c ks (f ∷ fs) a) items g z (λ _.
+      slash-drafts c ks f fs a items wants (draft_of draft) n few (line-said c ks (f ∷ fs) slash draft e))
 
   pub header-written : (s r d t n : Bytes) → sum ≡ zero_sum
-      → drawn_of space draft ≡ line_drawn file_header (fields_of file_header) (s ∷ r ∷ d ∷ t ∷ n ∷ [] ∷ [] ∷ (50 ∷ []) ∷ []) slash zero_space
-      → answered w out file_header (draft_of space draft) sum false ≡ write w (write_header s r d t n) out
+      → drawn_of draft ≡ line_drawn file_header (fields_of file_header) (s ∷ r ∷ d ∷ t ∷ n ∷ [] ∷ [] ∷ (50 ∷ []) ∷ []) slash
+      → answered w out file_header (draft_of draft) sum false ≡ write w (write_header s r d t n) out
   unfolding given fields_of
   header-written s r d t n =
       let fs = r ∷ d ∷ t ∷ n ∷ [] ∷ [] ∷ (50 ∷ []) ∷ [] in
       slash-written (write_header s r d t n) file_header (fields_of file_header) s fs none false refl (none-wanted (fields_of file_header) (s ∷ fs) refl refl) refl (omega arith)
 
-  pub group-written : (u p s d t c m : Bytes) → sum ≡ zero_sum → drawn_of space draft ≡ line_drawn group_header (fields_of group_header) (u ∷ p ∷ s ∷ d ∷ t ∷ c ∷ m ∷ []) slash zero_space
-      → answered w out group_header (draft_of space draft) sum false ≡ write w (write_group u p s d t c m) out
+  pub group-written : (u p s d t c m : Bytes) → sum ≡ zero_sum → drawn_of draft ≡ line_drawn group_header (fields_of group_header) (u ∷ p ∷ s ∷ d ∷ t ∷ c ∷ m ∷ []) slash
+      → answered w out group_header (draft_of draft) sum false ≡ write w (write_group u p s d t c m) out
   unfolding given fields_of
   group-written u p s d t c m =
       let fs = p ∷ s ∷ d ∷ t ∷ c ∷ m ∷ [] in
       slash-written (write_group u p s d t c m) group_header (fields_of group_header) u fs none false refl (none-wanted (fields_of group_header) (u ∷ fs) refl refl) refl (omega arith)
 
   pub account-written : (n c : Bytes) (i : Item) → sum ≡ sum_given i.amount
-      → drawn_of space draft ≡ line_drawn account_header (fields_of account_header) (n ∷ c ∷ item_fields i) slash zero_space
-      → answered w out account_header (draft_of space draft) sum (not (is_empty i.type)) ≡ write w (write_account n c (some i)) out
+      → drawn_of draft ≡ line_drawn account_header (fields_of account_header) (n ∷ c ∷ item_fields i) slash
+      → answered w out account_header (draft_of draft) sum (not (is_empty i.type)) ≡ write w (write_account n c (some i)) out
   unfolding given fields_of
   account-written n c i =
       slash-written (write_account n c (some i)) account_header (fields_of account_header) n (c ∷ item_fields i) i.amount (not (is_empty i.type)) refl (account-wants n c i) refl (omega arith)
 
-  pub item-written : (i : Item) → sum ≡ sum_given i.amount → drawn_of space draft ≡ line_drawn continuation (further_type ∷ []) (item_fields i) slash zero_space
-      → answered w out continuation (draft_of space draft) sum true ≡ write w (write_item i) out
+  pub item-written : (i : Item) → sum ≡ sum_given i.amount → drawn_of draft ≡ line_drawn continuation (further_type ∷ []) (item_fields i) slash
+      → answered w out continuation (draft_of draft) sum true ≡ write w (write_item i) out
   unfolding given
   item-written i =
       let fs = amount_bytes i.amount ∷ item_count_bytes i.item_count ∷ [] ∷ [] in
@@ -105,22 +106,23 @@ module _ (w : Writer) (y : Bytes) (a : Option Signed) (b c t : Bytes) where
   text-fields o (refused why) h e = rw e (bad-field why.number why.place h)
   text-fields o (fine left) h e = rw e (with-text left h)
 
-  pub detail-written : (out space : Bytes) (draft : Draft) (sum : Sum) → sum ≡ sum_given a
-      → drawn_of space draft ≡ text_drawn t (line_drawn detail (fields_of detail) parts comma zero_space)
-      → answered w out detail (draft_of space draft) sum false ≡ write w (write_detail y a b c t) out
+  pub detail-written : (out : Bytes) (draft : Draft) (sum : Sum) → sum ≡ sum_given a
+      → drawn_of draft ≡ text_drawn t (line_drawn detail (fields_of detail) parts comma)
+      → answered w out detail (draft_of draft) sum false ≡ write w (write_detail y a b c t) out
   unfolding given fields_of
-  detail-written out space draft sum z e =
-      answers w out (draft_of space draft) sum (write_detail y a b c t) (given w (write_detail y a b c t)) false refl z (λ _.
-      text-fields (draft_of space draft) (kinds_after wanted parts) refl
-      (line-text-said detail (fields_of detail) parts comma zero_space refl space draft t e ∙ ap (text_added t) (chain-is (text ∷ []) comma wanted (code_bytes detail) y (detail_rest a b c) refl refl (omega arith))))
+  detail-written out draft sum z e =
+      answers w out (draft_of draft) sum (write_detail y a b c t) (given w (write_detail y a b c t)) false refl z (λ _.
+      text-fields (draft_of draft) (kinds_after wanted parts) refl
+      (line-text-said detail (fields_of detail) parts comma draft t e ∙ ap (text_added t) (chain-is (text ∷ []) comma wanted (code_bytes detail) y (detail_rest a b c) refl refl (omega arith))))
 
 -- ---- an account without an item
 
 -- is one with an empty item
-pub no_item : (w : Writer) (n c out : Bytes) → write w (write_account n c (some (record { type = []; amount = none; item_count = none }))) out ≡ write w (write_account n c none) out
+no_item : (w : Writer) (n c out : Bytes) → write w (write_account n c (some (record { type = []; amount = none; item_count = none }))) out ≡ write w (write_account n c none) out
 unfolding write given
 no_item w n c out = refl
 
-pub with_item : (w : Writer) (n c y out : Bytes) (a : MaybeAmount) (k : MaybeItems) (g : Bool) {r : Written} → g ≡ true
-    → r ≡ write w (write_account n c (some (item_meant y a k))) out → r ≡ write w (write_account n c (given_item g y a k)) out
-with_item w n c y out a k g e h = rw e h
+pub item-or-none : (w : Writer) (n c out : Bytes) (o : prelude.Option records.Item) (empty : records.Item) {i : records.Item} → i ≡ unwrap_or o empty
+    → item_meant empty ≡ record { type = []; amount = none; item_count = none } → write w (write_account n c (some (item_meant i))) out ≡ write w (write_account n c (item_given o)) out
+item-or-none w n c out (Some j) empty h e = rw h
+item-or-none w n c out None empty h e = rw h (ap (λ (i : Item). write w (write_account n c (some i)) out) e ∙ no_item w n c out)

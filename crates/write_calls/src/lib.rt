@@ -1,80 +1,39 @@
-// The writer of document 01: each call takes the state by value and hands back its answer with the state after it. The line is drafted in a space
+// The writer of document 01: each call takes the state by value and hands back the state after it, or why it is refused. The line is drafted in a space
 // of its own, by `write_records`; `write_commit` decides whether it is written.
 
 #![tactic(auto)]
 
-ghost use Rattle.std.specs.Prelude.{◌≡◌, true};
+ghost use Rattle.std.specs.Prelude.{◌≡◌};
 ghost use Rattle.write_line.specs.DraftMeaning.{amount_given};
 ghost use Rattle.rules.specs.Writer as rules;
 ghost use Rattle.write_state.specs.WriterMeaning.{writer_meant, written_meant};
-ghost use Rattle.write_calls.specs.ItemMeaning.{item_meant, given_item};
+ghost use Rattle.write_records.specs.ItemMeaning.{item_meant, item_given};
 
 use base_codes::Code;
 use base_quantities::Units;
-use write_line::{LINE_SPACE, MaybeAmount, MaybeItems};
+use base_refusals::Refusal;
+use write_records::{Detail, Group, Header, Item};
 use write_state::{Writer, Written};
 
-// An account with an item, which may be empty.
-fn open_account(
-    w: Writer,
-    number: &[u8],
-    currency: &[u8],
-    type_code: &[u8],
-    amount: MaybeAmount,
-    count: MaybeItems,
-    out: &mut [u8],
-) -> Written
-    ensures { written_meant result out.new ≡ rules.write (writer_meant w)
-        (rules.write_account number.now currency.now (given_item true type_code.now amount count))
-        out.old }
-{
-    let mut space = [0u8; LINE_SPACE];
-    let d = write_records::account(&mut space, number, currency, type_code, amount, count);
-    let sum = write_line::sum_given(amount);
-    let items = !read_values::is_empty(type_code);
-    write_commit::commit(w, Code::AccountHeader, &space, d, sum, items, out)
-}
-
 // The line 01.
-pub fn header(
-    w: Writer,
-    sender: &[u8],
-    receiver: &[u8],
-    date: &[u8],
-    time: &[u8],
-    file_number: &[u8],
-    out: &mut [u8],
-) -> Written
-    ensures { written_meant result out.new ≡ rules.write (writer_meant w)
-        (rules.write_header sender.now receiver.now date.now time.now file_number.now)
+pub fn header(w: Writer, header: Header, out: &mut [u8]) -> Result<Written, Refusal>
+    ensures { written_meant w result out.new ≡ rules.write (writer_meant w)
+        (rules.write_header header.entry.sender.now header.entry.receiver.now header.entry.date.now header.entry.time.now header.entry.file_number.now)
         out.old }
 {
-    let mut space = [0u8; LINE_SPACE];
-    let d = write_records::header(&mut space, sender, receiver, date, time, file_number);
-    write_commit::commit(w, Code::FileHeader, &space, d, Units::none(), false, out)
+    let line = header.draft();
+    write_commit::commit(w, Code::FileHeader, &line, Units::none(), false, out)
 }
 
 // The line 02.
-pub fn group(
-    w: Writer,
-    receiver: &[u8],
-    originator: &[u8],
-    status: &[u8],
-    date: &[u8],
-    time: &[u8],
-    currency: &[u8],
-    modifier: &[u8],
-    out: &mut [u8],
-) -> Written
-    ensures { written_meant result out.new ≡ rules.write (writer_meant w)
-        (rules.write_group receiver.now originator.now status.now date.now time.now currency.now modifier.now)
+pub fn group(w: Writer, group: Group, out: &mut [u8]) -> Result<Written, Refusal>
+    ensures { written_meant w result out.new ≡ rules.write (writer_meant w)
+        (rules.write_group group.entry.receiver.now group.entry.originator.now group.entry.status.now group.entry.date.now group.entry.time.now
+        group.entry.currency.now group.entry.modifier.now)
         out.old }
 {
-    let mut space = [0u8; LINE_SPACE];
-    let d = write_records::group(
-        &mut space, receiver, originator, status, date, time, currency, modifier,
-    );
-    write_commit::commit(w, Code::GroupHeader, &space, d, Units::none(), false, out)
+    let line = group.draft();
+    write_commit::commit(w, Code::GroupHeader, &line, Units::none(), false, out)
 }
 
 // The line 03, with an item or without one.
@@ -82,72 +41,41 @@ pub fn account(
     w: Writer,
     number: &[u8],
     currency: &[u8],
-    item_given: bool,
-    type_code: &[u8],
-    amount: MaybeAmount,
-    count: MaybeItems,
+    item: Option<Item>,
     out: &mut [u8],
-) -> Written
-    ensures { written_meant result out.new ≡ rules.write (writer_meant w)
-        (rules.write_account number.now currency.now (given_item item_given type_code.now amount count))
+) -> Result<Written, Refusal>
+    ensures { written_meant w result out.new ≡ rules.write (writer_meant w)
+        (rules.write_account number.now currency.now (item_given item.entry))
         out.old }
 {
-    if item_given {
-        return open_account(w, number, currency, type_code, amount, count, out);
-    }
-    let none = [0u8];
-    open_account(
-        w,
-        number,
-        currency,
-        &none[0..0],
-        MaybeAmount::NoAmount,
-        MaybeItems::NoItems,
-        out,
-    )
+    let item = item.unwrap_or(Item {
+        type_code: b"",
+        amount: None,
+        count: None,
+    });
+    let line = write_records::account(number, currency, item);
+    let sum = write_line::sum_given(item.amount);
+    let items = !read_values::is_empty(item.type_code);
+    write_commit::commit(w, Code::AccountHeader, &line, sum, items, out)
 }
 
 // A further item of the account: a line 88.
-pub fn item(
-    w: Writer,
-    type_code: &[u8],
-    amount: MaybeAmount,
-    count: MaybeItems,
-    out: &mut [u8],
-) -> Written
-    ensures { written_meant result out.new ≡ rules.write (writer_meant w)
-        (rules.write_item (item_meant type_code.now amount count))
+pub fn item(w: Writer, item: Item, out: &mut [u8]) -> Result<Written, Refusal>
+    ensures { written_meant w result out.new ≡ rules.write (writer_meant w)
+        (rules.write_item (item_meant item.entry))
         out.old }
 {
-    let mut space = [0u8; LINE_SPACE];
-    let d = write_records::item(&mut space, type_code, amount, count);
-    let sum = write_line::sum_given(amount);
-    write_commit::commit(w, Code::Continuation, &space, d, sum, true, out)
+    let sum = write_line::sum_given(item.amount);
+    write_commit::commit(w, Code::Continuation, &item.draft(), sum, true, out)
 }
 
 // The line 16.
-pub fn detail(
-    w: Writer,
-    type_code: &[u8],
-    amount: MaybeAmount,
-    bank_reference: &[u8],
-    customer_reference: &[u8],
-    text: &[u8],
-    out: &mut [u8],
-) -> Written
-    ensures { written_meant result out.new ≡ rules.write (writer_meant w)
-        (rules.write_detail type_code.now (amount_given amount) bank_reference.now customer_reference.now text.now)
+pub fn detail(w: Writer, detail: Detail, out: &mut [u8]) -> Result<Written, Refusal>
+    ensures { written_meant w result out.new ≡ rules.write (writer_meant w)
+        (rules.write_detail detail.entry.type_code.now (amount_given detail.entry.amount) detail.entry.bank_reference.now detail.entry.customer_reference.now
+        detail.entry.text.now)
         out.old }
 {
-    let mut space = [0u8; LINE_SPACE];
-    let d = write_records::detail(
-        &mut space,
-        type_code,
-        amount,
-        bank_reference,
-        customer_reference,
-        text,
-    );
-    let sum = write_line::sum_given(amount);
-    write_commit::commit(w, Code::Detail, &space, d, sum, false, out)
+    let sum = write_line::sum_given(detail.amount);
+    write_commit::commit(w, Code::Detail, &detail.draft(), sum, false, out)
 }

@@ -1,6 +1,6 @@
 -- A drafted line committed: each refusal, and the line written. Assumes nothing.
 use mathlib.Core.Path.{◌≡◌, refl, sym, ap, ◌∙◌}
-use mathlib.Core.Bool.{Bool, true, false, cond, false≢true}
+use mathlib.Core.Bool.{Bool, true, false, cond, ◌&&◌, false≢true}
 use mathlib.Core.List.{List, [], ◌∷◌, ◌++◌}
 use Prim.Native.Nat.{ℕ, ◌+◌, ◌≤◌}
 use native.Mathlib.Omega.{arith}
@@ -10,7 +10,8 @@ use borrow.Author.Tests.{leb-true, le-leb}
 use Rattle.rules.specs.Bytes.{Bytes, LF}
 use Rattle.rules.specs.Numbers.{Sum, ◌⊕◌, magnitudes}
 use Rattle.rules.specs.Limits.{most, longest_file}
-use Rattle.rules.specs.Outcome.{Outcome, refuse, fine, number_of}
+use Rattle.rules.specs.Outcome.{Outcome, refuse, refused, fine}
+use Rattle.rules.specs.Outcome as outcomes
 use Rattle.rules.specs.Lines.{Code}
 use Rattle.rules.specs.Grammar.{Kind}
 use Rattle.rules.specs.Writer as rules
@@ -19,33 +20,56 @@ use Rattle.rules.proofs.Tests.{Known, holds, fails, known}
 use Rattle.laws_writer.proofs.Placing.{placed-more}
 use Rattle.read_wanted.specs.Wants.{wanted_of}
 use Rattle.read_wanted.specs.TakenMeaning.{judged_of}
-use Rattle.read_wanted.specs.declared.Taken.{Taken}
-use Rattle.read_wanted.specs.declared.Taken.TheVariants.{Next, Refused}
+use Rattle.base_refusals.specs.declared.Reason.{Reason}
+use Rattle.read_wanted.specs.declared.want.Want.{Want}
+use Rattle.base_refusals.specs.RefusalMeaning.{refusal_meant, outcome_of}
+use Rattle.base_refusals.specs.declared.Refusal.{Refusal}
+use Rattle.std.specs.Prelude.{Result, Ok, Err, is_err, is_none}
+use Rattle.rules.specs.Combine.{has_room}
+use Rattle.base_quantities.specs.QuantityMeanings.{units_within}
+use Rattle.write_line.specs.declared.Draft.{Draft}
 use Rattle.write_line.specs.DraftMeaning.{Sofar, draft_of}
 use Rattle.write_state.specs.WriterMeaning.{writer_meant, written_meant}
 use Rattle.write_state.specs.declared.Writer.{Writer}
-use Rattle.write_state.specs.declared.Written.{Written}
-use Rattle.write_commit.specs.CommitAnswers.{refused_by, is_next}
 use Rattle.write_commit.specs.Commit.{state_after, room_for, committed}
 
 -- ---- the draft
 
-abbrev pub kinds_of : Taken → List Kind
-kinds_of (Next want) = wanted_of want
-kinds_of (Refused n) = []
+abbrev pub kinds_of : Result Want Reason → List Kind
+kinds_of (Ok want) = wanted_of want
+kinds_of (Err why) = []
 
-module _ (line : Bytes) (len : ℕ) where
-  pub draft-refused : (t : Taken) → is_next t ≡ false → draft_of line (record { taken = t; len = len }) ≡ refuse 20 0
+module _ (d : Draft) where
+  pub draft-refused : is_err d.taken ≡ true → draft_of d ≡ refuse 20 0
   unfolding draft_of judged_of
-  draft-refused (Next want) h = absurd (false≢true (sym h))
-  draft-refused (Refused n) h = refl
+  draft-refused h = by-taken d.taken refl h
+    where
+      by-taken : (r : Result Want Reason) → d.taken ≡ r → is_err r ≡ true → draft_of d ≡ refuse 20 0
+      by-taken (Ok want) e z = absurd (false≢true z)
+      by-taken (Err why) e z = rw e
 
-  pub draft-good : (t : Taken) (body : Bytes) → is_next t ≡ true → body ≡ take len line → draft_of line (record { taken = t; len = len }) ≡ fine (record { kinds = kinds_of t; bytes = body })
+  pub draft-good : (body : Bytes) → is_err d.taken ≡ false → body ≡ take d.len d.line → draft_of d ≡ fine (record { kinds = kinds_of d.taken; bytes = body })
   unfolding draft_of judged_of
-  draft-good (Next want) body h e = rw e
-  draft-good (Refused n) body h e = absurd (false≢true h)
+  draft-good body h b = by-taken d.taken refl h
+    where
+      by-taken : (r : Result Want Reason) → d.taken ≡ r → is_err r ≡ false → draft_of d ≡ fine (record { kinds = kinds_of d.taken; bytes = body })
+      by-taken (Ok want) e z = rw (e, b)
+      by-taken (Err why) e z = absurd (false≢true (sym z))
 
 -- ---- room
+
+not-fine : {why : outcomes.Refusal} → ◌≡◌ {A = Outcome (Unit {0})} (fine tt) (refused why) → ⊥
+not-fine e = cc
+
+-- 10, and then 18 and 15
+pub room_is : (w : rules.Writer) (sum : Sum) (n room : ℕ)
+    → room_for w sum n room ≡ cond (is_none (units_within (w.file.sum ⊕ sum))) (refuse 10 0) (has_room (w.size + n) room)
+unfolding room_for units_within
+room_is w sum n room = by-test (known (leb (magnitudes (w.file.sum ⊕ sum)) most))
+  where
+    by-test : Known (leb (magnitudes (w.file.sum ⊕ sum)) most) → room_for w sum n room ≡ cond (is_none (units_within (w.file.sum ⊕ sum))) (refuse 10 0) (has_room (w.size + n) room)
+    by-test (holds e) = rw e
+    by-test (fails e) = rw e
 
 pub record HasRoom (w : rules.Writer) (s : Sum) (n r : ℕ) : Type 0 where
   pub is : room_for w s n r ≡ fine tt
@@ -54,37 +78,19 @@ pub record HasRoom (w : rules.Writer) (s : Sum) (n r : ℕ) : Type 0 where
   pub room : w.size + n ≤ r
 
 module _ (w : rules.Writer) (sum : Sum) (n room : ℕ) where
-  abbrev A : Bool
-  A = leb (magnitudes (w.file.sum ⊕ sum)) most
-
-  abbrev B : Bool
-  B = leb (w.size + n) longest_file
-
-  abbrev C : Bool
-  C = leb (w.size + n) room
-
-  by_tests : {P : Type 0} → (room_for w sum n room ≡ refuse 10 0 → P) → (room_for w sum n room ≡ refuse 18 0 → P) → (room_for w sum n room ≡ refuse 15 0 → P)
-      → (HasRoom w sum n room → P) → P
+  fits : fine tt ≡ room_for w sum n room → HasRoom w sum n room
   unfolding room_for
-  by_tests {P} ten eighteen fifteen good = go (known A) (known B) (known C)
+  fits h = by_tests (known (leb (magnitudes (w.file.sum ⊕ sum)) most)) (known (leb (w.size + n) longest_file)) (known (leb (w.size + n) room))
     where
-      go : Known A → Known B → Known C → P
-      go (fails a) kb kc = ten (rw a)
-      go (holds a) (fails b) kc = eighteen (rw (a, b))
-      go (holds a) (holds b) (fails c) = fifteen (rw (a, b, c))
-      go (holds a) (holds b) (holds c) = good (record { is = rw (a, b, c); sum = leb-true _ most a; size = leb-true _ longest_file b; room = leb-true _ room c })
+      by_tests : Known (leb (magnitudes (w.file.sum ⊕ sum)) most) → Known (leb (w.size + n) longest_file) → Known (leb (w.size + n) room) → HasRoom w sum n room
+      by_tests (fails a) b c = absurd (not-fine (rw a at h))
+      by_tests (holds a) (fails b) c = absurd (not-fine (rw (a, b) at h))
+      by_tests (holds a) (holds b) (fails c) = absurd (not-fine (rw (a, b, c) at h))
+      by_tests (holds a) (holds b) (holds c) = record { is = sym h; sum = leb-true _ most a; size = leb-true _ longest_file b; room = leb-true _ room c }
 
-  pub has_room : 0 ≡ number_of (room_for w sum n room) → HasRoom w sum n room
-  has_room h = by_tests (λ e. other 10 (omega arith) e) (λ e. other 18 (omega arith) e) (λ e. other 15 (omega arith) e) (λ x. x)
-    where
-      other : (k : ℕ) → 1 ≤ k → room_for w sum n room ≡ refuse k 0 → HasRoom w sum n room
-      other k l e = absurd (omega (arith, h, ap number_of e))
-
-  pub no_room : (k : ℕ) → k ≡ number_of (room_for w sum n room) → (k ≡ 0 → ⊥) → room_for w sum n room ≡ refuse k 0
-  no_room k h z = by_tests (λ e. same 10 e) (λ e. same 18 e) (λ e. same 15 e) (λ x. absurd (z (h ∙ ap number_of x.is)))
-    where
-      same : (j : ℕ) → room_for w sum n room ≡ refuse j 0 → room_for w sum n room ≡ refuse k 0
-      same j e = rw (h ∙ ap number_of e) e
+  -- what `line_fits` answers says it
+  pub room-there : {r : Result (Unit {0}) Refusal} {u : Unit {0}} → r ≡ Ok u → outcome_of (λ (u : Unit {0}). u) r ≡ room_for w sum n room → HasRoom w sum n room
+  room-there e h = fits (rw e at h)
 
 -- ---- the order of refusals
 
@@ -104,24 +110,20 @@ abbrev pub turn_of : Asked → Bool
 turn_of a = in_turn a.code a.writer.phase a.writer.items
 
 module _ (a : Asked) where
-  pub not_sound : sound a.writer ≡ false → answer_to a ≡ refuse 19 0
+  pub out-of-turn : (sound a.writer && turn_of a) ≡ false → answer_to a ≡ refuse 19 0
   unfolding committed
-  not_sound e = rw e
+  out-of-turn e = rw e
 
   module _ (s : sound a.writer ≡ true) where
-    pub no-turn : turn_of a ≡ false → answer_to a ≡ refuse 19 0
-    unfolding committed
-    no-turn e = rw (s, e)
-
     module _ (t : turn_of a ≡ true) where
       pub no-draft : a.draft ≡ refuse 20 0 → answer_to a ≡ refuse 20 0
       unfolding committed
       no-draft e = rw (s, t, e)
 
       module _ (x : Sofar) (e : a.draft ≡ fine x) where
-        pub held_back : (k : ℕ) → room_for a.writer a.sum (length x.bytes + 1) a.room ≡ refuse k 0 → answer_to a ≡ refuse k 0
+        pub held_back : {why : outcomes.Refusal} → room_for a.writer a.sum (length x.bytes + 1) a.room ≡ refused why → answer_to a ≡ refused why
         unfolding committed
-        held_back k h = rw (s, t, e, h)
+        held_back h = rw (s, t, e, h)
 
         pub goes_in : room_for a.writer a.sum (length x.bytes + 1) a.room ≡ fine tt
             → answer_to a ≡ fine (record { line = x.bytes ++ (LF ∷ []); next = state_after a.writer a.code a.sum a.items (length x.bytes + 1) })
@@ -131,14 +133,14 @@ module _ (a : Asked) where
 -- ---- the answers
 
 module _ (w : Writer) {o : Outcome Entry} where
-  pub refuses : {out : Bytes} {r : Written} {n : ℕ} → r ≡ refused_by w n → o ≡ refuse n 0 → written_meant r out ≡ written_by (writer_meant w) o out
+  pub refuses : {out : Bytes} (why : Refusal) → o ≡ refused (refusal_meant why) → written_meant w (Err why) out ≡ written_by (writer_meant w) o out
   unfolding written_by
-  refuses e h = rw (e, h)
+  refuses why h = rw h
 
   pub writes : (out : Bytes) (next : Writer) (body : Bytes) {state : rules.Writer} {now : Bytes} → o ≡ fine (record { line = body ++ (LF ∷ []); next = state }) → writer_meant next ≡ state
       → state.size ≡ w.size.0 + (length body + 1) → w.size.0 + (length body + 1) ≤ length out
       → now ≡ cond (leb (w.size.0 + length body) (length out)) (placed w.size.0 body out) out
-      → written_meant (record { refusal = record { number = 0; place = record { 0 = 0 } }; length = w.size.0 + (length body + 1); writer = next }) (set now (w.size.0 + length body) 10)
+      → written_meant w (Ok (record { length = w.size.0 + (length body + 1); writer = next })) (set now (w.size.0 + length body) 10)
       ≡ written_by (writer_meant w) o out
   unfolding written_by
   writes out next body {state} {now} e s size h p =

@@ -1,5 +1,4 @@
 -- Facts that the proofs of the functions hand over.
-pub mod RoomLaws
 pub mod StateSums
 pub mod CommitLaws
 pub mod LinesCommitted

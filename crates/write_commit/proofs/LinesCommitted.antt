@@ -5,7 +5,7 @@ use mathlib.Core.List.{List, [], ◌∷◌, append-nil}
 use mathlib.Core.Option.{Option, none}
 use Prim.Native.Nat.{ℕ, ◌+◌, ◌≤◌}
 use native.Mathlib.Omega.{arith}
-use lib.ListN.{length, replicate, length-append}
+use lib.ListN.{length, length-append}
 use Rattle.rules.specs.Bytes.{Bytes, LF, slash}
 use Rattle.rules.specs.Numbers.{Signed, Sum}
 use Rattle.rules.specs.Outcome.{Outcome, refused, refuse, fine, ◌>>=◌}
@@ -16,7 +16,7 @@ use Rattle.rules.specs.Writer.{Written, written_by, write}
 use Rattle.rules.proofs.Tests.{Known, holds, fails, known}
 use Rattle.laws_writer.proofs.FieldsWritten.{takes_all, simples}
 use Rattle.laws_writer.proofs.LinesWritten.{code-bytes}
-use Rattle.write_line.specs.DraftMeaning.{Sofar, line_space, begun, added_all}
+use Rattle.write_line.specs.DraftMeaning.{Sofar, begun, added_all}
 use Rattle.write_line.proofs.FieldChains.{no_text, line_sofar, chain-is}
 use Rattle.write_commit.specs.Commit.{room_for, committed}
 
@@ -88,7 +88,3 @@ pub answers : (w : Writer) (out : Bytes) (o : Outcome Sofar) (sum : Sum) (call :
     → (sound w ≡ true → Drafts g items o) → answered w out g.code o sum items ≡ write w call out
 unfolding write
 answers w out o sum call g items e z d = rw (e, z, committed-is w g items (length out) o d)
-
--- the space of a call before its line is drafted
-abbrev pub zero_space : Bytes
-zero_space = replicate line_space 0

@@ -23,7 +23,7 @@ use Rattle.write_line.specs.declared.Draft.{Draft}
 use Rattle.write_line.proofs.FieldChains.{no_text}
 use Rattle.write_records.specs.RecordLines.{line_in, line_drawn}
 use Rattle.write_records.proofs.LinesSaid.{line-said}
-use Rattle.write_commit.proofs.LinesCommitted.{slash-drafts, none-wanted, answered, answers, zero_space}
+use Rattle.write_commit.proofs.LinesCommitted.{slash-drafts, none-wanted, answered, answers}
 use Rattle.write_ends.specs.EndLines.{ended}
 
 -- an end's line: the last of its fields is the number of records with itself, and a sound state has no more records than bytes
@@ -38,13 +38,13 @@ module _ (w : Writer) (out : Bytes) (call : Call) (c : Code) (f : Bytes) (fs : �
       slash-drafts c (fields_of c) f (fs (n + 1)) none false (none-wanted (fields_of c) (f ∷ fs (n + 1)) simple size) o no_text short (rw counted at e))
 
 module _ (w : Writer) (out : Bytes) where
-  pub account-end-written : (space : Bytes) (draft : Draft) (sum : Sum) (k : ℕ) → sum ≡ zero_sum → k ≡ min (w.account.records + 1) most_records
-      → drawn_of space draft ≡ line_drawn account_trailer (fields_of account_trailer) (total_bytes w.account.sum ∷ decimal k ∷ []) slash zero_space
-      → answered w out account_trailer (draft_of space draft) sum false ≡ write w end_account out
+  pub account-end-written : (draft : Draft) (sum : Sum) (k : ℕ) → sum ≡ zero_sum → k ≡ min (w.account.records + 1) most_records
+      → drawn_of draft ≡ line_drawn account_trailer (fields_of account_trailer) (total_bytes w.account.sum ∷ decimal k ∷ []) slash
+      → answered w out account_trailer (draft_of draft) sum false ≡ write w end_account out
   unfolding given fields_of
-  account-end-written space draft sum k z m e =
-      let line = line-said account_trailer (fields_of account_trailer) (total_bytes w.account.sum ∷ decimal k ∷ []) slash zero_space refl space draft e in
-      end-written w out end_account account_trailer (total_bytes w.account.sum) (λ n. decimal n ∷ []) w.account.records (λ s. s.in-account.records) (draft_of space draft) sum
+  account-end-written draft sum k z m e =
+      let line = line-said account_trailer (fields_of account_trailer) (total_bytes w.account.sum ∷ decimal k ∷ []) slash draft e in
+      end-written w out end_account account_trailer (total_bytes w.account.sum) (λ n. decimal n ∷ []) w.account.records (λ s. s.in-account.records) (draft_of draft) sum
       refl refl refl refl (omega arith) z (rw m at line)
 
   pub group-end-written : ended w group_trailer w.group w.group.accounts out ≡ write w end_group out
@@ -60,8 +60,8 @@ module _ (w : Writer) (out : Bytes) where
       end-written w out end_file file_trailer (total_bytes w.file.sum) fs w.file.records (λ s. s.in-file.records) _ _ refl refl refl refl (omega arith) refl refl
 
 -- what `end` answers
-pub end-answers : (w : Writer) (c : Code) (s : Summary) (n k : ℕ) (out space : Bytes) (draft : Draft) (sum : Sum) → sum ≡ zero_sum → k ≡ min (s.records + 1) most_records
-    → drawn_of space draft ≡ line_drawn c (fields_of c) (total_bytes s.sum ∷ decimal n ∷ decimal k ∷ []) slash zero_space
-    → answered w out c (draft_of space draft) sum false ≡ ended w c s n out
+pub end-answers : (w : Writer) (c : Code) (s : Summary) (n k : ℕ) (out : Bytes) (draft : Draft) (sum : Sum) → sum ≡ zero_sum → k ≡ min (s.records + 1) most_records
+    → drawn_of draft ≡ line_drawn c (fields_of c) (total_bytes s.sum ∷ decimal n ∷ decimal k ∷ []) slash
+    → answered w out c (draft_of draft) sum false ≡ ended w c s n out
 unfolding ended
-end-answers w c s n k out space draft sum z m e = rw (line-said c (fields_of c) (total_bytes s.sum ∷ decimal n ∷ decimal k ∷ []) slash zero_space refl space draft e, z, m)
+end-answers w c s n k out draft sum z m e = rw (line-said c (fields_of c) (total_bytes s.sum ∷ decimal n ∷ decimal k ∷ []) slash draft e, z, m)

@@ -6,7 +6,7 @@ use mathlib.Core.Logic.{⊎_elim}
 use Prim.Native.Nat.{ℕ, ◌+◌, ◌≤◌}
 use native.Mathlib.Omega.{arith}
 use lib.Dec.{leb}
-use lib.ListN.{length, take, length-append}
+use lib.ListN.{length, take, length-append, length-replicate}
 use lib.Seq.{length-take-le, take_all}
 use borrow.Author.Tests.{lt-leb, leb-true}
 use Rattle.rules.specs.Bytes.{Bytes, comma, slash, is_empty, clean}
@@ -19,7 +19,7 @@ use Rattle.base_digits.proofs.DigitTests.{below-or-from, and_right}
 use Rattle.laws_writer.proofs.LinesWritten.{code-bytes}
 use Rattle.laws_writer.proofs.Placing.{placed-front, placed-length}
 use Rattle.write_line.specs.DraftMeaning.{Sofar, draft_of, begun, with_field, field_added, added_all, with_text, text_added}
-use Rattle.write_line.specs.DrawnLine.{Drawn, drawn_of, code_drawn, bytes_drawn, field_drawn, all_drawn, text_drawn}
+use Rattle.write_line.specs.DrawnLine.{Drawn, drawn_of, new_space, code_drawn, bytes_drawn, field_drawn, all_drawn, text_drawn}
 use Rattle.write_line.specs.declared.Draft.{Draft}
 
 -- ---- what a draft says
@@ -27,9 +27,9 @@ use Rattle.write_line.specs.declared.Draft.{Draft}
 unfoldable pub said : Drawn → Outcome Sofar
 said x = or_twenty x.judged >>= λ ks. fine (record { kinds = ks; bytes = take x.len x.space })
 
-pub said-is : (space : Bytes) (d : Draft) → draft_of space d ≡ said (drawn_of space d)
+pub said-is : (d : Draft) → draft_of d ≡ said (drawn_of d)
 unfolding draft_of drawn_of said
-said-is space d = refl
+said-is d = refl
 
 module _ (len : ℕ) (space : Bytes) (size : length space ≡ 640) where
   -- the draft that is judged so
@@ -104,13 +104,20 @@ module _ (last : ℕ) where
   all-size (f ∷ []) x size = field-size x size f last
   all-size (f ∷ g ∷ fs) x size = all-size (g ∷ fs) (field_drawn f comma x) (field-size x size f comma)
 
-module _ (c : Code) (ks : List Kind) (space : Bytes) (size : length space ≡ 640) where
-  pub begun-said : said (code_drawn c ks space) ≡ begun c ks
+module _ (c : Code) (ks : List Kind) where
+  space-size : length new_space ≡ 640
+  space-size = length-replicate {A = ℕ} 640 0
+
+  pub begun-said : said (code_drawn c ks) ≡ begun c ks
   unfolding said
   begun-said =
       let n = (code-bytes c).size in
+      let size = space-size in
       let z : 3 ≡ 0 + length (code_bytes c) = omega arith in
-      rw (z, placed-front 0 (code_bytes c) space (omega arith))
+      rw (z, placed-front 0 (code_bytes c) new_space (omega arith))
 
-  pub begun-size : length (code_drawn c ks space).space ≡ 640
-  begun-size = let n = (code-bytes c).size in placed-length 0 (code_bytes c) space (omega arith) ∙ size
+  pub begun-size : length (code_drawn c ks).space ≡ 640
+  begun-size =
+      let n = (code-bytes c).size in
+      let size = space-size in
+      placed-length 0 (code_bytes c) new_space (omega arith) ∙ size

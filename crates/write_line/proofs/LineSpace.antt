@@ -1,15 +1,15 @@
 -- What a space holds: bytes put in it, and a line in the making with a field or a text more. Assumes nothing.
-use mathlib.Core.Path.{◌≡◌, refl, ap, ◌∙◌}
-use mathlib.Core.Bool.{true, false, cond, and-false}
+use mathlib.Core.Path.{◌≡◌, refl, sym, ap, ◌∙◌}
+use mathlib.Core.Bool.{true, false, cond, ◌&&◌, false≢true}
 use mathlib.Core.List.{[], ◌∷◌, ◌++◌}
 use mathlib.Core.Logic.{⊎_elim}
 use Prim.Native.Nat.{ℕ, ◌+◌, ◌-◌, ◌≤◌, ◌<◌}
 use native.Mathlib.Numerals.{add-one}
 use native.Mathlib.Omega.{arith}
-use lib.Dec.{leb}
-use lib.ListN.{length, take, drop, set, length-append, length-drop, take-append-drop}
+use lib.Dec.{leb, eqb}
+use lib.ListN.{length, take, drop, set, length-append, length-drop, length-replicate, take-append-drop}
 use lib.Seq.{take_all, set_split, take-append_seam, drop-drop}
-use borrow.Author.Tests.{le-leb, lt-leb, leb-true, leb-false}
+use borrow.Author.Tests.{le-leb, lt-leb, leb-true, leb-false, ne_eqb}
 use borrow.Rule.Slice.PartMut.{mid_of, put_mid}
 use Rattle.rules.specs.Bytes.{Bytes, slash, is_empty, clean}
 use Rattle.rules.specs.Lines.{Code, code_bytes}
@@ -27,11 +27,10 @@ use Rattle.laws_writer.proofs.LinesWritten.{code-bytes}
 use Rattle.laws_writer.proofs.Placing.{placed-more}
 use Rattle.read_wanted.specs.Wants.{wanted_of}
 use Rattle.read_wanted.specs.TakenMeaning.{judged_of}
-use Rattle.read_wanted.specs.declared.Taken.{Taken}
-use Rattle.read_wanted.specs.declared.Taken.TheVariants.{Next, Refused}
+use Rattle.std.specs.Prelude.{Result, Ok, Err, is_err}
+use Rattle.base_refusals.specs.declared.Reason.{Reason}
 use Rattle.read_wanted.specs.declared.want.Want.{Want}
-use Rattle.write_line.specs.DraftMeaning.{wanting}
-use Rattle.write_line.specs.DrawnLine.{drawn_of, code_drawn, field_drawn, text_drawn}
+use Rattle.write_line.specs.DrawnLine.{Drawn, drawn_of, new_space, room_after, refused_in, code_drawn, bytes_drawn, field_drawn, text_drawn}
 use Rattle.write_line.specs.declared.Draft.{Draft}
 
 -- ---- bytes put at a place
@@ -54,99 +53,93 @@ module _ (d : Bytes) (at : ℕ) (s : Bytes) where
 
 -- ---- a line in the making
 
-none-empty : (bs : Bytes) → length bs ≡ 0 → is_empty bs ≡ true
+empty-is : (t : Bytes) → is_empty t ≡ eqb (length t) 0
 unfolding is_empty
-none-empty [] h = refl
-none-empty (b ∷ bs) h = absurd (omega arith)
+empty-is [] = refl
+empty-is (b ∷ bs) = sym (ne_eqb (length (b ∷ bs)) 0 (omega arith))
 
 text-short : (t : Bytes) → good_text t ≡ true → length t ≤ 76
 unfolding good_text
 text-short t h = leb-true (length t) 76 (and_left (leb (length t) 76) _ h)
 
-abbrev pub refused_draft : Draft
-refused_draft = record { taken = Refused 20; len = 0 }
-
-module _ (line : Bytes) (len : ℕ) where
-  module _ (want : Want) (f : Bytes) (mark : ℕ) where
-    -- a field is refused where no room is left, or it is too long or not clean
-    pub field-no-room : 640 < len + 77 → drawn_of line refused_draft ≡ field_drawn f mark (drawn_of line (wanting want len))
-    unfolding drawn_of judged_of field_drawn
-    field-no-room h = rw (lt-leb (len + 77) 640 h)
-
-    pub field-long : 76 < length f → drawn_of line refused_draft ≡ field_drawn f mark (drawn_of line (wanting want len))
-    unfolding drawn_of judged_of field_drawn
-    field-long g = rw (lt-leb (length f) 76 g, and-false (clean f), and-false (leb (len + 77) 640))
-
-    pub field-unclean : clean f ≡ false → drawn_of line refused_draft ≡ field_drawn f mark (drawn_of line (wanting want len))
-    unfolding drawn_of judged_of field_drawn
-    field-unclean e = rw (e, and-false (leb (len + 77) 640))
-
-    -- else it is put with its mark, and judged
-    pub field_put : (t : Taken) (put now : Bytes) → length line ≡ 640 → len + 77 ≤ 640 → length f ≤ 76 → clean f ≡ true → judged_of t ≡ take_next (wanted_of want) f
-        → put ≡ cond (leb (len + length f) (length line)) (placed len f line) line → now ≡ set put (len + length f) mark
-        → drawn_of now (record { taken = t; len = len + length f + 1 }) ≡ field_drawn f mark (drawn_of line (wanting want len))
-    unfolding drawn_of judged_of field_drawn
-    field_put t put now space h s c j p q =
-        let size : len + length f + 1 ≡ len + length (f ++ (mark ∷ [])) = rw (length-append f (mark ∷ [])) (omega arith) in
-        let p' : put ≡ placed len f line = rw (le-leb (len + length f) (length line) (omega arith)) at p in
-        let e : now ≡ placed len (f ++ (mark ∷ [])) line = q ∙ ap (λ (bs : Bytes). set bs (len + length f) mark) p' ∙ placed-more len f line mark (omega arith) in
-        rw (le-leb (len + 77) 640 h, c, le-leb (length f) 76 s, j, e, size)
-
-  module _ (want : Want) (t : Bytes) where
-    -- a text likewise
-    pub text-no-room : 640 < len + 77 → drawn_of line refused_draft ≡ text_drawn t (drawn_of line (wanting want len))
-    unfolding drawn_of judged_of text_drawn
-    text-no-room h = rw (lt-leb (len + 77) 640 h)
-
-    pub text-bad : good_text t ≡ false → drawn_of line refused_draft ≡ text_drawn t (drawn_of line (wanting want len))
-    unfolding drawn_of judged_of text_drawn
-    text-bad e = rw (e, and-false (leb (len + 77) 640))
-
-    pub text-put : (now : Bytes) → length line ≡ 640 → len + 77 ≤ 640 → good_text t ≡ true → (length t ≡ 0 → ⊥)
-        → now ≡ cond (leb (len + length t) (length line)) (placed len t line) line
-        → drawn_of now (wanting want (len + length t)) ≡ text_drawn t (drawn_of line (wanting want len))
-    unfolding drawn_of judged_of text_drawn
-    text-put now space h g n p =
-        let s = text-short t g in
-        rw (le-leb (len + 77) 640 h, g, not-empty t (omega arith), p, le-leb (len + length t) (length line) (omega arith))
-
-    pub text-slash : (now : Bytes) → length line ≡ 640 → len + 77 ≤ 640 → good_text t ≡ true → length t ≡ 0 → now ≡ set line len slash
-        → drawn_of now (wanting want (len + 1)) ≡ text_drawn t (drawn_of line (wanting want len))
-    unfolding drawn_of judged_of text_drawn
-    text-slash now space h g e p =
-        let q : now ≡ placed len (slash ∷ []) line = p ∙ set_split line len slash (omega arith) ∙ rw add-one in
-        rw (le-leb (len + 77) 640 h, g, none-empty t e, q)
-
 -- a refused draft stays
-module _ (line : Bytes) (d : Draft) (n : ℕ) (e : d.taken ≡ Refused n) where
-  pub refused-stays : (f : Bytes) (mark : ℕ) → drawn_of line d ≡ field_drawn f mark (drawn_of line d)
+module _ (d : Draft) where
+  pub refused-stays : (why : Reason) → d.taken ≡ Err why → (f : Bytes) (mark : ℕ) → drawn_of d ≡ field_drawn f mark (drawn_of d)
   unfolding drawn_of judged_of field_drawn
-  refused-stays f mark = rw e
+  refused-stays why e f mark = rw e
 
-  pub refused-text : (t : Bytes) → drawn_of line d ≡ text_drawn t (drawn_of line d)
+  pub refused-text : is_err d.taken ≡ true → (t : Bytes) → drawn_of d ≡ text_drawn t (drawn_of d)
   unfolding drawn_of judged_of text_drawn
-  refused-text t = rw e
+  refused-text bad t = by-taken d.taken refl bad
+    where
+      by-taken : (r : Result Want Reason) → d.taken ≡ r → is_err r ≡ true → drawn_of d ≡ text_drawn t (drawn_of d)
+      by-taken (Ok want) e h = absurd (false≢true h)
+      by-taken (Err why) e h = rw e
 
--- what is wanted says what a draft says
-pub wanted-is : (line : Bytes) (d : Draft) (want : Want) → d.taken ≡ Next want → drawn_of line d ≡ drawn_of line (wanting want d.len)
-unfolding drawn_of
-wanted-is line d want e = rw e
+-- a field is refused, or it is put with its mark and judged
+module _ (d : Draft) (want : Want) (is : d.taken ≡ Ok want) where
+  pub field-refused : (f : Bytes) (mark : ℕ) {now : Drawn} → now ≡ refused_in d.line → (room_after d.len && (clean f && leb (length f) 76)) ≡ false → now ≡ field_drawn f mark (drawn_of d)
+  unfolding drawn_of judged_of field_drawn
+  field-refused f mark e bad = rw (is, bad) e
+
+  module _ (size : length d.line ≡ 640) (room : room_after d.len ≡ true) where
+    pub field-put : (f : Bytes) (mark : ℕ) (t : Result Want Reason) {put : Bytes} → length f ≤ 76 → clean f ≡ true → judged_of t ≡ take_next (wanted_of want) f
+        → put ≡ cond (leb (d.len + length f) (length d.line)) (placed d.len f d.line) d.line
+        → drawn_of (record { line = set put (d.len + length f) mark; len = d.len + (length f + 1); taken = t }) ≡ field_drawn f mark (drawn_of d)
+    unfolding drawn_of judged_of field_drawn
+    field-put f mark t {put} s c j p =
+        let l = leb-true (d.len + 77) 640 room in
+        let one = length-append f (mark ∷ []) in
+        let p' : put ≡ placed d.len f d.line = rw (le-leb (d.len + length f) (length d.line) (omega arith)) at p in
+        let e : set put (d.len + length f) mark ≡ placed d.len (f ++ (mark ∷ [])) d.line = ap (λ (bs : Bytes). set bs (d.len + length f) mark) p' ∙ placed-more d.len f d.line mark (omega arith) in
+        rw (is, room, c, le-leb (length f) 76 s, j, e, one)
+
+-- a text likewise; an empty one is put as a slash
+module _ (d : Draft) where
+  text-said : (t : Bytes) → is_err d.taken ≡ false
+      → text_drawn t (drawn_of d) ≡ bytes_drawn (room_after d.len && good_text t) (cond (is_empty t) (slash ∷ []) t) (judged_of d.taken) (drawn_of d)
+  unfolding drawn_of judged_of text_drawn
+  text-said t ok = by-taken d.taken refl ok
+    where
+      by-taken : (r : Result Want Reason) → d.taken ≡ r → is_err r ≡ false
+          → text_drawn t (drawn_of d) ≡ bytes_drawn (room_after d.len && good_text t) (cond (is_empty t) (slash ∷ []) t) (judged_of d.taken) (drawn_of d)
+      by-taken (Ok want) e h = rw e
+      by-taken (Err why) e h = absurd (false≢true (sym h))
+
+  module _ (ok : is_err d.taken ≡ false) where
+    pub text-refused : (t : Bytes) {now : Drawn} → now ≡ refused_in d.line → (room_after d.len && good_text t) ≡ false → now ≡ text_drawn t (drawn_of d)
+    unfolding drawn_of
+    text-refused t e bad = rw (text-said t ok, bad) e
+
+    pub text-put : (t bytes : Bytes) {put : Bytes} → length d.line ≡ 640 → room_after d.len ≡ true → good_text t ≡ true → bytes ≡ cond (eqb (length t) 0) (slash ∷ []) t
+        → put ≡ cond (leb (d.len + length bytes) (length d.line)) (placed d.len bytes d.line) d.line
+        → drawn_of (record { line = put; len = d.len + length bytes; taken = d.taken }) ≡ text_drawn t (drawn_of d)
+    unfolding drawn_of
+    text-put t bytes {put} size room g b p =
+        let l = leb-true (d.len + 77) 640 room in
+        let s = text-short t g in
+        let short : length bytes ≤ 77 = rw b (by-empty (known (eqb (length t) 0)) s) in
+        let p' : put ≡ placed d.len bytes d.line = rw (le-leb (d.len + length bytes) (length d.line) (omega arith)) at p in
+        rw (text-said t ok, room, g, empty-is t, p', b)
+      where
+        by-empty : Known (eqb (length t) 0) → length t ≤ 76 → length (cond (eqb (length t) 0) (slash ∷ []) t) ≤ 77
+        by-empty (holds e) h = rw e (omega arith)
+        by-empty (fails e) h = rw e (omega arith)
 
 -- a code in front
-module _ (line : Bytes) (c : Code) (want : Want) where
-  pub begin-put : (bytes now : Bytes) → length line ≡ 640 → bytes ≡ code_bytes c
-      → now ≡ cond (leb (0 + length (take 3 bytes)) (length line)) (placed 0 (take 3 bytes) line) line → drawn_of now (wanting want 3) ≡ code_drawn c (wanted_of want) line
-  unfolding drawn_of judged_of
-  begin-put bytes now h b p =
-      let n = (code-bytes c).size in
-      let all : take 3 bytes ≡ code_bytes c = rw b (take_all 3 (code_bytes c) (omega arith)) in
-      rw (p, all, le-leb (0 + length (code_bytes c)) (length line) (omega arith))
+pub begin-put : (c : Code) (want : Want) (bytes : Bytes) {put : Bytes} → bytes ≡ code_bytes c → put ≡ cond (leb (0 + length bytes) (length new_space)) (placed 0 bytes new_space) new_space
+    → drawn_of (record { line = put; len = 3; taken = Ok want }) ≡ code_drawn c (wanted_of want)
+unfolding drawn_of judged_of
+begin-put c want bytes b p =
+    let n = (code-bytes c).size in
+    let size : length new_space ≡ 640 = length-replicate {A = ℕ} 640 0 in
+    rw (p, b, le-leb (0 + length (code_bytes c)) (length new_space) (omega arith))
 
 -- ---- numbers put in a space of their own
 
 module _ {bs before : Bytes} {r : ℕ} {after : Bytes} (p : Put bs before r after) where
-  pub number-bytes : length bs ≤ length before → take (r - 0) (drop 0 after) ≡ bs
-  number-bytes h = let z : length bs - 0 ≡ length bs = omega arith in rw (put-bytes p h, put_count p h, z) (take-append_seam bs (drop (length bs) before))
+  pub number-bytes : length bs ≤ length before → take r after ≡ bs
+  number-bytes h = rw (put-bytes p h, put_count p h) (take-append_seam bs (drop (length bs) before))
 
 pub decimal-short : (n : ℕ) → n < 18_446_744_073_709_551_616 → length (decimal n) ≤ 20
 decimal-short n h = decimal-at-most 20 n (omega arith) (omega arith)

@@ -1,7 +1,8 @@
 -- A line in the making: the kinds wanted next and the bytes so far, or a refusal. The drafts stand for parts of `write_line` (rules/specs/Writer.antt):
 -- the fields for `kinds_after` and `with_commas`, joined by `chain-is` (proofs/FieldChains.antt); the text for `good_text_or_none` and `line_rest`, joined by
 -- `with-text` (write_calls/proofs/CallLaws.antt). Assumes nothing.
-use Rattle.std.specs.Prelude.{ℕ, ◌+◌, cond, ◌&&◌, List, [], ◌∷◌, ◌++◌, leb, length, take}
+use Rattle.std.specs.Prelude as prelude
+use Rattle.std.specs.Prelude.{ℕ, ◌+◌, cond, ◌&&◌, List, [], ◌∷◌, ◌++◌, leb, length, take, Some, None}
 use Rattle.std.proofs.Math.Option.{Option, none, some}
 use Rattle.rules.specs.Bytes.{Bytes, comma, slash, is_empty, clean}
 use Rattle.rules.specs.Numbers.{Signed}
@@ -11,27 +12,19 @@ use Rattle.rules.specs.Lines.{Code, code_bytes}
 use Rattle.rules.specs.Grammar.{Kind, take_next}
 use Rattle.rules.specs.Writer.{or_twenty, good_text}
 use Rattle.base_quantities.specs.QuantityMeanings.{signed_meant}
+use Rattle.base_quantities.specs.declared.Signed as given
 use Rattle.read_wanted.specs.TakenMeaning.{judged_of}
-use Rattle.read_wanted.specs.declared.Taken.TheVariants.{Next}
-use Rattle.read_wanted.specs.declared.want.Want.{Want}
 use Rattle.write_line.specs.declared.Draft.{Draft}
-use Rattle.write_line.specs.declared.MaybeAmount.{MaybeAmount}
-use Rattle.write_line.specs.declared.MaybeAmount.TheVariants as amounts
-use Rattle.write_line.specs.declared.MaybeItems.{MaybeItems}
-use Rattle.write_line.specs.declared.MaybeItems.TheVariants as counts
+use Rattle.write_line.specs.declared.Items.{Items}
 
 -- the kinds wanted next, and the bytes so far
 pub record Sofar : Type 0 where
   pub kinds : List Kind
   pub bytes : Bytes
 
--- what a draft says of the space that holds its line
-unfoldable pub draft_of : Bytes → Draft → Outcome Sofar
-draft_of line d = or_twenty (judged_of d.taken) >>= λ ks. fine (record { kinds = ks; bytes = take d.len line })
-
--- a draft of so many bytes that wants this next
-abbrev pub wanting : Want → ℕ → Draft
-wanting want len = record { taken = Next want; len = len }
+-- what a draft says of the line in its space
+unfoldable pub draft_of : Draft → Outcome Sofar
+draft_of d = or_twenty (judged_of d.taken) >>= λ ks. fine (record { kinds = ks; bytes = take d.len d.line })
 
 -- the bytes of the space in which a line is drafted
 abbrev pub line_space : ℕ
@@ -73,10 +66,10 @@ unfoldable pub text_added : Bytes → Outcome Sofar → Outcome Sofar
 text_added t o = o >>= λ x. with_text t x
 
 -- an amount or none; a number or none
-abbrev pub amount_given : MaybeAmount → Option Signed
-amount_given (amounts.Given a) = some (signed_meant a)
-amount_given amounts.NoAmount = none
+abbrev pub amount_given : prelude.Option given.Signed → Option Signed
+amount_given (Some a) = some (signed_meant a)
+amount_given None = none
 
-abbrev pub items_given : MaybeItems → Option ℕ
-items_given (counts.Given n) = some n.0
-items_given counts.NoItems = none
+abbrev pub items_given : prelude.Option Items → Option ℕ
+items_given (Some n) = some n.0
+items_given None = none

@@ -1,6 +1,6 @@
 -- A draft with all bytes of its space: what each step answers and what the space then holds, for every draft. Of this the rules need what
 -- `draft_of` says (DraftMeaning.antt): joined by `begun-said`, `field-said` and `text-said` (proofs/DrawnLaws.antt). Assumes nothing.
-use Rattle.std.specs.Prelude.{ℕ, ◌+◌, Bool, cond, ◌&&◌, List, [], ◌∷◌, ◌++◌, leb, length}
+use Rattle.std.specs.Prelude.{ℕ, ◌+◌, Bool, cond, ◌&&◌, List, [], ◌∷◌, ◌++◌, leb, length, replicate}
 use Rattle.rules.specs.Bytes.{Bytes, comma, slash, is_empty, clean}
 use Rattle.rules.specs.Limits.{longest_name}
 use Rattle.rules.specs.Lines.{Code, code_bytes}
@@ -17,12 +17,16 @@ pub record Drawn : Type 0 where
   pub space : Bytes
 
 -- a draft and its space
-unfoldable pub drawn_of : Bytes → Draft → Drawn
-drawn_of space d = record { judged = judged_of d.taken; len = d.len; space = space }
+unfoldable pub drawn_of : Draft → Drawn
+drawn_of d = record { judged = judged_of d.taken; len = d.len; space = d.line }
+
+-- the space before a line is drafted
+abbrev pub new_space : Bytes
+new_space = replicate line_space 0
 
 -- with a code, these kinds wanted after it
-abbrev pub code_drawn : Code → List Kind → Bytes → Drawn
-code_drawn c ks space = record { judged = good ks; len = 3; space = placed 0 (code_bytes c) space }
+abbrev pub code_drawn : Code → List Kind → Drawn
+code_drawn c ks = record { judged = good ks; len = 3; space = placed 0 (code_bytes c) new_space }
 
 -- refused by 20, with no bytes; the space stays
 abbrev pub refused_in : Bytes → Drawn

@@ -2,7 +2,6 @@
 use mathlib.Core.Path.{◌≡◌, ap, ◌∙◌}
 use mathlib.Core.List.{List}
 use Prim.Native.Nat.{ℕ}
-use lib.ListN.{length}
 use Rattle.rules.specs.Bytes.{Bytes}
 use Rattle.rules.specs.Lines.{Code}
 use Rattle.rules.specs.Grammar.{Kind}
@@ -12,16 +11,15 @@ use Rattle.write_line.specs.declared.Draft.{Draft}
 use Rattle.write_line.proofs.DrawnLaws.{said, said-is, begun-said, begun-size, all_said, all-size, text-said}
 use Rattle.write_records.specs.RecordLines.{line_in, line_drawn}
 
-module _ (c : Code) (ks : List Kind) (fs : List Bytes) (last : ℕ) (space : Bytes) (size : length space ≡ 640) where
-  fields-said : said (line_drawn c ks fs last space) ≡ line_in c ks fs last
-  fields-said = all_said last fs (code_drawn c ks space) (begun-size c ks space size) ∙ ap (added_all fs last) (begun-said c ks space size)
+module _ (c : Code) (ks : List Kind) (fs : List Bytes) (last : ℕ) where
+  fields-said : said (line_drawn c ks fs last) ≡ line_in c ks fs last
+  fields-said = all_said last fs (code_drawn c ks) (begun-size c ks) ∙ ap (added_all fs last) (begun-said c ks)
 
-  module _ (now : Bytes) (d : Draft) where
-    pub line-said : drawn_of now d ≡ line_drawn c ks fs last space → draft_of now d ≡ line_in c ks fs last
-    line-said e = said-is now d ∙ ap said e ∙ fields-said
+  module _ (d : Draft) where
+    pub line-said : drawn_of d ≡ line_drawn c ks fs last → draft_of d ≡ line_in c ks fs last
+    line-said e = said-is d ∙ ap said e ∙ fields-said
 
     -- with a text
-    pub line-text-said : (t : Bytes) → drawn_of now d ≡ text_drawn t (line_drawn c ks fs last space) → draft_of now d ≡ text_added t (line_in c ks fs last)
+    pub line-text-said : (t : Bytes) → drawn_of d ≡ text_drawn t (line_drawn c ks fs last) → draft_of d ≡ text_added t (line_in c ks fs last)
     line-text-said t e =
-        said-is now d ∙ ap said e ∙ text-said (line_drawn c ks fs last space) (all-size last fs (code_drawn c ks space) (begun-size c ks space size)) t
-        ∙ ap (text_added t) fields-said
+        said-is d ∙ ap said e ∙ text-said (line_drawn c ks fs last) (all-size last fs (code_drawn c ks) (begun-size c ks)) t ∙ ap (text_added t) fields-said

@@ -12,6 +12,6 @@ use Rattle.write_line.specs.DrawnLine.{Drawn, code_drawn, all_drawn}
 abbrev pub line_in : Code → List Kind → List Bytes → ℕ → Outcome Sofar
 line_in c ks fs last = added_all fs last (begun c ks)
 
--- the same with all bytes of its space, which held these before: joined by `line-said` (proofs/LinesSaid.antt)
-abbrev pub line_drawn : Code → List Kind → List Bytes → ℕ → Bytes → Drawn
-line_drawn c ks fs last space = all_drawn fs last (code_drawn c ks space)
+-- the same with all bytes of its space: joined by `line-said` (proofs/LinesSaid.antt)
+abbrev pub line_drawn : Code → List Kind → List Bytes → ℕ → Drawn
+line_drawn c ks fs last = all_drawn fs last (code_drawn c ks)

@@ -1,7 +1,10 @@
 -- The states and answers of the code as those of the rules. Assumes nothing.
+use Rattle.std.specs.Prelude.{Result, Ok, Err}
 use Rattle.rules.specs.Bytes.{Bytes}
+use Rattle.rules.specs.Outcome.{not_refused}
 use Rattle.rules.specs.Writer as rules
 use Rattle.base_refusals.specs.RefusalMeaning.{refusal_meant}
+use Rattle.base_refusals.specs.declared.Refusal.{Refusal}
 use Rattle.base_totals.specs.SummaryMeaning.{summary_meant}
 use Rattle.write_state.specs.declared.Phase.{Phase}
 use Rattle.write_state.specs.declared.Phase.TheVariants as phases
@@ -27,6 +30,7 @@ writer_meant w =
       account = summary_meant w.account;
     }
 
--- an answer with the output slice as it is then
-abbrev pub written_meant : Written → Bytes → rules.Written
-written_meant r out = record { refusal = refusal_meant r.refusal; len = r.length; writer = writer_meant r.writer; output = out }
+-- an answer to a call on this state, with the output slice as it is then: where it is refused, the state stays, and there is no length
+abbrev pub written_meant : Writer → Result Written Refusal → Bytes → rules.Written
+written_meant w (Ok r) out = record { refusal = not_refused; len = r.length; writer = writer_meant r.writer; output = out }
+written_meant w (Err why) out = record { refusal = refusal_meant why; len = 0; writer = writer_meant w; output = out }

@@ -15,19 +15,18 @@ ghost use Rattle.write_state.specs.WriterMeaning.{phase_meant, writer_meant};
 use base_codes::Code;
 use base_limits::{LONGEST_FILE, MOST};
 use base_quantities::{Magnitude, Place, Units};
-use base_refusals::Refusal;
 use base_totals::Summary;
 use read_order::Expected;
 
-// What was written last: nothing; 01 or 98; 02; 03, 88 or 16; 49; 99.
+// What was written last: nothing; 01 or 98; 02; 03, 88 or 16; 49; 99. The numbers are those of include/bai2.h.
 #[derive(Clone, Copy)]
 pub enum Phase {
-    Fresh,
-    BetweenGroups,
-    InGroup,
-    InAccount,
-    BetweenAccounts,
-    Finished,
+    Fresh = 0,
+    BetweenGroups = 1,
+    InGroup = 2,
+    InAccount = 3,
+    BetweenAccounts = 4,
+    Finished = 5,
 }
 
 // items: a further item may come; size: the place after the bytes so far.
@@ -41,10 +40,9 @@ pub struct Writer {
     pub account: Summary,
 }
 
-// What a call answers: its refusal, number 0 and place 0 where it was accepted; the length of all bytes so far, 0 where refused; and the state after it.
+// What an accepted call answers: the length of all bytes so far, and the state after it.
 #[derive(Clone, Copy)]
 pub struct Written {
-    pub refusal: Refusal,
     pub length: usize,
     pub writer: Writer,
 }
@@ -73,62 +71,30 @@ fn counts_within(s: Summary, size: Place) -> bool
     ensures { result ≡ counted size.0 (summary_meant s) }
 {
     let n = size.0 as u64;
-    let groups = s.groups;
-    let accounts = s.accounts;
-    let details = s.details;
-    let records = s.records;
-    if n < groups.0 {
-        return false;
-    }
-    if n < accounts.0 {
-        return false;
-    }
-    if n < details.0 {
-        return false;
-    }
-    records.0 <= n
+    s.groups.0 <= n && s.accounts.0 <= n && s.details.0 <= n && s.records.0 <= n
 }
 
 // The magnitudes of a sum add up to at most this one.
 fn sum_within(u: Units, most: Magnitude) -> bool
     ensures { result ≡ leb (magnitudes (sum_meant u)) most.0 }
 {
-    let n = most.0;
-    if n < u.0 {
-        return false;
-    }
-    u.1 <= n - u.0
+    u.0 <= most.0 && u.1 <= most.0 - u.0
 }
 
 // The state's numbers are ones that calls can have made.
+#[tactic(auto, unfolding(rules::specs::Writer::sound))]
 pub fn is_sound(w: Writer) -> bool
     ensures { result ≡ sound (writer_meant w) }
 {
-    let size = w.size;
-    let f = w.file;
-    let g = w.group;
-    let a = w.account;
-    if LONGEST_FILE < size.0 {
-        return false;
-    }
-    if !sum_within(f.total, Magnitude(MOST)) {
-        return false;
-    }
-    let sum = f.total;
-    let m = sum.0 + sum.1;
-    if !sum_within(g.total, Magnitude(m)) {
-        return false;
-    }
-    if !sum_within(a.total, Magnitude(m)) {
-        return false;
-    }
-    if !counts_within(f, size) {
-        return false;
-    }
-    if !counts_within(g, size) {
-        return false;
-    }
-    counts_within(a, size)
+    let (file, group, account) = (w.file, w.group, w.account);
+    let sum = file.total;
+    w.size.0 <= LONGEST_FILE
+        && sum_within(sum, Magnitude(MOST))
+        && sum_within(group.total, Magnitude(sum.0 + sum.1))
+        && sum_within(account.total, Magnitude(sum.0 + sum.1))
+        && counts_within(file, w.size)
+        && counts_within(group, w.size)
+        && counts_within(account, w.size)
 }
 
 // ---- turns
@@ -152,13 +118,10 @@ pub fn in_turn(code: Code, phase: Phase, items: bool) -> bool
     ensures { result ≡ in_turn (code_meant code) (phase_meant phase) items }
 {
     let expected = expected_in(phase);
-    if !base_codes::same_code(code, Code::Continuation) {
-        return read_order::allows(expected, code);
+    if code == Code::Continuation {
+        return items && read_order::allows(expected, Code::Detail);
     }
-    if !items {
-        return false;
-    }
-    read_order::allows(expected, Code::Detail)
+    read_order::allows(expected, code)
 }
 
 // The phase after a line of this code.
@@ -166,13 +129,10 @@ pub fn phase_after(code: Code) -> Phase
     ensures { phase_meant result ≡ phase_after (code_meant code) }
 {
     match code {
-        Code::FileHeader => Phase::BetweenGroups,
+        Code::FileHeader | Code::GroupTrailer => Phase::BetweenGroups,
         Code::GroupHeader => Phase::InGroup,
-        Code::AccountHeader => Phase::InAccount,
-        Code::Detail => Phase::InAccount,
+        Code::AccountHeader | Code::Detail | Code::Continuation => Phase::InAccount,
         Code::AccountTrailer => Phase::BetweenAccounts,
-        Code::GroupTrailer => Phase::BetweenGroups,
         Code::FileTrailer => Phase::Finished,
-        Code::Continuation => Phase::InAccount,
     }
 }

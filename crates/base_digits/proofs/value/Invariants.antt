@@ -1,10 +1,8 @@
--- What the loop of `value` keeps: i digits are read, the zeros that were passed among them, and v is their value.
-use Rattle.std.proofs.Common.{length, ◌-◌, ◌≤◌}
+-- What the loop of `value` keeps: v is the value of the digits so far; and the number less zeros in front, over which it goes, has the value of the whole. Assumes nothing.
+use Rattle.std.proofs.Common.{◌≡◌, length, ◌≤◌}
+use Rattle.base_digits.specs.NumbersRead.{value_of}
 use Rattle.base_digits.proofs.ReadingLaws.{Reading}
 use Rattle.base_digits.proofs.value.Given as goal
 
-abbrev pub invariant-loop-i : goal.invariant-loop-i
-invariant-loop-i l = Reading l.s l.i l.v × length l.s ≤ 18
-
-abbrev pub decreases-loop-i : goal.decreases-loop-i
-decreases-loop-i l = length l.s - l.i
+abbrev pub invariant-loop-b : goal.invariant-loop-b
+invariant-loop-b l = Reading l.b-items l.b-index l.v × (value_of l.b-items ≡ value_of l.s) × length l.b-items ≤ 18

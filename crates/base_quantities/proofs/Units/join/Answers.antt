@@ -1,19 +1,19 @@
--- `Units::join` meets its contract. Assumes nothing.
-use Rattle.std.proofs.Common.{arith}
+-- The goals of `Units::join`. Assumes nothing.
+use Rattle.std.proofs.Common.{◌∙◌, arith}
 use Rattle.base_quantities.proofs.UnitsLaws.{sum-within, sum-beyond}
 use Rattle.base_quantities.proofs.Units.join.Goals as goal
 
-pub returns-then-pluses-gt-MOST : goal.returns-then-pluses-gt-MOST
-returns-then-pluses-gt-MOST c = sum-beyond _ (omega arith)
+pub returns-in_err-pluses : goal.returns-in_err-pluses
+returns-in_err-pluses c = c.from_residual.ensures ∙ sum-beyond _ (omega (arith, c.in_err-pluses.ensures))
 
-pub returns-then-pluses-minuses : goal.returns-then-pluses-minuses
-returns-then-pluses-minuses c = sum-beyond _ (omega arith)
+pub returns-in_err-minuses : goal.returns-in_err-minuses
+returns-in_err-minuses c = c.from_residual-in_err-minuses.ensures ∙ sum-beyond _ (omega (arith, c.in_err-minuses.ensures))
 
-pub returns-then-room-other : goal.returns-then-room-other
-returns-then-room-other c = sum-beyond _ (omega arith)
+pub returns-in_err-checked_add : goal.returns-in_err-checked_add
+returns-in_err-checked_add c = c.from_residual-in_err-checked_add.ensures ∙ sum-beyond _ (omega (arith, c.in_err-checked_add.ensures))
 
-pub returns-then-room-other-2 : goal.returns-then-room-other-2
-returns-then-room-other-2 c = sum-beyond _ (omega arith)
+pub returns-then-branch-gt-MOST : goal.returns-then-branch-gt-MOST
+returns-then-branch-gt-MOST c = sum-beyond _ (omega arith)
 
 pub returns : goal.returns
 returns c = sum-within _ _ (omega arith) (omega arith) (omega arith)

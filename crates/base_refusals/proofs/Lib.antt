@@ -1,0 +1,2 @@
+-- Reasons and refusals had back from their meanings.
+pub mod RefusalsBack

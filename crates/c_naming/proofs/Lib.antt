@@ -1,2 +1,0 @@
--- Laws that belong to no one call.
-pub mod CodeFigures

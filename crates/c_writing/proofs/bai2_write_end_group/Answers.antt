@@ -1,0 +1,9 @@
+-- Answers for `bai2_write_end_group`: what the writer answers, in numbers. Assumes nothing.
+use Rattle.rules.specs.Writer as rules
+use Rattle.c_writing.proofs.WriterReplies.{replies}
+use Rattle.c_writing.proofs.bai2_write_end_group.Goals as goal
+
+pub returns : goal.returns
+returns c =
+    replies c.args.writer c.state_of-w.result c.end_group-r.result c.answered.result (rules.end_group) c.args.out.now c.end_group-r.new.out c.state_of-w.ensures c.end_group-r.ensures
+    c.answered.ensures

@@ -1,2 +1,0 @@
--- Laws of judging fields.
-mod FieldArms

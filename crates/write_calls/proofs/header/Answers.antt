@@ -1,0 +1,8 @@
+-- Answers for `header`: its drafted line is committed as the rules say. Assumes nothing.
+use Rattle.std.proofs.Common.{◌∙◌}
+use Rattle.write_state.specs.WriterMeaning.{writer_meant}
+use Rattle.write_calls.proofs.CallLaws.{header-written}
+use Rattle.write_calls.proofs.header.Goals as goal
+
+pub returns : goal.returns
+returns c = c.commit.ensures ∙ header-written (writer_meant c.args.w) c.args.out.now _ _ _ _ _ _ _ c.none.ensures c.draft-line.ensures

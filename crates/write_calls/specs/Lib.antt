@@ -1,2 +1,0 @@
--- What the calls are given, in the rules' terms.
-pub mod ItemMeaning

@@ -1,2 +1,0 @@
--- Facts that the proofs of the functions hand over.
-pub mod WriterLaws
