@@ -1,15 +1,27 @@
 -- A result written part by part: each call is lent the rest of the slice. Assumes nothing.
-use Prim.Native.Nat.{ℕ, ◌+◌, ◌-◌, ◌≤◌}
+use Prim.Native.Nat.{ℕ, ◌+◌, ◌-◌, ◌≤◌, ◌<◌}
+use native.Mathlib.Nat.{zero-add}
+use native.Mathlib.Numerals.{add-one}
 use native.Mathlib.Omega.{arith}
 use mathlib.Core.Path.{◌≡◌, refl, sym, ap, subst, ◌∙◌}
-use mathlib.Core.List.{[], ◌++◌, append_assoc, append-nil}
+use mathlib.Core.List.{List, [], ◌++◌, append_assoc, append-nil}
 use borrow.Rule.Slice.PartMut.{mid_of, put_mid}
-use lib.ListN.{length, take, drop, length-append, length-drop, take-append-drop}
-use lib.Seq.{take-append_seam, drop-append_seam, length-take-le, drop-drop}
+use lib.ListN.{length, get_or, take, drop, set, length-append, length-drop, take-append-drop}
+use lib.Seq.{paste, paste-suc, take-length, take-append_seam, drop-append_seam, length-take-le, drop-drop}
 use Rattle.rules.specs.Bytes.{Bytes}
 use Rattle.base_numerals.specs.PutBytes.{Put}
 use Rattle.base_numerals.proofs.PutLaws.{put-fits, put_count, put-bytes, rest-is, rest_back}
 use Rattle.base_slices.specs.WroteBytes.{Wrote}
+
+-- ---- one turn of the loop that copies
+
+module _ {A : Type 0} (before src out : List A) (i : ℕ) where
+  pub put-turn : (d : A) → i < length before → i < length src → out ≡ paste before 0 src i → set out i (get_or src i d) ≡ paste before 0 src (i + 1)
+  put-turn d h k e =
+      ap (λ (n : ℕ). set out n (get_or src i d)) (sym (zero-add i)) ∙ rw (e, add-one) (paste-suc before 0 src i d (omega arith) k)
+
+  pub put_all : length src ≤ length before → i ≡ length src → out ≡ paste before 0 src i → Put src before i out
+  put_all h n e = put-fits src before i out h n (e ∙ rw (n, take-length, zero-add))
 
 -- ---- part by part
 

@@ -55,6 +55,8 @@ pub fn put<T: Copy>(out: &mut [T], src: &[T]) -> usize
     if out.len() < src.len() {
         return 0;
     }
-    out[..src.len()].copy_from_slice(src);
+    for i in 0..src.len() {
+        out[i] = src[i];
+    }
     src.len()
 }
