@@ -4,7 +4,7 @@ use native.Mathlib.Nat.{add-zero}
 use native.Mathlib.Numerals.{add-one}
 use native.Mathlib.Omega.{arith}
 use mathlib.Core.Path.{◌≡◌, refl, sym, ap, subst, ◌∙◌}
-use mathlib.Core.Bool.{Bool, true, false, cond}
+use mathlib.Core.Bool.{Bool, true, false, cond, ◌&&◌}
 use mathlib.Core.List.{List, [], ◌∷◌, append-nil}
 use lib.Dec.{eqb}
 use lib.ListN.{length, take, drop, get_or, length-append, drop_of_length-le}
@@ -21,6 +21,11 @@ use Rattle.find_lines.specs.LinesOfCode.{begins_either, line_ends, ahead_len, Qu
 
 -- ---- byte by byte
 
+-- of two that both hold, the second
+line-begun : (t u : Bool) → (t && u) ≡ true → u ≡ true
+line-begun true u e = e
+line-begun false u e = let z : false ≡ true = e in cc
+
 module _ (x y s : Bytes) (i : ℕ) where
   pub ahead_none : length s ≤ i → i + ahead_len x y (drop i s) ≡ i
   unfolding ahead_len
@@ -30,6 +35,9 @@ module _ (x y s : Bytes) (i : ℕ) where
     pub ahead-stop : line_ends x y (get_or s i 0) (drop (suc i) s) ≡ true → i + ahead_len x y (drop i s) ≡ i + 1
     unfolding ahead_len
     ahead-stop e = rw (drop-cons s i 0 h, e)
+
+    pub begins-after : line_ends x y (get_or s i 0) (drop (suc i) s) ≡ true → begins_either x y (drop (i + 1) s) ≡ true
+    begins-after e = rw add-one (line-begun (eqb (get_or s i 0) LF) _ e)
 
     pub ahead_step : line_ends x y (get_or s i 0) (drop (suc i) s) ≡ false → i + ahead_len x y (drop i s) ≡ (i + 1) + ahead_len x y (drop (i + 1) s)
     unfolding ahead_len

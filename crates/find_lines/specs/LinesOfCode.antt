@@ -1,5 +1,5 @@
 -- Lines of two codes: where the next one starts, in bytes as the code meets them, and in lines. Assumes nothing.
-use Rattle.std.specs.Prelude.{ℕ, suc, ◌+◌, ◌≤◌, ◌<◌, ◌≡◌, Bool, false, cond, ◌&&◌, ◌||◌, List, [], ◌∷◌, eqb, take, drop, get_or, Option, Some, None}
+use Rattle.std.specs.Prelude.{ℕ, suc, ◌+◌, ◌≤◌, ◌<◌, ◌≡◌, Bool, true, false, cond, ◌&&◌, ◌||◌, List, [], ◌∷◌, eqb, take, drop, get_or, Option, Some, None}
 use Rattle.base_quantities.specs.declared.Place.{Place}
 use Rattle.rules.specs.Bytes.{Bytes, LF, same_bytes}
 use Rattle.rules.specs.Lines.{Line, size_of, Code, begins}
@@ -31,10 +31,10 @@ NoEnd s a n = (k : ℕ) → k < n → LF < get_or s (a + k) 0
 abbrev pub may_begin : ℕ → ℕ → ℕ → ℕ → Bool
 may_begin x y a b = eqb a LF && (eqb x b || eqb y b)
 
--- where the first line that begins so starts after one of the bytes from a on and before e; or none does: what `ahead_len` is then (proofs/LineSearch.antt)
+-- where the first line that begins so starts after one of the bytes from a on and before e, and that one does start there; or none does: what `ahead_len` is then (proofs/LineSearch.antt)
 abbrev pub NextBetween : Bytes → Bytes → Bytes → ℕ → ℕ → Option Place → Type 0
 NextBetween x y s a e None = a + ahead_len x y (drop a s) ≡ e + ahead_len x y (drop e s)
-NextBetween x y s a e (Some p) = (p.0 ≡ a + ahead_len x y (drop a s)) × (p.0 ≤ e)
+NextBetween x y s a e (Some p) = (p.0 ≡ a + ahead_len x y (drop a s)) × (begins_either x y (drop p.0 s) ≡ true) × (p.0 ≤ e)
 
 -- ---- in lines
 

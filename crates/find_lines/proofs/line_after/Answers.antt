@@ -15,7 +15,7 @@ use Rattle.find_lines.proofs.line_after.Goals as goal
 last-line : (x y s : Bytes) (a i : ℕ) (r : Option Place) → a + ahead_len x y (drop a s) ≡ i + ahead_len x y (drop i s) → NextBetween x y s i (length s) r
     → ((unwrap_or r (record { 0 = length s })).0 ≡ a + ahead_len x y (drop a s)) × ((unwrap_or r (record { 0 = length s })).0 ≤ length s)
 last-line x y s a i None e n = (sym (e ∙ n ∙ ahead_none x y s (length s) (omega arith)), omega arith)
-last-line x y s a i (Some p) e n = (n.0 ∙ sym e, n.1)
+last-line x y s a i (Some p) e n = (n.0 ∙ sym e, n.2)
 
 pub loop-i-preserved : goal.loop-i-preserved
 loop-i-preserved c =
