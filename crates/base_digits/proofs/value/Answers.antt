@@ -1,11 +1,12 @@
 -- The goals of `value`. Assumes nothing.
 use Rattle.std.proofs.Common.{◌≡◌, ℕ, zero, suc, ◌+◌, ◌%◌, ◌<◌, ◌≤◌, true, false, [], ◌∷◌, ◌++◌, length, length-drop, take, take_all, Bor, drop, replicate, sym, refl, ap, ◌∙◌, ⊎_elim, zero-le, arith, take-append-drop}
+use native.Mathlib.Nat.{one-le-pow}
 use Rattle.rules.specs.Bytes.{Bytes, all, between}
 use Rattle.rules.specs.Numbers.{is_digit, digits, number}
 use Rattle.base_digits.specs.NumbersRead.{value_of}
 use Rattle.base_digits.proofs.DigitTests.{within, below-or-from, and_left, and_right, below, above, at_least, at_most}
 use Rattle.base_digits.proofs.DigitStrings.{number-zeros, all_append}
-use Rattle.base_digits.proofs.ReadingLaws.{start, turn, bounded, value-long, value-bad, value_read}
+use Rattle.base_digits.proofs.ReadingLaws.{Reading, start, turn, bounded, value-long, value-bad, value_read}
 use Rattle.base_digits.proofs.value.Goals as goal
 use Rattle.base_digits.proofs.value.Goals.{then-s-ge-LONG_NUMBER+else-s-gt-MOST_DIGITS+then-all_between, then-s-ge-LONG_NUMBER+else-s-gt-MOST_DIGITS+else-all_between, else-s-ge-LONG_NUMBER}
 
@@ -27,15 +28,23 @@ unfolding all
 zeros-digits zero = refl
 zeros-digits (suc k) = zeros-digits k
 
--- what is left without them has the value of the whole
-passed : (k : ℕ) (s : Bytes) → k ≤ length s → length s ≤ 18 → all (between 48 48) (take k s) ≡ true → value_of (drop k s) ≡ value_of s
-unfolding value_of digits
-passed k s h g e =
+-- to pass zeros in front is to read them
+passed : (k : ℕ) (s : Bytes) → k ≤ length s → all (between 48 48) (take k s) ≡ true → Reading s k 0
+passed k s h e =
     let cut : replicate k 48 ++ drop k s ≡ s = ap (λ (xs : Bytes). xs ++ drop k s) (sym (zeros-are k s h e)) ∙ take-append-drop k s in
-    let same_number : number (drop k s) ≡ number s = sym (number-zeros k (drop k s)) ∙ ap number cut in
-    let same_digits : all is_digit (drop k s) ≡ all is_digit s = sym (rw (zeros-digits k) at (all_append is_digit (replicate k 48) (drop k s))) ∙ ap (all is_digit) cut in
+    record {
+      inside = h;
+      small = one-le-pow k 10 (omega arith);
+      value = sym (number-zeros k (drop k s)) ∙ ap number cut;
+      digits = sym (rw (zeros-digits k) at (all_append is_digit (replicate k 48) (drop k s))) ∙ ap (all is_digit) cut;
+    }
+
+-- what is left without them has the value of the whole
+left-value : (k : ℕ) (s : Bytes) → length s ≤ 18 → Reading s k 0 → value_of (drop k s) ≡ value_of s
+unfolding value_of digits
+left-value k s g r =
     let few : length (drop k s) ≤ 18 = omega (arith, length-drop k s) in
-    rw (within 0 18 (length (drop k s)) zero-le few, within 0 18 (length s) zero-le g, same_number, same_digits)
+    rw (within 0 18 (length (drop k s)) zero-le few, within 0 18 (length s) zero-le g, r.value, r.digits)
 
 -- ---- one byte, less 48 and wrapped
 
@@ -58,7 +67,7 @@ loop-b-init c =
     elim c.if-s-ge-LONG_NUMBER.branch [
       | then-s-ge-LONG_NUMBER+else-s-gt-MOST_DIGITS+then-all_between w ↦
           let rest-is : c.if-s-ge-LONG_NUMBER.rest.now ≡ drop 8 s = ap (λ (r : Bor Bytes). r.now) w.rest-is ∙ take_all _ (drop 8 s) (omega (arith, length-drop 8 s)) in
-          (start _, rw rest-is (passed 8 s (omega (arith, w.if-s-ge-LONG_NUMBER.true)) w.if-s-gt-MOST_DIGITS.false (sym w.all_between.ensures ∙ w.if-all_between.true)), rw rest-is (omega (arith, length-drop 8 s, w.if-s-gt-MOST_DIGITS.false)))
+          (start _, rw rest-is (left-value 8 s w.if-s-gt-MOST_DIGITS.false (passed 8 s (omega (arith, w.if-s-ge-LONG_NUMBER.true)) (sym w.all_between.ensures ∙ w.if-all_between.true))), rw rest-is (omega (arith, length-drop 8 s, w.if-s-gt-MOST_DIGITS.false)))
       | then-s-ge-LONG_NUMBER+else-s-gt-MOST_DIGITS+else-all_between w ↦ (start _, rw w.rest-is, rw w.rest-is w.if-s-gt-MOST_DIGITS.false)
       | else-s-ge-LONG_NUMBER w ↦ (start _, rw w.rest-is, rw w.rest-is (omega (arith, w.if-s-ge-LONG_NUMBER.false)))
     ]
