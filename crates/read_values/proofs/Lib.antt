@@ -1,2 +1,3 @@
 -- Laws of the tests that the code makes.
 pub mod DateLaws
+pub mod TypeLaws
